@@ -1,0 +1,26 @@
+# `make demo` builds and runs what there is to run; `make check` is all that the gate runs.
+.PHONY: demo check bench install uninstall clean
+
+demo:
+	@scripts/demo
+
+check:
+	@scripts/check
+
+# Speed, side by side with hand-written C in one run.
+bench:
+	@scripts/bench
+
+# The C side: header, archives, pkg-config file and manual page, below DESTDIR.
+PREFIX = /usr/local
+ARCHIVE_DIR = target/staticlib
+into = DESTDIR='$(DESTDIR)' PREFIX='$(PREFIX)' ARCHIVE_DIR='$(ARCHIVE_DIR)'
+
+install:
+	@$(into) scripts/install put
+
+uninstall:
+	@$(into) scripts/install remove
+
+clean:
+	rm -rf target tests/target

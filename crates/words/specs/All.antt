@@ -1,0 +1,15 @@
+-- Laws of `all`, a test of every element. Assumes nothing.
+use mathlib.Core.Path.{_≡_, refl}
+use mathlib.Core.Bool.{Bool, _&&_}
+use mathlib.Core.List.{List, [], _∷_}
+use Rattle.words.specs.Choice.{and-swap}
+use Rattle.words.specs.Lists.{all}
+
+module _ {A : Type 0} where
+  pub all-same : (f g : A → Bool) (xs : List A) → ((x : A) → f x ≡ g x) → all f xs ≡ all g xs
+  all-same f g [] h = refl
+  all-same f g (x ∷ xs) h = rw (h x, all-same f g xs h)
+
+  pub all-and : (f g : A → Bool) (xs : List A) → all (λ x. f x && g x) xs ≡ (all f xs && all g xs)
+  all-and f g [] = refl
+  all-and f g (x ∷ xs) = rw (all-and f g xs) (and-swap (f x) (g x) (all f xs) (all g xs))

@@ -1,0 +1,48 @@
+-- Laws of `same`, over whole lists and from a place on. Assumes nothing.
+use Prim.Native.Nat.{ℕ, zero, suc, _+_, _≤_, _<_}
+use mathlib.Core.Path.{_≡_, refl, sym, ap, ap₂, _∙_}
+use mathlib.Core.Bool.{Bool, true, false, _&&_}
+use mathlib.Core.List.{List, [], _∷_}
+use native.Mathlib.Nat.{suc-inj, suc-ne-zero}
+use native.Mathlib.Numerals.{add-one}
+use native.Mathlib.Omega.{arith}
+use lib.Dec.{eqb}
+use lib.ListN.{length, getD, drop, drop-of-length-le}
+use lib.Seq.{drop-cons}
+use borrow.Author.Tests.{eq-eqb, ne-eqb, eqb-true}
+use Rattle.words.specs.Choice.{and-true}
+use Rattle.words.specs.Lists.{same}
+
+pub same-self : (a : List ℕ) → same a a ≡ true
+same-self [] = refl
+same-self (x ∷ a) = rw (eq-eqb x x refl) (same-self a)
+
+pub same-equal : (a b : List ℕ) → same a b ≡ true → a ≡ b
+same-equal [] [] e = refl
+same-equal [] (y ∷ b) e = cc
+same-equal (x ∷ a) [] e = cc
+same-equal (x ∷ a) (y ∷ b) e =
+    let t = and-true (eqb x y) (same a b) e in
+    ap₂ (λ (u : ℕ) (v : List ℕ). u ∷ v) (eqb-true x y (t .0)) (same-equal a b (t .1))
+
+-- lists of other lengths are not the same
+pub same-long : (a b : List ℕ) → (length a ≡ length b → ⊥) → same a b ≡ false
+same-long [] [] h = absurd (h refl)
+same-long [] (y ∷ b) h = refl
+same-long (x ∷ a) [] h = refl
+same-long (x ∷ a) (y ∷ b) h = rw (same-long a b (λ e. h (ap suc e))) (last (eqb x y))
+  where
+    last : (t : Bool) → (t && false) ≡ false
+    last true = refl
+    last false = refl
+
+-- one turn of a comparison: at equal elements it goes on, at others it is decided, past the end they are the same
+module _ (a b : List ℕ) (i : ℕ) where
+  pub same-more : i < length a → i < length b → getD a i 0 ≡ getD b i 0 → same (drop i a) (drop i b) ≡ same (drop (i + 1) a) (drop (i + 1) b)
+  same-more h k e = rw (add-one i, drop-cons a i 0 h, drop-cons b i 0 k, eq-eqb (getD a i 0) (getD b i 0) e)
+
+  pub same-stop : i < length a → i < length b → (getD a i 0 ≡ getD b i 0 → ⊥) → same (drop i a) (drop i b) ≡ false
+  same-stop h k e = rw (drop-cons a i 0 h, drop-cons b i 0 k, ne-eqb (getD a i 0) (getD b i 0) e)
+
+  pub same-end : length a ≤ i → length b ≤ i → same (drop i a) (drop i b) ≡ true
+  same-end h k = rw (drop-of-length-le a {i = i} h, drop-of-length-le b {i = i} k)
