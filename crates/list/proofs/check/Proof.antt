@@ -1,0 +1,113 @@
+-- `list::check`: a refusal at each test that fails, and the numbers of the list where none does.
+use Prim.Native.Nat.{_≤_}
+use mathlib.Core.Path.{_≡_, sym, _∙_}
+use native.Mathlib.Omega.{arith}
+use borrow.Author.Needs.{needs}
+use Rattle.words.specs.Choice.{not-both}
+use Rattle.list.specs.Changes.{pairCount, pairs, listSize, pairsFit}
+use Rattle.list.specs.Answers.{countedOf}
+use Rattle.list.specs.declared.Counted.the-variants.{Fit}
+use Rattle.list.specs.Reading.{fit-counted, counted-within, unfit-counted}
+use Rattle.list.specs.Checks.{accepted-good, unaccepted-refused}
+use Rattle.list.proofs.check.Statement.{statement}
+use Rattle.list.proofs.check.Tie as tie
+
+abbrev start : tie.After-known-told → tie.Start
+start c = c .before .before .before .before .before .before .before .before
+
+returns : tie.Need-returns
+returns c =
+    let s = c .before .before in
+    sym (unaccepted-refused (s .args .l) (s .args .list .now) (λ a. omega arith))
+
+u16-at-requires : tie.Need-u16-at-requires
+u16-at-requires c κs = search needs
+
+cast-prints-from : tie.Need-cast-prints-from
+cast-prints-from c = search needs
+
+mul-prints-from : tie.Need-mul-prints-from
+mul-prints-from c = search needs
+
+add-prints-from : tie.Need-add-prints-from
+add-prints-from c = search needs
+
+returns-2 : tie.Need-returns-2
+unfolding pairCount listSize
+returns-2 c =
+    let s = c .before .before .before .before in
+    sym (unaccepted-refused (s .args .l) (s .args .list .now) (λ a. omega arith))
+
+cast-count-changes : tie.Need-cast-count-changes
+cast-count-changes c = search needs
+
+count-changes-requires : tie.Need-count-changes-requires
+unfolding pairCount
+count-changes-requires c κs = (c .before .u16-at .ensures, omega arith, omega arith)
+
+enum-known-counted : tie.Need-enum-known-counted
+enum-known-counted c = search needs
+
+enum-told : tie.Need-enum-told
+enum-told c = search needs
+
+returns-3 : tie.Need-returns-3
+returns-3 c =
+    let s = c .before .before .before .before .before .before .before in
+    let u = unfit-counted (s .args .l) (s .args .list .now) (sym (c .before .before .count-changes .ensures) ∙ c .enum-told .given .1) in
+    sym (unaccepted-refused (s .args .l) (s .args .list .now) (λ a. not-both (pairsFit (s .args .l) 0 (pairs (s .args .list .now))) (a .fit) u))
+
+counted : (c : tie.After-known-told) → countedOf (start c .args .l) (start c .args .list .now) ≡ Fit (c .before .counted .given .0 .0)
+counted c = sym (c .before .before .before .count-changes .ensures) ∙ c .before .counted .given .1
+
+within : (c : tie.After-known-told) → c .before .counted .given .0 .0 ≤ 65535
+within c = let s = start c in omega (arith, counted-within (s .args .l) (s .args .list .now) (c .before .counted .given .0 .0) (counted c))
+
+add-if3 : tie.Need-add-if3
+add-if3 c = search needs
+
+mul-if3 : tie.Need-mul-if3
+mul-if3 c = omega (arith, within c)
+
+add-if3-2 : tie.Need-add-if3-2
+add-if3-2 c = omega (arith, within c)
+
+returns-4 : tie.Need-returns-4
+unfolding pairCount listSize
+returns-4 c =
+    let s = start (c .before) in
+    let f = fit-counted (s .args .l) (s .args .list .now) (c .before .before .counted .given .0 .0) (counted (c .before)) in
+    sym (unaccepted-refused (s .args .l) (s .args .list .now) (λ a. omega arith))
+
+cast-t12 : tie.Need-cast-t12
+cast-t12 c = omega (arith, within (c .before))
+
+returns-5 : tie.Need-returns-5
+unfolding pairCount listSize
+returns-5 c =
+    let s = start (c .before) in
+    let f = fit-counted (s .args .l) (s .args .list .now) (c .before .before .counted .given .0 .0) (counted (c .before)) in
+    sym (accepted-good (s .args .l) (s .args .list .now) (c .before .before .before .before .before .before .u16-at .result) (c .before .before .counted .given .0 .0)
+    (record { long = omega arith; fit = f .0; size = omega arith }) (omega arith) (f .1))
+
+pub check-spec : {M : Type 1} → statement M
+check-spec =
+    tie.close
+    (tie.spec
+    returns
+    u16-at-requires
+    cast-prints-from
+    mul-prints-from
+    add-prints-from
+    returns-2
+    cast-count-changes
+    count-changes-requires
+    enum-known-counted
+    enum-told
+    returns-3
+    add-if3
+    mul-if3
+    add-if3-2
+    returns-4
+    cast-t12
+    returns-5)

@@ -1,0 +1,132 @@
+-- `list::count_changes`: the pairs that are left decide as all do, and what was passed ends at `end`.
+use Prim.Native.Nat.{_+_, _-_, _≤_}
+use mathlib.Core.Path.{_≡_, refl, sym, ap, _∙_}
+use native.Mathlib.Omega.{arith}
+use lib.ListN.{drop}
+use Rattle.words.specs.Choice.{failed, passed}
+use Rattle.words.specs.Lists.{sum}
+use Rattle.list.specs.Changes.{pairAt, pairs, lengths, changeCount, pairsFit}
+use Rattle.list.specs.declared.Counted.the-variants.{Fit}
+use Rattle.list.specs.Pairs.{pair-fits}
+use Rattle.list.specs.Reading.{fit-more, fit-stop, count-more, pairs-end, counted-fit, counted-unfit}
+use Rattle.list.proofs.count_changes.Statement.{statement}
+use Rattle.list.proofs.count_changes.Tie as tie
+
+abbrev Inv-loop : tie.InvT-loop
+Inv-loop list e l i₀ end₀ changes₀ i end changes =
+    (i ≤ e)
+    × (changes ≤ end)
+    × (end ≤ l)
+    × (pairsFit l 0 (pairs list) ≡ pairsFit l end (drop i (pairs list)))
+    × (changeCount list ≡ changes + sum (lengths (drop i (pairs list))))
+
+abbrev μ-loop : tie.MeasureT-loop
+μ-loop list e l i₀ end₀ changes₀ i end changes = e - i
+
+loop-holds : tie.Need-loop-holds Inv-loop μ-loop
+unfolding changeCount
+loop-holds c = (omega arith, omega arith, omega arith, refl, omega arith)
+
+mul-u16-at : tie.Need-mul-u16-at Inv-loop μ-loop
+mul-u16-at c = omega arith
+
+add-u16-at : tie.Need-add-u16-at Inv-loop μ-loop
+add-u16-at c = omega arith
+
+u16-at-requires : tie.Need-u16-at-requires Inv-loop μ-loop
+u16-at-requires c κs = omega arith
+
+cast-first : tie.Need-cast-first Inv-loop μ-loop
+cast-first c = omega arith
+
+mul-u16-at-2 : tie.Need-mul-u16-at-2 Inv-loop μ-loop
+mul-u16-at-2 c = omega arith
+
+add-u16-at-2 : tie.Need-add-u16-at-2 Inv-loop μ-loop
+add-u16-at-2 c = omega arith
+
+add-u16-at-3 : tie.Need-add-u16-at-3 Inv-loop μ-loop
+add-u16-at-3 c = omega arith
+
+u16-at-requires-2 : tie.Need-u16-at-requires-2 Inv-loop μ-loop
+u16-at-requires-2 c κs = omega arith
+
+cast-many : tie.Need-cast-many Inv-loop μ-loop
+cast-many c = omega arith
+
+pair-fits-requires : tie.Need-pair-fits-requires Inv-loop μ-loop
+pair-fits-requires c κs = omega arith
+
+returns : tie.Need-returns Inv-loop μ-loop
+unfolding pairAt
+returns c =
+    let s = c .before .before .before .before .before .before .before in
+    let l = c .before .before .before .before .before .loop in
+    let b = s .args .list .now in
+    sym (counted-unfit (s .args .l) b
+    (l .inv .3 ∙ fit-stop b (l .i) (c .before .before .before .u16-at .result) (c .before .before .u16-at2 .result) (omega arith) (omega arith) (omega arith) (s .args .l) (l .end)
+    (failed (c .before .pair-fits .ensures) (c .if1 .taken))))
+
+add-end : tie.Need-add-end Inv-loop μ-loop
+add-end c = omega arith
+
+add-changes : tie.Need-add-changes Inv-loop μ-loop
+add-changes c = omega arith
+
+add-i : tie.Need-add-i Inv-loop μ-loop
+add-i c = omega arith
+
+loop-less : tie.Need-loop-less Inv-loop μ-loop
+loop-less c = omega arith
+
+loop-again : tie.Need-loop-again Inv-loop μ-loop
+unfolding pairAt
+loop-again c =
+    let s = c .before .before .before .before .before .before .before in
+    let l = c .before .before .before .before .before .loop in
+    let b = s .args .list .now in
+    let first = c .before .before .before .u16-at .result in
+    let many = c .before .before .u16-at2 .result in
+    let t = passed (c .before .pair-fits .ensures) (c .if1 .left) in
+    let f = pair-fits (s .args .l) (l .end) first many t in
+    let n = count-more b (l .i) first many (omega arith) (omega arith) (omega arith) in (
+      omega arith,
+      omega arith,
+      omega arith,
+      l .inv .3 ∙ fit-more b (l .i) first many (omega arith) (omega arith) (omega arith) (s .args .l) (l .end) t,
+      omega arith,
+    )
+
+returns-2 : tie.Need-returns-2 Inv-loop μ-loop
+returns-2 c =
+    let s = c .before .before .before in
+    let l = c .before .loop in
+    let b = s .args .list .now in
+    let past = pairs-end b (l .i) (omega arith) in
+    let n : changeCount b ≡ l .changes = l .inv .4 ∙ rw past (omega arith) in
+    sym (counted-fit (s .args .l) b (l .inv .3 ∙ rw past) ∙ ap Fit n)
+
+pub count-changes-spec : {M : Type 1} → statement M
+count-changes-spec =
+    tie.close
+    (tie.spec
+    Inv-loop
+    μ-loop
+    loop-holds
+    mul-u16-at
+    add-u16-at
+    u16-at-requires
+    cast-first
+    mul-u16-at-2
+    add-u16-at-2
+    add-u16-at-3
+    u16-at-requires-2
+    cast-many
+    pair-fits-requires
+    returns
+    add-end
+    add-changes
+    add-i
+    loop-less
+    loop-again
+    returns-2)

@@ -1,0 +1,37 @@
+-- `list::lbn_at`: the cursor stands in a pair, and its LBN lies as far from the pair's first.
+use native.Mathlib.Omega.{arith}
+use borrow.Author.Needs.{needs}
+use Rattle.list.specs.Changes.{pairAt}
+use Rattle.list.specs.Cursors.{in-pair, lbn-there}
+use Rattle.list.proofs.lbn_at.Statement.{statement}
+use Rattle.list.proofs.lbn_at.Tie as tie
+
+cast-u16-at : tie.Need-cast-u16-at
+cast-u16-at c = search needs
+
+mul-u16-at : tie.Need-mul-u16-at
+mul-u16-at c = search needs
+
+add-u16-at : tie.Need-add-u16-at
+add-u16-at c = search needs
+
+u16-at-requires : tie.Need-u16-at-requires
+u16-at-requires c κs = search needs
+
+add-t8 : tie.Need-add-t8
+unfolding pairAt
+add-t8 c =
+    let s = c .before .before .before .before in
+    let k = in-pair (s .args .list .now) (s .args .at) (s .pre .1) (omega arith) in
+    omega (arith, s .pre .0 .bound (s .args .at .pair) k, s .pre .1 .inside k)
+
+returns : tie.Need-returns
+unfolding pairAt
+returns c =
+    let s = c .before .before .before .before in
+    let k = in-pair (s .args .list .now) (s .args .at) (s .pre .1) (omega arith) in
+    let e = lbn-there (s .args .list .now) (s .args .at) k (s .pre .1 .inside k) in
+    omega arith
+
+pub lbn-at-spec : {M : Type 1} → statement M
+lbn-at-spec = tie.close (tie.spec cast-u16-at mul-u16-at add-u16-at u16-at-requires add-t8 returns)

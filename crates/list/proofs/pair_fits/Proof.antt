@@ -1,0 +1,25 @@
+-- `list::pair_fits`: the tests of the branches are those of `pairFits`.
+use native.Mathlib.Omega.{arith}
+use borrow.Author.Needs.{needs}
+use borrow.Author.Tests.{le-leb, lt-leb, eq-eqb, ne-eqb}
+use Rattle.list.proofs.pair_fits.Statement.{statement}
+use Rattle.list.proofs.pair_fits.Tie as tie
+
+returns : tie.Need-returns
+returns c = rw (eq-eqb (c .before .args .many) 0 (omega arith))
+
+returns-2 : tie.Need-returns-2
+returns-2 c =
+    let a = c .before .before .args in
+    rw (ne-eqb (a .many) 0 (λ e. omega arith), lt-leb (a .end) (a .first) (omega arith))
+
+add-result : tie.Need-add-result
+add-result c = search needs
+
+returns-3 : tie.Need-returns-3
+returns-3 c =
+    let a = c .before .before .args in
+    rw (ne-eqb (a .many) 0 (λ e. omega arith), le-leb (a .end) (a .first) (omega arith))
+
+pub pair-fits-spec : {M : Type 1} → statement M
+pair-fits-spec = tie.close (tie.spec returns returns-2 add-result returns-3)
