@@ -1,0 +1,4 @@
+pub mod Marks
+pub mod Counting
+pub mod Writing
+pub mod Whole

@@ -1,0 +1,59 @@
+-- `count_marks`: what is counted and what is left come to E and n.
+use Prim.Native.Nat.{_≤_, _-_}
+use lib.ListN.{length}
+use native.Mathlib.Nat.{zero-add}
+use native.Mathlib.Omega.{arith}
+use borrow.Author.Needs.{needs}
+use Rattle.writer.proofs.Counting.{Counting, counting-more, counting-end}
+use Rattle.writer.proofs.count_marks.Statement.{statement}
+use Rattle.writer.proofs.count_marks.Tie as tie
+
+abbrev Inv-loop : tie.InvT-loop
+Inv-loop marks t₀ passed₀ t passed = Counting marks t passed × (passed ≤ length marks)
+
+abbrev μ-loop : tie.MeasureT-loop
+μ-loop marks t₀ passed₀ t passed = length marks - passed
+
+loop-holds : tie.Need-loop-holds Inv-loop μ-loop
+loop-holds c =
+    (record { marked = zero-add _; ended = zero-add _; few-runs = omega arith; few-changes = omega arith }, omega arith)
+
+shared-slice-read-count-mark : tie.Need-shared-slice-read-count-mark Inv-loop μ-loop
+shared-slice-read-count-mark c = search needs
+
+count-mark-requires : tie.Need-count-mark-requires Inv-loop μ-loop
+count-mark-requires c κs = (omega arith, omega arith, omega arith)
+
+add-passed : tie.Need-add-passed Inv-loop μ-loop
+add-passed c = search needs
+
+loop-less : tie.Need-loop-less Inv-loop μ-loop
+loop-less c = search needs
+
+loop-again : tie.Need-loop-again Inv-loop μ-loop
+loop-again c =
+    let l = c .before .before .before .loop in
+    (counting-more _ (l .t) _ (l .passed) (c .before .before .loop-test .taken) (c .count-mark .ensures) (l .inv .0), omega arith)
+
+count-mark-requires-2 : tie.Need-count-mark-requires-2 Inv-loop μ-loop
+count-mark-requires-2 c κs = (omega arith, omega arith, omega arith)
+
+returns : tie.Need-returns Inv-loop μ-loop
+returns c =
+    let l = c .before .before .loop in
+    counting-end _ (l .t) _ (l .passed) _ (c .before .loop-test .left) (λ e. omega arith) (c .count-mark2 .ensures) (l .inv .0)
+
+pub count-marks-spec : {M : Type 1} → statement M
+count-marks-spec =
+    tie.close
+    (tie.spec
+    Inv-loop
+    μ-loop
+    loop-holds
+    shared-slice-read-count-mark
+    count-mark-requires
+    add-passed
+    loop-less
+    loop-again
+    count-mark-requires-2
+    returns)

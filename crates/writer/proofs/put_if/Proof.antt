@@ -1,0 +1,28 @@
+-- `put_if`: the two cases of a mark.
+use mathlib.Core.Path.{refl, sym}
+use native.Mathlib.Nat.{add-zero}
+use borrow.Author.Needs.{needs}
+use Rattle.writer.proofs.Marks.{marked-bytes, other-bytes}
+use Rattle.writer.proofs.put_if.Statement.{statement}
+use Rattle.writer.proofs.put_if.Tie as tie
+
+returns : tie.Need-returns
+returns c = rw (other-bytes _ _ (c .if1 .taken)) (record { list = refl; place = sym (add-zero _) })
+
+put-bytes-requires : tie.Need-put-bytes-requires
+put-bytes-requires c κs = rw (marked-bytes _ _ (c .before .if1 .left)) at (c .before .before .before .before .pre)
+
+add-result : tie.Need-add-result
+add-result c = search needs
+
+same-length : tie.Need-same-length
+same-length c = search needs
+
+returns-2 : tie.Need-returns-2
+returns-2 c =
+    let a = c .before .before .before .before .before .before .before .args in
+    rw (marked-bytes (a .mark) (a .bytes .now) (c .before .before .before .before .if1 .left))
+    (record { list = c .before .before .put-bytes .ensures; place = refl })
+
+pub put-if-spec : {M : Type 1} → statement M
+put-if-spec = tie.close (tie.spec returns put-bytes-requires add-result same-length returns-2)

@@ -1,0 +1,88 @@
+-- `put_mark`: the three cases of a mark; the pair of a run that ends is two numbers.
+use Prim.Native.Nat.{ℕ, _+_, _≤_}
+use mathlib.Core.Path.{_≡_, ap, _∙_}
+use mathlib.Core.List.{List}
+use lib.ListN.{length}
+use native.Mathlib.Omega.{arith}
+use borrow.Author.Needs.{needs}
+use Rattle.words.specs.Numbers.{put}
+use Rattle.writer.proofs.Marks.{row-grows, row-stops, ended-marked, ended-none, pair-none, pair-room, pair-put}
+use Rattle.writer.proofs.put_mark.Statement.{statement}
+use Rattle.writer.proofs.put_mark.Tie as tie
+
+abbrev entry : tie.Else1 → tie.Start
+entry c = c .before .before .before .before
+
+-- where the row doesn't grow, the block isn't marked
+unmarked : (c : tie.Else1) → entry c .args .mark ≡ 1 → ⊥
+unmarked c = row-stops _ _ _ (c .before .before .row-after .ensures) (c .if1 .left)
+
+-- a run that ends has room for its pair
+room : (c : tie.Else2) → (let a = entry (c .before .before) .args in a .p .at + 4 ≤ length (a .list .now))
+room c =
+    let k = c .before .before in
+    let a = entry k .args in
+    pair-room (a .list .now) (a .p .at) (a .lbn) (a .p .row) (a .mark) (unmarked k) (c .if2 .left) (entry k .pre .2)
+
+row-after-requires : tie.Need-row-after-requires
+row-after-requires c κs = search needs
+
+returns : tie.Need-returns
+returns c =
+    let a = c .before .before .before .before .args in
+    let e = c .before .before .row-after .ensures in
+    let n = ended-marked (a .lbn) (a .p .row) (a .mark) (row-grows _ _ _ e (c .if1 .taken)) in
+    record { pair = pair-none _ _ _ _ _ n; row = e }
+
+returns-2 : tie.Need-returns-2
+returns-2 c =
+    let k = c .before .before in
+    let a = entry k .args in
+    let n = ended-none (a .lbn) (a .p .row) (a .mark) (unmarked k) (c .if2 .taken) in
+    record { pair = pair-none _ _ _ _ _ n; row = omega (arith, c .if2 .taken, k .if1 .left, k .before .before .row-after .ensures) }
+
+sub-put-u16 : tie.Need-sub-put-u16
+sub-put-u16 c = search needs
+
+put-u16-requires : tie.Need-put-u16-requires
+put-u16-requires c κs = omega (arith, room (c .before .before))
+
+add-put-u16 : tie.Need-add-put-u16
+add-put-u16 c = search needs
+
+put-u16-requires-2 : tie.Need-put-u16-requires-2
+put-u16-requires-2 c κs = omega (arith, room (c .before .before .before .before .before .before), c .before .before .before .put-u16 .kept .0)
+
+add-t14 : tie.Need-add-t14
+add-t14 c = search needs
+
+same-length : tie.Need-same-length
+same-length c = search needs
+
+returns-3 : tie.Need-returns-3
+returns-3 c =
+    let e = c .before .before .before .before .before .before .before .before .before in
+    let k = e .before .before in
+    let a = entry k .args in
+    record {
+      pair =
+          pair-put (a .list .now) (a .p .at) (a .lbn) (a .p .row) (a .mark) (unmarked k) (e .if2 .left)
+          (c .before .before .put-u162 .ensures
+          ∙ ap (λ (x : List ℕ). put x (a .p .at + 2) (a .p .row)) (c .before .before .before .before .before .before .put-u16 .ensures));
+      row = k .before .before .row-after .ensures;
+    }
+
+pub put-mark-spec : {M : Type 1} → statement M
+put-mark-spec =
+    tie.close
+    (tie.spec
+    row-after-requires
+    returns
+    returns-2
+    sub-put-u16
+    put-u16-requires
+    add-put-u16
+    put-u16-requires-2
+    add-t14
+    same-length
+    returns-3)

@@ -1,0 +1,83 @@
+-- `put_runs`: the pairs that are written and those that are left make the section whole.
+use Prim.Native.Nat.{_≤_, _-_}
+use mathlib.Core.Path.{ap, _∙_}
+use lib.ListN.{length, drop}
+use lib.Seq.{length-sets}
+use native.Mathlib.Omega.{arith}
+use borrow.Author.Needs.{needs}
+use Rattle.words.specs.Laying.{Left, left-all}
+use Rattle.writer.specs.Passes.{pairsFrom}
+use Rattle.writer.proofs.Writing.{next-room, last-room, next-stored, last-stored, row-room}
+use Rattle.writer.proofs.put_runs.Statement.{statement}
+use Rattle.writer.proofs.put_runs.Tie as tie
+
+abbrev Inv-loop : tie.InvT-loop
+Inv-loop list₀ at marks p₀ lbn₀ list p lbn =
+    (lbn ≤ length marks) × (p .row ≤ lbn) × Left list₀ at (pairsFrom 0 0 marks) list (p .at) (pairsFrom lbn (p .row) (drop lbn marks))
+
+abbrev μ-loop : tie.MeasureT-loop
+μ-loop list₀ at marks p₀ lbn₀ list p lbn = length marks - lbn
+
+loop-holds : tie.Need-loop-holds Inv-loop μ-loop
+loop-holds c = (omega arith, omega arith, left-all (c .before .before .pre .1))
+
+cast-put-mark : tie.Need-cast-put-mark Inv-loop μ-loop
+cast-put-mark c = omega arith
+
+shared-slice-read-put-mark : tie.Need-shared-slice-read-put-mark Inv-loop μ-loop
+shared-slice-read-put-mark c = search needs
+
+put-mark-requires : tie.Need-put-mark-requires Inv-loop μ-loop
+put-mark-requires c κs =
+    let l = c .before .before .before .loop in
+    (omega arith, omega arith, next-room _ (l .p) (l .lbn) (l .inv .2) (c .before .before .loop-test .taken))
+
+add-lbn : tie.Need-add-lbn Inv-loop μ-loop
+add-lbn c = search needs
+
+loop-less : tie.Need-loop-less Inv-loop μ-loop
+loop-less c = search needs
+
+loop-again : tie.Need-loop-again Inv-loop μ-loop
+loop-again c =
+    let k = c .before .before in
+    let l = k .before .before .before .before .loop in (
+      omega arith,
+      row-room (k .put-mark .ensures) (l .inv .1),
+      next-stored _ (l .p) (l .lbn) (l .inv .2) (k .before .before .before .loop-test .taken) (k .put-mark .ensures),
+    )
+
+cast-put-mark-2 : tie.Need-cast-put-mark-2 Inv-loop μ-loop
+cast-put-mark-2 c = omega arith
+
+put-mark-requires-2 : tie.Need-put-mark-requires-2 Inv-loop μ-loop
+put-mark-requires-2 c κs =
+    let l = c .before .before .loop in
+    (omega arith, omega arith, last-room _ (l .p) (l .lbn) (l .inv .2) _ (c .before .loop-test .left) (λ e. omega arith))
+
+returns : tie.Need-returns Inv-loop μ-loop
+returns c =
+    let k = c .before .before in
+    let l = k .before .before .before .loop in
+    last-stored _ (l .p) (l .lbn) (l .inv .2) (k .before .before .loop-test .left) (λ e. omega arith) (k .put-mark2 .ensures)
+
+same-length : tie.Need-same-length Inv-loop μ-loop
+same-length c = ap length (returns c .list) ∙ simp length-sets
+
+pub put-runs-spec : {M : Type 1} → statement M
+put-runs-spec =
+    tie.close
+    (tie.spec
+    Inv-loop
+    μ-loop
+    loop-holds
+    cast-put-mark
+    shared-slice-read-put-mark
+    put-mark-requires
+    add-lbn
+    loop-less
+    loop-again
+    cast-put-mark-2
+    put-mark-requires-2
+    same-length
+    returns)
