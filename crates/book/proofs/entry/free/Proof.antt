@@ -1,0 +1,45 @@
+-- `book::entry::free`: what the two stores left, by `is-freed`.
+use mathlib.Core.Path.{_∙_, ap}
+use lib.ListN.{length, length-set}
+use lib.Seq.{length-sets}
+use native.Mathlib.Omega.{arith}
+use Rattle.book.specs.Write.{is-freed}
+use borrow.Author.Needs.{needs}
+use Rattle.book.proofs.entry.free.Statement.{statement}
+use Rattle.book.proofs.entry.free.Tie as tie
+
+entry-place-requires : tie.Need-entry-place-requires
+entry-place-requires c κs = search needs
+
+add-book : tie.Need-add-book
+add-book c = search needs
+
+slice-write-book : tie.Need-slice-write-book
+slice-write-book c = search needs
+
+add-fill : tie.Need-add-fill
+add-fill c = search needs
+
+fill-requires : tie.Need-fill-requires
+fill-requires c κs = simp length-set (omega arith)
+
+same-length : tie.Need-same-length
+same-length c = ap length (c .before .before .fill .ensures) ∙ simp (length-sets, length-set)
+
+returns : tie.Need-returns
+returns c =
+    let s = c .before .before .before .before .before .before in
+    let at = c .before .before .before .before .entry-place in
+    is-freed (s .pre .0) (s .args .p .0) (at .result) (s .pre .1) (at .ensures) (c .before .before .fill .ensures)
+
+pub free-spec : {M : Type 1} → statement M
+free-spec =
+    tie.close
+    (tie.spec
+    entry-place-requires
+    add-book
+    slice-write-book
+    add-fill
+    fill-requires
+    same-length
+    returns)

@@ -1,0 +1,48 @@
+-- `book::entry::print_of`: the part at its place, by `print-at`.
+use mathlib.Core.Path.{_∙_, ap}
+use Prim.Native.Nat.{ℕ, _+_}
+use lib.ListN.{take, drop}
+use native.Mathlib.Nat.{add-sub-cancel-left}
+use Rattle.words.specs.Blocks.{printSize}
+use Rattle.book.specs.Read.{print-at}
+use borrow.Author.Needs.{needs}
+use Rattle.book.proofs.entry.print_of.Statement.{statement}
+use Rattle.book.proofs.entry.print_of.Tie as tie
+
+entry-place-requires : tie.Need-entry-place-requires
+entry-place-requires c κs = search needs
+
+add-from : tie.Need-add-from
+add-from c = search needs
+
+add-end : tie.Need-add-end
+add-end c = search needs
+
+sub-result : tie.Need-sub-result
+sub-result c = search needs
+
+part-result-start : tie.Need-part-result-start
+part-result-start c = search needs
+
+part-result-end : tie.Need-part-result-end
+part-result-end c = search needs
+
+returns : tie.Need-returns
+returns c =
+    let s = c .before .before .before in
+    let at = c .before .entry-place in
+    let from = at .result + 4 in
+    ap (λ (k : ℕ). take k (drop from (s .args .book .now))) (add-sub-cancel-left from printSize)
+    ∙ print-at (s .args .book .now) (s .args .p .0) (at .result) (s .pre .1) (at .ensures) (s .pre .0)
+
+pub print-of-spec : {M : Type 1} → statement M
+print-of-spec =
+    tie.close
+    (tie.spec
+    entry-place-requires
+    add-from
+    add-end
+    sub-result
+    part-result-start
+    part-result-end
+    returns)

@@ -1,0 +1,28 @@
+-- `book::entry::set_expiry`: what the store left, by `is-expiry`.
+use Rattle.book.specs.Write.{is-expiry}
+use borrow.Author.Needs.{needs}
+use Rattle.book.proofs.entry.set_expiry.Statement.{statement}
+use Rattle.book.proofs.entry.set_expiry.Tie as tie
+
+entry-place-requires : tie.Need-entry-place-requires
+entry-place-requires c κs = search needs
+
+add-put-u16 : tie.Need-add-put-u16
+add-put-u16 c = search needs
+
+put-u16-requires : tie.Need-put-u16-requires
+put-u16-requires c κs = search needs
+
+same-length : tie.Need-same-length
+same-length c = search needs
+
+returns : tie.Need-returns
+returns c =
+    let s = c .before .before .before .before .before .before in
+    let at = c .before .before .before .before .entry-place in
+    is-expiry (s .pre .0) (s .args .p .0) (at .result) (s .pre .1) (at .ensures)
+    (s .args .day) (c .before .before .put-u16 .ensures)
+
+pub set-expiry-spec : {M : Type 1} → statement M
+set-expiry-spec =
+    tie.close (tie.spec entry-place-requires add-put-u16 put-u16-requires same-length returns)

@@ -1,0 +1,61 @@
+-- `book::place::cell_place`: the sizes are those of the book, and the cell lies in the maps by `cell-room`.
+use native.Mathlib.Omega.{arith}
+use Rattle.book.specs.Read.{cell-room}
+use borrow.Author.Needs.{needs}
+use Rattle.book.proofs.place.cell_place.Statement.{statement}
+use Rattle.book.proofs.place.cell_place.Tie as tie
+
+maps-from-requires : tie.Need-maps-from-requires
+maps-from-requires c κs = search needs
+
+cells-requires : tie.Need-cells-requires
+cells-requires c κs = search needs
+
+cast-l : tie.Need-cast-l
+cast-l c = search needs
+
+mul-result : tie.Need-mul-result
+mul-result c = search needs
+
+mul-result-2 : tie.Need-mul-result-2
+mul-result-2 c =
+    let s = c .before .before .before in
+    omega (arith, cell-room (s .args .v) (s .args .lbn .0) (c .cells .result) (s .pre .1 .0) (omega arith))
+
+cast-result : tie.Need-cast-result
+cast-result c = search needs
+
+mul-result-3 : tie.Need-mul-result-3
+mul-result-3 c = search needs
+
+add-result : tie.Need-add-result
+add-result c =
+    let s = c .before .before .before .before in
+    omega (arith, cell-room (s .args .v) (s .args .lbn .0) (c .before .cells .result) (s .pre .1 .0) (omega arith))
+
+add-result-2 : tie.Need-add-result-2
+add-result-2 c =
+    let s = c .before .before .before .before in
+    omega (arith, cell-room (s .args .v) (s .args .lbn .0) (c .before .cells .result) (s .pre .1 .0) (omega arith))
+
+returns : tie.Need-returns
+returns c =
+    let s = c .before .before .before .before in (
+      rw (c .before .before .maps-from .ensures, c .before .cells .ensures),
+      omega (arith, cell-room (s .args .v) (s .args .lbn .0) (c .before .cells .result) (s .pre .1 .0) (omega arith)),
+    )
+
+pub cell-place-spec : {M : Type 1} → statement M
+cell-place-spec =
+    tie.close
+    (tie.spec
+    maps-from-requires
+    cells-requires
+    cast-l
+    mul-result
+    mul-result-2
+    cast-result
+    mul-result-3
+    add-result
+    add-result-2
+    returns)

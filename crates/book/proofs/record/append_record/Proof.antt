@@ -1,0 +1,52 @@
+-- `book::record::append_record`: what the two stores left, by `is-record`.
+use Prim.Native.Nat.{ℕ}
+use mathlib.Core.Path.{_∙_, ap}
+use native.Mathlib.Omega.{arith}
+use Rattle.book.specs.Layout.{recPlace, bookOf}
+use Rattle.book.specs.Write.{is-record}
+use borrow.Author.Needs.{needs}
+use Rattle.book.proofs.record.append_record.Statement.{statement}
+use Rattle.book.proofs.record.append_record.Tie as tie
+
+used-records-requires : tie.Need-used-records-requires
+used-records-requires c κs = search needs
+
+record-place-requires : tie.Need-record-place-requires
+record-place-requires c κs = search needs
+
+put-three-requires : tie.Need-put-three-requires
+put-three-requires c κs = search needs
+
+add-put-u16 : tie.Need-add-put-u16
+add-put-u16 c = search needs
+
+put-u16-requires : tie.Need-put-u16-requires
+put-u16-requires c κs = search needs
+
+same-length : tie.Need-same-length
+same-length c = search needs
+
+returns : tie.Need-returns
+returns c =
+    let s = c .before .before .before .before .before .before .before .before .before .before .before .before .before in
+    let used = c .before .before .before .before .before .before .before .before .before .before .used-records in
+    let at = c .before .before .before .before .before .before .before .before .record-place in
+    let a = s .args in
+    is-record (s .pre .0) (record { lbn = a .lbn .0; before = a .before .0; after = a .after .0 })
+    (at .result) _ (s .pre .1)
+    (at .ensures .0 ∙ ap (λ (q : ℕ). recPlace (bookOf (a .book .now) .sizes) q) (used .ensures))
+    (omega arith)
+    (c .before .before .before .before .before .before .put-three .ensures)
+    (c .before .before .put-u16 .ensures)
+
+pub append-record-spec : {M : Type 1} → statement M
+append-record-spec =
+    tie.close
+    (tie.spec
+    used-records-requires
+    record-place-requires
+    put-three-requires
+    add-put-u16
+    put-u16-requires
+    same-length
+    returns)

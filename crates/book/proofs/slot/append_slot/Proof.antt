@@ -1,0 +1,52 @@
+-- `book::slot::append_slot`: what the two stores left, by `is-slot`.
+use Prim.Native.Nat.{ℕ}
+use mathlib.Core.Path.{_∙_, ap}
+use native.Mathlib.Omega.{arith}
+use Rattle.book.specs.Layout.{slotPlace, bookOf}
+use Rattle.book.specs.Write.{is-slot}
+use borrow.Author.Needs.{needs}
+use Rattle.book.proofs.slot.append_slot.Statement.{statement}
+use Rattle.book.proofs.slot.append_slot.Tie as tie
+
+used-slots-requires : tie.Need-used-slots-requires
+used-slots-requires c κs = search needs
+
+slot-place-requires : tie.Need-slot-place-requires
+slot-place-requires c κs = search needs
+
+put-slot-requires : tie.Need-put-slot-requires
+put-slot-requires c κs = search needs
+
+add-put-u16 : tie.Need-add-put-u16
+add-put-u16 c = search needs
+
+put-u16-requires : tie.Need-put-u16-requires
+put-u16-requires c κs = search needs
+
+same-length : tie.Need-same-length
+same-length c = search needs
+
+returns : tie.Need-returns
+returns c =
+    let s = c .before .before .before .before .before .before .before .before .before .before .before .before .before in
+    let used = c .before .before .before .before .before .before .before .before .before .before .used-slots in
+    let at = c .before .before .before .before .before .before .before .before .slot-place in
+    let a = s .args in
+    is-slot (s .pre .0) (record { volume = a .volume; day = a .day; first = a .first; number = a .number })
+    (at .result) _ (s .pre .1 .0)
+    (at .ensures .0 ∙ ap (λ (q : ℕ). slotPlace (bookOf (a .book .now) .sizes) q) (used .ensures))
+    (omega arith)
+    (c .before .before .before .before .before .before .put-slot .ensures)
+    (c .before .before .put-u16 .ensures)
+
+pub append-slot-spec : {M : Type 1} → statement M
+append-slot-spec =
+    tie.close
+    (tie.spec
+    used-slots-requires
+    slot-place-requires
+    put-slot-requires
+    add-put-u16
+    put-u16-requires
+    same-length
+    returns)

@@ -1,0 +1,107 @@
+-- Where the sections of a book's bytes start, how long they are, and which byte stands at each place. Assumes nothing.
+use mathlib.Core.Path.{_≡_, refl, _∙_}
+use mathlib.Core.List.{List, []}
+use Prim.Native.Nat.{ℕ, _+_, _*_, _<_}
+use native.Mathlib.Omega.{arith}
+use lib.ListN.{length, getD, length-append}
+use Rattle.words.specs.Blocks.{unmapped}
+use Rattle.words.specs.Numbers.{two}
+use Rattle.words.specs.Sections.{start, flat, fit, getD-joined, length-sect, getD-sect, length-fit, inside}
+use Rattle.book.specs.Book.{volumes, Entry, Slot, Rec, Book, freeEntry, noSlot, noRec, entryAt, cellAt, slotAt, recAt, retentionOf}
+use Rattle.book.specs.Layout.{headerSize, entrySize, slotSize, recSize, retentionPlace, entriesFrom, entryPlace, mapsFrom, cellPlace, slotsFrom, slotPlace, recordsFrom, recPlace, bookSize, entryBytes, mapBytes, slotBytes, recBytes, headerWords, sections, bytes}
+
+-- ---- the size of each element
+
+pub two-size : (v : ℕ) → length (two v) ≡ 2
+two-size v = refl
+
+pub entry-size : (e : Entry) → length (entryBytes e) ≡ entrySize
+entry-size e = simp length-fit
+
+pub map-size : (l : ℕ) (m : List ℕ) → length (mapBytes l m) ≡ l * 2
+map-size l m = length-sect 2 two two-size unmapped l m
+
+pub slot-size : (t : Slot) → length (slotBytes t) ≡ slotSize
+slot-size t = refl
+
+pub rec-size : (r : Rec) → length (recBytes r) ≡ recSize
+rec-size r = refl
+
+module _ (x : Book) where
+  -- ---- the length of each section
+
+  pub retentions-long : length (flat two (fit 0 volumes (x .retentions))) ≡ volumes * 2
+  retentions-long = length-sect 2 two two-size 0 volumes (x .retentions)
+
+  pub entries-long : length (flat entryBytes (fit freeEntry (x .sizes .n) (x .entries))) ≡ x .sizes .n * entrySize
+  entries-long = length-sect entrySize entryBytes entry-size freeEntry (x .sizes .n) (x .entries)
+
+  pub maps-long : length (flat (mapBytes (x .sizes .l)) (fit [] volumes (x .maps))) ≡ volumes * (x .sizes .l * 2)
+  maps-long = length-sect (x .sizes .l * 2) (mapBytes (x .sizes .l)) (map-size (x .sizes .l)) [] volumes (x .maps)
+
+  pub slots-long : length (flat slotBytes (fit noSlot (x .sizes .s) (x .slots))) ≡ x .sizes .s * slotSize
+  slots-long = length-sect slotSize slotBytes slot-size noSlot (x .sizes .s) (x .slots)
+
+  pub records-long : length (flat recBytes (fit noRec (x .sizes .j) (x .records))) ≡ x .sizes .j * recSize
+  records-long = length-sect recSize recBytes rec-size noRec (x .sizes .j) (x .records)
+
+  -- ---- where each section starts
+
+  pub start-entries : start (sections x) 2 ≡ entriesFrom
+  start-entries = rw retentions-long
+
+  pub start-maps : start (sections x) 3 ≡ mapsFrom (x .sizes)
+  start-maps = rw (retentions-long, entries-long) (omega arith)
+
+  pub start-slots : start (sections x) 4 ≡ slotsFrom (x .sizes)
+  start-slots = rw (retentions-long, entries-long, maps-long) (omega arith)
+
+  pub start-records : start (sections x) 5 ≡ recordsFrom (x .sizes)
+  start-records = rw (retentions-long, entries-long, maps-long, slots-long) (omega arith)
+
+  pub length-bytes : length (bytes x) ≡ bookSize (x .sizes)
+  unfolding bytes
+  length-bytes = simp length-append (rw (retentions-long, entries-long, maps-long, slots-long, records-long) (omega arith))
+
+  -- ---- the byte at each place
+
+  -- the byte at i is byte j of section k, which starts at o and has m bytes
+  get-in : (k o m j i : ℕ) → start (sections x) k ≡ o → length (getD (sections x) k []) ≡ m → j < m → i ≡ o + j
+      → getD (bytes x) i 0 ≡ getD (getD (sections x) k []) j 0
+  unfolding bytes
+  get-in k o m j i eo em h e = rw (e, ← eo) (getD-joined (sections x) k j (rw em h))
+
+  pub get-head : (i : ℕ) → i < headerSize → getD (bytes x) i 0 ≡ getD (flat two (headerWords x)) i 0
+  get-head i h = get-in 0 0 headerSize i i refl refl h (omega arith)
+
+  pub get-retention : (v j i : ℕ) → v < volumes → j < 2 → i ≡ retentionPlace v + j → getD (bytes x) i 0 ≡ getD (two (retentionOf x v)) j 0
+  get-retention v j i hv hj e =
+      get-in 1 headerSize (volumes * 2) (v * 2 + j) i refl retentions-long (omega arith) (omega arith)
+      ∙ getD-sect 2 two two-size 0 volumes (x .retentions) v j hv hj
+
+  pub get-entry : (p j i : ℕ) → p < x .sizes .n → j < entrySize → i ≡ entryPlace p + j
+      → getD (bytes x) i 0 ≡ getD (entryBytes (entryAt (x .entries) p)) j 0
+  get-entry p j i hp hj e =
+      get-in 2 entriesFrom (x .sizes .n * entrySize) (p * entrySize + j) i start-entries entries-long (omega arith) (omega arith)
+      ∙ getD-sect entrySize entryBytes entry-size freeEntry (x .sizes .n) (x .entries) p j hp hj
+
+  pub get-cell : (v l j i : ℕ) → v < volumes → l < x .sizes .l → j < 2 → i ≡ cellPlace (x .sizes) v l + j
+      → getD (bytes x) i 0 ≡ getD (two (cellAt (x .maps) v l)) j 0
+  get-cell v l j i hv hl hj e =
+      let w = x .sizes .l * 2 in
+      let hin : l * 2 + j < w = omega arith in
+      get-in 3 (mapsFrom (x .sizes)) (volumes * w) (v * w + (l * 2 + j)) i start-maps maps-long (inside v (l * 2 + j) volumes w hv hin) (omega arith)
+      ∙ getD-sect w (mapBytes (x .sizes .l)) (map-size (x .sizes .l)) [] volumes (x .maps) v (l * 2 + j) hv hin
+      ∙ getD-sect 2 two two-size unmapped (x .sizes .l) (getD (x .maps) v []) l j hl hj
+
+  pub get-slot : (q j i : ℕ) → q < x .sizes .s → j < slotSize → i ≡ slotPlace (x .sizes) q + j
+      → getD (bytes x) i 0 ≡ getD (slotBytes (slotAt (x .slots) q)) j 0
+  get-slot q j i hq hj e =
+      get-in 4 (slotsFrom (x .sizes)) (x .sizes .s * slotSize) (q * slotSize + j) i start-slots slots-long (omega arith) (omega arith)
+      ∙ getD-sect slotSize slotBytes slot-size noSlot (x .sizes .s) (x .slots) q j hq hj
+
+  pub get-rec : (q j i : ℕ) → q < x .sizes .j → j < recSize → i ≡ recPlace (x .sizes) q + j
+      → getD (bytes x) i 0 ≡ getD (recBytes (recAt (x .records) q)) j 0
+  get-rec q j i hq hj e =
+      get-in 5 (recordsFrom (x .sizes)) (x .sizes .j * recSize) (q * recSize + j) i start-records records-long (omega arith) (omega arith)
+      ∙ getD-sect recSize recBytes rec-size noRec (x .sizes .j) (x .records) q j hq hj

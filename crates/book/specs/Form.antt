@@ -1,0 +1,102 @@
+-- When bytes are a book in form (document 01, "A book is in form when"; numbers 1 and 2). Assumes nothing.
+use Prim.Native.Nat.{ℕ, zero, suc, _+_, _-_, _*_}
+use mathlib.Core.Bool.{Bool, true, false, not, _&&_, _||_}
+use mathlib.Core.List.{List, [], _∷_}
+use lib.ListN.{length, getD}
+use lib.Dec.{leb, ltb, eqb}
+use Rattle.words.specs.Blocks.{unmapped}
+use Rattle.words.specs.Choice.{if_then_else_}
+use Rattle.words.specs.Lists.{all, allZero, upFrom}
+use Rattle.words.specs.Numbers.{num}
+use Rattle.words.specs.Sections.{part}
+use Rattle.book.specs.Book.{Sizes, Entry, Slot, Rec, Book, retentionOf}
+use Rattle.book.specs.Layout.{layoutNumber, headerSize, slotSize, recSize, bPlace, uPlace, zeroPlace, entryPlace, slotPlace, recPlace, bookSize, sizesOf, bookOf}
+
+unfoldable pub between : ℕ → ℕ → ℕ → Bool
+between low high k = leb low k && leb k high
+
+-- ---- number 1: the length, the layout number and the sizes
+
+unfoldable pub sizesOk : Sizes → Bool
+sizesOk z = between 1 4096 (z .n) && between 1 1024 (z .l) && between 1 1024 (z .s) && between 1 16384 (z .j)
+
+unfoldable pub layoutOk : List ℕ → Bool
+layoutOk b =
+    leb headerSize (length b) && eqb (num b 0) layoutNumber && sizesOk (sizesOf b) && eqb (length b) (bookSize (sizesOf b))
+
+-- ---- number 2, as far as what the book holds shows it
+
+-- "retentions are in range": 0, or 1 to 5,000
+unfoldable pub retentionOk : ℕ → Bool
+retentionOk r = leb r 5000
+
+-- "expiries ≤ 65,000"; "a free entry has count 0 and a zero fingerprint"
+unfoldable pub entryOk : Entry → Bool
+entryOk e = leb (e .expiry) 65000 && (e .held || (eqb (e .count) 0 && allZero (e .print)))
+
+-- "PBNs in maps and records are below N or 65,535"
+unfoldable pub pbnOk : ℕ → ℕ → Bool
+pbnOk n p = ltb p n || eqb p unmapped
+
+-- "and an after is below N; record LBNs are below L"
+unfoldable pub recOk : Sizes → Rec → Bool
+recOk z r = ltb (r .lbn) (z .l) && pbnOk (z .n) (r .before) && ltb (r .after) (z .n)
+
+-- a volume above 7 has no retention, so it is not enrolled
+abbrev pub enrolled : Book → ℕ → Bool
+enrolled x v = not (eqb (retentionOf x v) 0)
+
+-- "used slots name enrolled volumes"; their days "don't pass the header's day"
+unfoldable pub slotOk : Book → Slot → Bool
+slotOk x t = enrolled x (t .volume) && leb (t .day) (x .day)
+
+-- "their days never fall, rise strictly within a volume": so for each slot and every later one
+unfoldable pub laterOk : Slot → Slot → Bool
+laterOk t u = leb (t .day) (u .day) && (not (eqb (t .volume) (u .volume)) || ltb (t .day) (u .day))
+
+abbrev pub daysOk : List Slot → Bool
+daysOk [] = true
+daysOk (t ∷ ts) = all (laterOk t) ts && daysOk ts
+
+-- "the first pair starts at 0, each next where the last ended, the last ends at U"
+abbrev pub pairsOk : ℕ → List Slot → ℕ → Bool
+pairsOk at [] u = eqb at u
+pairsOk at (t ∷ ts) u = eqb (t .first) at && pairsOk (at + t .number) ts u
+
+unfoldable pub bookOk : Book → Bool
+bookOk x =
+    leb (x .day) 60000
+    && ltb (x .cursor) (x .sizes .n)
+    && all retentionOk (x .retentions)
+    && all entryOk (x .entries)
+    && all (all (pbnOk (x .sizes .n))) (x .maps)
+    && all (slotOk x) (x .slots)
+    && daysOk (x .slots)
+    && pairsOk 0 (x .slots) (length (x .records))
+    && all (recOk (x .sizes)) (x .records)
+
+-- ---- number 2, as far as only the bytes show it: "B ≤ S, U ≤ J", "states are 0 or 1", "unused slots and records, a slot's second byte and
+-- the spare header field are zero"
+
+unfoldable pub stateOk : List ℕ → ℕ → Bool
+stateOk b p = leb (getD b (entryPlace p + 1) 0) 1
+
+unfoldable pub secondOk : List ℕ → ℕ → Bool
+secondOk b q = eqb (getD b (slotPlace (sizesOf b) q + 1) 0) 0
+
+unfoldable pub rawOk : List ℕ → Bool
+rawOk b =
+    leb (num b bPlace) (sizesOf b .s)
+    && leb (num b uPlace) (sizesOf b .j)
+    && eqb (num b zeroPlace) 0
+    && all (stateOk b) (upFrom 0 (sizesOf b .n))
+    && all (secondOk b) (upFrom 0 (num b bPlace))
+    && allZero (part b (slotPlace (sizesOf b) (num b bPlace)) ((sizesOf b .s - num b bPlace) * slotSize))
+    && allZero (part b (recPlace (sizesOf b) (num b uPlace)) ((sizesOf b .j - num b uPlace) * recSize))
+
+-- 1, 2, or 0 for a book in form
+unfoldable pub formNumber : List ℕ → ℕ
+formNumber b =
+    if not (layoutOk b) then 1 else
+    if not (rawOk b && bookOk (bookOf b)) then 2 else
+    0

@@ -1,0 +1,186 @@
+-- The layout of a book in bytes (document 01, "The book"), read and written. Assumes nothing.
+use Prim.Native.Nat.{ℕ, zero, suc, _+_, _*_, _-_, _≤_, _<_, _/_, _%_}
+use mathlib.Core.Path.{_≡_}
+use mathlib.Core.Bool.{Bool, true, false}
+use mathlib.Core.List.{List, [], _∷_, _++_}
+use lib.ListN.{length, getD}
+use lib.Dec.{eqb}
+use Rattle.words.specs.Blocks.{printSize, unmapped}
+use Rattle.words.specs.Choice.{if_then_else_}
+use Rattle.words.specs.Lists.{joined}
+use Rattle.words.specs.Numbers.{two, num}
+use Rattle.words.specs.Sections.{flat, fit, tab}
+use Rattle.book.specs.Book.{volumes, Sizes, Entry, Slot, Rec, Book, freeEntry, noSlot, noRec, Sized}
+
+-- sizes of the elements, in bytes
+abbrev pub layoutNumber : ℕ
+layoutNumber = 1
+
+abbrev pub headerSize : ℕ
+headerSize = 20
+
+abbrev pub entrySize : ℕ
+entrySize = 20
+
+abbrev pub slotSize : ℕ
+slotSize = 8
+
+abbrev pub recSize : ℕ
+recSize = 6
+
+-- where the header's numbers stand: "layout; N; L; S; J; B slots used; U records used; day; cursor; zero"
+abbrev pub nPlace : ℕ
+nPlace = 2
+
+abbrev pub lPlace : ℕ
+lPlace = 4
+
+abbrev pub sPlace : ℕ
+sPlace = 6
+
+abbrev pub jPlace : ℕ
+jPlace = 8
+
+abbrev pub bPlace : ℕ
+bPlace = 10
+
+abbrev pub uPlace : ℕ
+uPlace = 12
+
+abbrev pub dayPlace : ℕ
+dayPlace = 14
+
+abbrev pub cursorPlace : ℕ
+cursorPlace = 16
+
+abbrev pub zeroPlace : ℕ
+zeroPlace = 18
+
+-- where an element stands, by the sizes
+abbrev pub retentionPlace : ℕ → ℕ
+retentionPlace v = headerSize + v * 2
+
+abbrev pub entriesFrom : ℕ
+entriesFrom = headerSize + volumes * 2
+
+abbrev pub entryPlace : ℕ → ℕ
+entryPlace p = entriesFrom + p * entrySize
+
+abbrev pub mapsFrom : Sizes → ℕ
+mapsFrom z = entriesFrom + z .n * entrySize
+
+abbrev pub cellPlace : Sizes → ℕ → ℕ → ℕ
+cellPlace z v l = mapsFrom z + (v * (z .l * 2) + l * 2)
+
+abbrev pub slotsFrom : Sizes → ℕ
+slotsFrom z = mapsFrom z + volumes * (z .l * 2)
+
+abbrev pub slotPlace : Sizes → ℕ → ℕ
+slotPlace z q = slotsFrom z + q * slotSize
+
+abbrev pub recordsFrom : Sizes → ℕ
+recordsFrom z = slotsFrom z + z .s * slotSize
+
+abbrev pub recPlace : Sizes → ℕ → ℕ
+recPlace z q = recordsFrom z + q * recSize
+
+-- "length: 36 + 20N + 16L + 8S + 6J"
+abbrev pub bookSize : Sizes → ℕ
+bookSize z = recordsFrom z + z .j * recSize
+
+-- ---- the bytes of a book, section after section, unused places zero
+
+abbrev pub stateByte : Bool → ℕ
+stateByte held = if held then 1 else 0
+
+abbrev pub entryBytes : Entry → List ℕ
+entryBytes e = e .count ∷ stateByte (e .held) ∷ e .expiry % 256 ∷ e .expiry / 256 ∷ fit 0 printSize (e .print)
+
+abbrev pub mapBytes : ℕ → List ℕ → List ℕ
+mapBytes l m = flat two (fit unmapped l m)
+
+abbrev pub slotBytes : Slot → List ℕ
+slotBytes t = t .volume ∷ 0 ∷ flat two (t .day ∷ t .first ∷ t .number ∷ [])
+
+abbrev pub recBytes : Rec → List ℕ
+recBytes r = flat two (r .lbn ∷ r .before ∷ r .after ∷ [])
+
+abbrev pub headerWords : Book → List ℕ
+headerWords x =
+    layoutNumber
+    ∷ x .sizes .n
+    ∷ x .sizes .l
+    ∷ x .sizes .s
+    ∷ x .sizes .j
+    ∷ length (x .slots)
+    ∷ length (x .records)
+    ∷ x .day
+    ∷ x .cursor
+    ∷ 0
+    ∷ []
+
+abbrev pub sections : Book → List (List ℕ)
+sections x =
+    flat two (headerWords x)
+    ∷ flat two (fit 0 volumes (x .retentions))
+    ∷ flat entryBytes (fit freeEntry (x .sizes .n) (x .entries))
+    ∷ flat (mapBytes (x .sizes .l)) (fit [] volumes (x .maps))
+    ∷ flat slotBytes (fit noSlot (x .sizes .s) (x .slots))
+    ∷ flat recBytes (fit noRec (x .sizes .j) (x .records))
+    ∷ []
+
+unfoldable pub bytes : Book → List ℕ
+bytes x = joined (sections x)
+
+-- ---- what bytes say
+
+abbrev pub sizesOf : List ℕ → Sizes
+sizesOf b = record { n = num b nPlace; l = num b lPlace; s = num b sPlace; j = num b jPlace }
+
+abbrev pub entryOf : List ℕ → ℕ → Entry
+entryOf b p = record {
+  count = getD b (entryPlace p) 0;
+  held = eqb (getD b (entryPlace p + 1) 0) 1;
+  expiry = num b (entryPlace p + 2);
+  print = tab printSize (λ i. getD b (entryPlace p + 4 + i) 0);
+}
+
+abbrev pub cellOf : List ℕ → ℕ → ℕ → ℕ
+cellOf b v l = num b (cellPlace (sizesOf b) v l)
+
+abbrev pub slotOf : List ℕ → ℕ → Slot
+slotOf b at = record { volume = getD b at 0; day = num b (at + 2); first = num b (at + 4); number = num b (at + 6) }
+
+abbrev pub recOf : List ℕ → ℕ → Rec
+recOf b at = record { lbn = num b at; before = num b (at + 2); after = num b (at + 4) }
+
+unfoldable pub bookOf : List ℕ → Book
+bookOf b = record {
+  sizes = sizesOf b;
+  day = num b dayPlace;
+  cursor = num b cursorPlace;
+  retentions = tab volumes (λ v. num b (retentionPlace v));
+  entries = tab (num b nPlace) (entryOf b);
+  maps = tab volumes (λ v. tab (num b lPlace) (cellOf b v));
+  slots = tab (num b bPlace) (λ q. slotOf b (slotPlace (sizesOf b) q));
+  records = tab (num b uPlace) (λ q. recOf b (recPlace (sizesOf b) q));
+}
+
+-- ---- what readers and writers require and ensure
+
+-- the bytes are those of the book that they say, and that book is well sized. The numbers follow, and stand here for `omega`
+pub record Holds (b : List ℕ) : Type 0 where
+  pub same : b ≡ bytes (bookOf b)
+  pub sized : Sized (bookOf b)
+  pub len : length b ≡ bookSize (bookOf b .sizes)
+  pub n : bookOf b .sizes .n ≤ 4096
+  pub l : bookOf b .sizes .l ≤ 1024
+  pub s : bookOf b .sizes .s ≤ 1024
+  pub j : bookOf b .sizes .j ≤ 16384
+  pub slots : length (bookOf b .slots) ≤ bookOf b .sizes .s
+  pub records : length (bookOf b .records) ≤ bookOf b .sizes .j
+
+-- b is the book x
+pub record Is (b : List ℕ) (x : Book) : Type 0 where
+  pub holds : Holds b
+  pub book : bookOf b ≡ x

@@ -1,0 +1,85 @@
+-- What stands at a place of bytes, as a field of the book that they say: what each reader's proof takes. Assumes nothing.
+use mathlib.Core.Path.{_≡_, refl, sym}
+use mathlib.Core.List.{List, []}
+use Prim.Native.Nat.{ℕ, _+_, _*_, _<_}
+use native.Mathlib.Omega.{arith}
+use lib.Dec.{eqb}
+use lib.ListN.{length, getD}
+use Rattle.words.specs.Blocks.{printSize, unmapped}
+use Rattle.words.specs.Numbers.{num}
+use Rattle.words.specs.Sections.{tab, length-tab, getD-tab, part, part-tab, inside}
+use Rattle.book.specs.Book.{volumes, freeEntry, noSlot, noRec, entryAt, cellAt, slotAt, recAt, retentionOf}
+use Rattle.book.specs.Layout.{nPlace, lPlace, sPlace, jPlace, bPlace, uPlace, dayPlace, cursorPlace, retentionPlace, entryPlace, cellPlace, slotPlace, recPlace, sizesOf, entryOf, cellOf, slotOf, recOf, bookOf, Holds}
+
+module _ (b : List ℕ) where
+  pub n-at : num b nPlace ≡ bookOf b .sizes .n
+  unfolding bookOf
+  n-at = refl
+
+  pub l-at : num b lPlace ≡ bookOf b .sizes .l
+  unfolding bookOf
+  l-at = refl
+
+  pub s-at : num b sPlace ≡ bookOf b .sizes .s
+  unfolding bookOf
+  s-at = refl
+
+  pub j-at : num b jPlace ≡ bookOf b .sizes .j
+  unfolding bookOf
+  j-at = refl
+
+  pub b-at : num b bPlace ≡ length (bookOf b .slots)
+  unfolding bookOf
+  b-at = sym (length-tab (num b bPlace) (λ q. slotOf b (slotPlace (sizesOf b) q)))
+
+  pub u-at : num b uPlace ≡ length (bookOf b .records)
+  unfolding bookOf
+  u-at = sym (length-tab (num b uPlace) (λ q. recOf b (recPlace (sizesOf b) q)))
+
+  pub day-at : num b dayPlace ≡ bookOf b .day
+  unfolding bookOf
+  day-at = refl
+
+  pub cursor-at : num b cursorPlace ≡ bookOf b .cursor
+  unfolding bookOf
+  cursor-at = refl
+
+  pub retention-at : (v : ℕ) → v < volumes → num b (retentionPlace v) ≡ retentionOf (bookOf b) v
+  unfolding bookOf
+  retention-at v hv = sym (getD-tab volumes (λ v. num b (retentionPlace v)) v 0 hv)
+
+  entry-at : (p : ℕ) → p < bookOf b .sizes .n → entryOf b p ≡ entryAt (bookOf b .entries) p
+  unfolding bookOf
+  entry-at p hp = sym (getD-tab (num b nPlace) (entryOf b) p freeEntry hp)
+
+  module _ (p i : ℕ) (hp : p < bookOf b .sizes .n) (e : i ≡ entryPlace p) where
+    pub count-at : getD b i 0 ≡ entryAt (bookOf b .entries) p .count
+    count-at = rw (e, ← entry-at p hp)
+
+    pub held-at : eqb (getD b (i + 1) 0) 1 ≡ entryAt (bookOf b .entries) p .held
+    held-at = rw (e, ← entry-at p hp)
+
+    pub expiry-at : num b (i + 2) ≡ entryAt (bookOf b .entries) p .expiry
+    expiry-at = rw (e, ← entry-at p hp)
+
+    pub print-at : Holds b → part b (i + 4) printSize ≡ entryAt (bookOf b .entries) p .print
+    print-at h =
+        rw (e, ← entry-at p hp)
+        (sym (part-tab printSize b (entryPlace p + 4) (λ k. getD b (entryPlace p + 4 + k) 0) (omega (arith, h)) (λ k hk. refl)))
+
+  pub cell-at : (v l i : ℕ) → v < volumes → l < bookOf b .sizes .l → i ≡ cellPlace (bookOf b .sizes) v l → num b i ≡ cellAt (bookOf b .maps) v l
+  unfolding bookOf
+  cell-at v l i hv hl e =
+      rw (e, getD-tab volumes (λ v. tab (num b lPlace) (cellOf b v)) v [] hv, getD-tab (num b lPlace) (cellOf b v) l unmapped hl)
+
+  pub slot-at : (q i : ℕ) → q < length (bookOf b .slots) → i ≡ slotPlace (bookOf b .sizes) q → slotOf b i ≡ slotAt (bookOf b .slots) q
+  unfolding bookOf
+  slot-at q i hq e = rw e (sym (getD-tab (num b bPlace) (λ q. slotOf b (slotPlace (sizesOf b) q)) q noSlot (rw b-at hq)))
+
+  pub rec-at : (q i : ℕ) → q < length (bookOf b .records) → i ≡ recPlace (bookOf b .sizes) q → recOf b i ≡ recAt (bookOf b .records) q
+  unfolding bookOf
+  rec-at q i hq e = rw e (sym (getD-tab (num b uPlace) (λ q. recOf b (recPlace (sizesOf b) q)) q noRec (rw u-at hq)))
+
+-- cell l of row v, both bytes, in maps of w cells
+pub cell-room : (v l w : ℕ) → v < volumes → l < w → v * (w * 2) + (l * 2 + 1) < volumes * (w * 2)
+cell-room v l w hv hl = inside v (l * 2 + 1) volumes (w * 2) hv (omega arith)

@@ -1,0 +1,125 @@
+// The header's numbers and the retentions.
+ghost use mathlib.Core.Path.{_≡_};
+ghost use Prim.Native.Nat.{_<_};
+ghost use lib.ListN.{length};
+ghost use Rattle.book.specs.Book.{volumes, retentionOf};
+ghost use Rattle.book.specs.Layout.{bookOf, Holds, Is};
+ghost use Rattle.book.specs.Next.{withDay, withCursor, withRetention};
+use words::put_u16;
+use words::u16_at;
+
+pub const LAYOUT_NUMBER: u16 = 1;
+
+pub const HEADER_SIZE: usize = 20;
+
+// Where the header's numbers stand.
+pub const N_PLACE: usize = 2;
+
+pub const L_PLACE: usize = 4;
+
+pub const S_PLACE: usize = 6;
+
+pub const J_PLACE: usize = 8;
+
+pub const B_PLACE: usize = 10;
+
+pub const U_PLACE: usize = 12;
+
+pub const DAY_PLACE: usize = 14;
+
+pub const CURSOR_PLACE: usize = 16;
+
+pub const ZERO_PLACE: usize = 18;
+
+// N, the pool's blocks.
+pub fn blocks(book: &[u8]) -> u16
+    requires { ⌜ Holds (now book) ⌝ }
+    ensures { λ r. ⌜ r ≡ bookOf (now (book .entry)) .sizes .n ⌝ }
+{
+    u16_at(book, N_PLACE)
+}
+
+// L, the logical blocks of a volume.
+pub fn cells(book: &[u8]) -> u16
+    requires { ⌜ Holds (now book) ⌝ }
+    ensures { λ r. ⌜ r ≡ bookOf (now (book .entry)) .sizes .l ⌝ }
+{
+    u16_at(book, L_PLACE)
+}
+
+// S, the backup slots.
+pub fn slots(book: &[u8]) -> u16
+    requires { ⌜ Holds (now book) ⌝ }
+    ensures { λ r. ⌜ r ≡ bookOf (now (book .entry)) .sizes .s ⌝ }
+{
+    u16_at(book, S_PLACE)
+}
+
+// J, the journal's slots.
+pub fn journal(book: &[u8]) -> u16
+    requires { ⌜ Holds (now book) ⌝ }
+    ensures { λ r. ⌜ r ≡ bookOf (now (book .entry)) .sizes .j ⌝ }
+{
+    u16_at(book, J_PLACE)
+}
+
+// B, the slots used.
+pub fn used_slots(book: &[u8]) -> u16
+    requires { ⌜ Holds (now book) ⌝ }
+    ensures { λ r. ⌜ r ≡ length (bookOf (now (book .entry)) .slots) ⌝ }
+{
+    u16_at(book, B_PLACE)
+}
+
+// U, the records used.
+pub fn used_records(book: &[u8]) -> u16
+    requires { ⌜ Holds (now book) ⌝ }
+    ensures { λ r. ⌜ r ≡ length (bookOf (now (book .entry)) .records) ⌝ }
+{
+    u16_at(book, U_PLACE)
+}
+
+pub fn day(book: &[u8]) -> u16
+    requires { ⌜ Holds (now book) ⌝ }
+    ensures { λ r. ⌜ r ≡ bookOf (now (book .entry)) .day ⌝ }
+{
+    u16_at(book, DAY_PLACE)
+}
+
+pub fn cursor(book: &[u8]) -> u16
+    requires { ⌜ Holds (now book) ⌝ }
+    ensures { λ r. ⌜ r ≡ bookOf (now (book .entry)) .cursor ⌝ }
+{
+    u16_at(book, CURSOR_PLACE)
+}
+
+// The days that volume v keeps a replaced backup, 0 where it isn't enrolled.
+pub fn retention(book: &[u8], v: u16) -> u16
+    requires { ⌜ Holds (now book) ⌝ }
+    requires { ⌜ v < volumes ⌝ }
+    ensures { λ r. ⌜ r ≡ retentionOf (bookOf (now (book .entry))) v ⌝ }
+{
+    u16_at(book, HEADER_SIZE + (v as usize) * 2)
+}
+
+pub fn set_day(book: &mut [u8], day: u16)
+    requires { ⌜ Holds (now book) ⌝ }
+    ensures { λ _. ⌜ Is (now (book .exit)) (withDay day (bookOf (now (book .entry)))) ⌝ }
+{
+    put_u16(book, DAY_PLACE, day);
+}
+
+pub fn set_cursor(book: &mut [u8], cursor: u16)
+    requires { ⌜ Holds (now book) ⌝ }
+    ensures { λ _. ⌜ Is (now (book .exit)) (withCursor cursor (bookOf (now (book .entry)))) ⌝ }
+{
+    put_u16(book, CURSOR_PLACE, cursor);
+}
+
+pub fn set_retention(book: &mut [u8], v: u16, days: u16)
+    requires { ⌜ Holds (now book) ⌝ }
+    requires { ⌜ v < volumes ⌝ }
+    ensures { λ _. ⌜ Is (now (book .exit)) (withRetention v days (bookOf (now (book .entry)))) ⌝ }
+{
+    put_u16(book, HEADER_SIZE + (v as usize) * 2, days);
+}

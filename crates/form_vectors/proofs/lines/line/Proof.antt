@@ -1,0 +1,25 @@
+-- `form_vectors::lines::line` is safe: what is lent is as long as it says.
+use mathlib.Core.Path.{sym}
+use native.Mathlib.Omega.{arith}
+use lib.Seq.{length-take-le}
+use borrow.Author.Needs.{needs}
+use Rattle.form_vectors.proofs.lines.line.Statement.{statement}
+use Rattle.form_vectors.proofs.lines.line.Tie as tie
+
+slice-aggregate-form : tie.Need-slice-aggregate-form
+slice-aggregate-form c = sym (length-take-le _ _ (omega arith))
+
+form-requires : tie.Need-form-requires
+form-requires c κs = search needs
+
+show-requires : tie.Need-show-requires
+show-requires c κs = search needs
+
+returns : tie.Need-returns
+returns c = search needs
+
+returns-2 : tie.Need-returns-2
+returns-2 c = search needs
+
+pub line-spec : {M : Type 1} → statement M
+line-spec = tie.close (tie.spec slice-aggregate-form form-requires show-requires returns returns-2)
