@@ -1,0 +1,68 @@
+-- `count_entries`: the entries before p are counted.
+use Prim.Native.Nat.{_-_, _≤_}
+use native.Mathlib.Omega.{arith}
+use Rattle.book.specs.Layout.{bookOf}
+use Rattle.pages.specs.Counts.{few-less, Passing, passing-none, passing-more, passing-all}
+use Rattle.pages.proofs.counts.count_entries.Statement.{statement}
+use Rattle.pages.proofs.counts.count_entries.Tie as tie
+
+abbrev Inv-loop : tie.InvT-loop
+Inv-loop book n t₀ p₀ t p = (p ≤ n) × Passing (bookOf book .entries) p t
+
+abbrev μ-loop : tie.MeasureT-loop
+μ-loop book n t₀ p₀ t p = n - p
+
+blocks-requires : tie.Need-blocks-requires Inv-loop μ-loop
+blocks-requires c κs = c .before .pre
+
+loop-holds : tie.Need-loop-holds Inv-loop μ-loop
+loop-holds c = (omega arith, passing-none _)
+
+is-held-requires : tie.Need-is-held-requires Inv-loop μ-loop
+is-held-requires c κs = (c .before .before .before .before .pre, omega arith)
+
+count-requires : tie.Need-count-requires Inv-loop μ-loop
+count-requires c κs = (c .before .before .before .before .before .pre, omega arith)
+
+count-entry-requires : tie.Need-count-entry-requires Inv-loop μ-loop
+count-entry-requires c κs =
+    let l = c .before .before .before .loop in
+    let s = c .before .before .before .before .before .before in
+    few-less (l .p) 4096 (omega (arith, s .pre .n)) (l .inv .1 .few)
+
+add-p : tie.Need-add-p Inv-loop μ-loop
+add-p c = omega (arith, c .before .before .before .before .before .before .before .pre .n)
+
+loop-less : tie.Need-loop-less Inv-loop μ-loop
+loop-less c = omega arith
+
+loop-again : tie.Need-loop-again Inv-loop μ-loop
+loop-again c =
+    let k = c .before in
+    let l = k .before .before .before .loop in
+    let s = k .before .before .before .before .before .before in (
+      omega arith,
+      passing-more (omega (arith, s .pre .sized .entries, s .pre .n)) (k .count .ok) (k .before .is-held .ensures) (k .count .ensures) (c .count-entry .ensures) (l .inv .1),
+    )
+
+returns : tie.Need-returns Inv-loop μ-loop
+returns c =
+    let l = c .before .loop in
+    let s = c .before .before .before .before in
+    (passing-all (omega (arith, s .pre .sized .entries)) (l .inv .1), few-less (l .p) 4096 (omega (arith, s .pre .n)) (l .inv .1 .few))
+
+pub count-entries-spec : {M : Type 1} → statement M
+count-entries-spec =
+    tie.close
+    (tie.spec
+    Inv-loop
+    μ-loop
+    blocks-requires
+    loop-holds
+    is-held-requires
+    count-requires
+    count-entry-requires
+    add-p
+    loop-less
+    loop-again
+    returns)
