@@ -1,0 +1,129 @@
+-- The claims on cases a to j: a fresh book that meets their hypotheses, and what they say there. Assumes nothing.
+use Prim.Native.Nat.{ℕ, _*_, _≤_}
+use mathlib.Core.Path.{_≡_, refl}
+use mathlib.Core.Bool.{true, false}
+use mathlib.Core.List.{List, [], _∷_, _++_, map}
+use native.Mathlib.Omega.{arith}
+use lib.ListN.{take, drop, replicate}
+use Rattle.list.specs.Changes.{changeCount}
+use Rattle.book.specs.Layout.{bytes}
+use Rattle.book.specs.Next.{fresh}
+use Rattle.model.specs.Plain.{marked}
+use Rattle.model.specs.Calls.{Call, backup, collect, read, audit, Answer, number, backed, freed, block, sound}
+use Rattle.model.specs.History.{Sent, historyOf, dayOf, historyRead}
+use Rattle.model.specs.Claims.{Fresh, ourAnswers, plainAnswers, ourAnswer, plainEnd, entryBefore, entryAfter, changesName}
+use Rattle.cases.proofs.Open.{model}
+use Rattle.cases.proofs.Letters.{A, B, C, E, blockOf, over, list}
+use Rattle.cases.proofs.Cases.{sizes, callOf, table, calls}
+
+-- ---- the hypotheses can be met
+
+unfoldable pub clinic : Fresh
+unfolding model
+clinic = record {
+  sizes = sizes;
+  given = replicate 276 170;
+  book = bytes (fresh sizes);
+  pool = replicate 2048 255;
+  spare = 276;
+  formatted = refl;
+  poolEnough = refl;
+  spareEnough = omega arith;
+}
+
+-- ---- Lists: what both sides answer, what collect on 19 frees, which entries backup d may move
+
+unfoldable pub answers : List Answer
+answers =
+    number 0
+    ∷ number 0
+    ∷ backed 1 2 2
+    ∷ backed 1 0 1
+    ∷ backed 2 1 2
+    ∷ backed 2 0 2
+    ∷ freed 0
+    ∷ block (blockOf A)
+    ∷ number 16
+    ∷ freed 1
+    ∷ number 16
+    ∷ backed 3 2 2
+    ∷ number 12
+    ∷ number 11
+    ∷ sound true
+    ∷ []
+
+-- the calls before g's collect, and before d
+unfoldable pub beforeG : List Call
+beforeG = take 9 calls
+
+unfoldable pub beforeD : List Call
+beforeD = take 5 calls
+
+unfoldable pub backupD : Call
+backupD = backup 1 9 (list 3 (B ∷ []))
+
+pub record ListsSay : Type 0 where
+  pub ours : ourAnswers clinic calls ≡ answers
+  pub plain : plainAnswers clinic calls ≡ answers
+  -- the splits that `freeing` and `touching` speak of
+  pub splitG : calls ≡ beforeG ++ (collect 19 ∷ drop 10 calls)
+  pub splitD : calls ≡ beforeD ++ (backupD ∷ drop 6 calls)
+  pub collected : ourAnswer clinic beforeG (collect 19) ≡ freed 1
+  -- blocks 0 to 2 are held before; the plain store marks 1 and 2, and 0 is freed
+  pub held : map (λ p. entryBefore clinic beforeG p .held) (0 ∷ 1 ∷ 2 ∷ 3 ∷ []) ≡ true ∷ true ∷ true ∷ false ∷ []
+  pub marks : map (marked (plainEnd clinic beforeG) 19) (0 ∷ 1 ∷ 2 ∷ []) ≡ false ∷ true ∷ true ∷ []
+  pub heldAfter : map (λ p. entryAfter clinic beforeG (collect 19) p .held) (0 ∷ 1 ∷ 2 ∷ []) ≡ false ∷ true ∷ true ∷ []
+  -- backup d names its old block 0 and its new block 1
+  pub names : map (changesName (plainEnd clinic beforeD) 1 9 (list 3 (B ∷ []))) (0 ∷ 1 ∷ 2 ∷ 3 ∷ []) ≡ true ∷ true ∷ false ∷ false ∷ []
+  -- .. and a refused one names none
+  pub refusedNames : map (changesName (plainEnd clinic beforeD) 1 9 (list 3 (B ∷ B ∷ []))) (0 ∷ 1 ∷ 2 ∷ 3 ∷ []) ≡ false ∷ false ∷ false ∷ false ∷ []
+
+pub lists-say : ListsSay
+unfolding model over list callOf table calls clinic answers beforeG beforeD backupD
+lists-say = record {
+  ours = refl;
+  plain = refl;
+  splitG = refl;
+  splitD = refl;
+  collected = refl;
+  held = refl;
+  marks = refl;
+  heldAfter = refl;
+  names = refl;
+  refusedNames = refl;
+}
+
+-- ---- Images: what volume 0 sent and when, and reads of it worked out from that
+
+abbrev pub days : List Sent → List ℕ
+days ss = map (λ (s : Sent). s .day) ss
+
+unfoldable pub worked : ℕ → ℕ → Answer
+worked k lbn = historyRead 4 (historyOf 0 calls answers) (dayOf calls answers) k lbn
+
+pub record ImagesSay : Type 0 where
+  pub retention : historyOf 0 calls answers .retention ≡ 10
+  pub sent : days (historyOf 0 calls answers .sent) ≡ 5 ∷ 8 ∷ 20 ∷ []
+  pub headerDay : dayOf calls answers ≡ 20
+  pub reads : worked 3 0 ∷ worked 2 1 ∷ worked 3 3 ∷ worked 2 3 ∷ worked 2 4 ∷ worked 1 0 ∷ worked 4 0 ∷ []
+      ≡ block (blockOf C) ∷ block (blockOf B) ∷ block (blockOf E) ∷ number 18 ∷ number 17 ∷ number 16 ∷ number 15 ∷ []
+  -- a volume that never enrolled
+  pub absent : historyRead 4 (historyOf 2 calls answers) 20 1 0 ≡ number 5
+  pub ours : map (ourAnswer clinic calls) (read 0 3 0 ∷ read 0 2 1 ∷ read 0 3 3 ∷ read 0 2 3 ∷ read 0 2 4 ∷ read 0 1 0 ∷ read 0 4 0 ∷ [])
+      ≡ block (blockOf C) ∷ block (blockOf B) ∷ block (blockOf E) ∷ number 18 ∷ number 17 ∷ number 16 ∷ number 15 ∷ []
+
+pub images-say : ImagesSay
+unfolding model over list callOf table calls clinic answers worked
+images-say = record { retention = refl; sent = refl; headerDay = refl; reads = refl; absent = refl; ours = refl }
+
+-- ---- Corollaries
+
+pub record CorollariesSay : Type 0 where
+  pub audits : ourAnswer clinic calls audit ≡ sound true
+  pub backs : ourAnswer clinic beforeD backupD ≡ backed 2 0 2
+  pub bound : 2 ≤ 2 * changeCount (list 3 (B ∷ []))
+  pub collects : ourAnswer clinic (beforeG ++ (collect 19 ∷ [])) (collect 19) ≡ freed 0
+
+pub corollaries-say : CorollariesSay
+unfolding model over list callOf table calls clinic beforeG beforeD backupD
+corollaries-say = record { audits = refl; backs = refl; bound = omega arith; collects = refl }

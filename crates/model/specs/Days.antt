@@ -1,0 +1,28 @@
+-- What days decide (document 01, "kept", number 7): on the box and on the plain store alike. Assumes nothing.
+use Prim.Native.Nat.{ℕ, _+_}
+use mathlib.Core.Bool.{Bool, true, not, _&&_, _||_}
+use mathlib.Core.List.{List, [], _∷_}
+use lib.ListN.{length, drop}
+use lib.Dec.{leb, ltb, eqb}
+use Rattle.words.specs.Lists.{lastOf}
+
+-- "if it is the volume's newest, or the day of backup k + 1 plus R is ≥ D": by the days of the backups after it
+abbrev pub keptBefore : List ℕ → ℕ → ℕ → Bool
+keptBefore [] r d = true
+keptBefore (t ∷ ts) r d = leb d (t + r)
+
+-- "Backup k is kept at day D", by the days of the volume's backups and its retention
+unfoldable pub kept : List ℕ → ℕ → ℕ → ℕ → Bool
+kept ds r d k = keptBefore (drop k ds) r d
+
+-- number 7: "The day is above 60,000, below the header's"
+unfoldable pub badDay : ℕ → ℕ → Bool
+badDay now t = ltb 60000 t || ltb t now
+
+-- .. "or for backup not above the volume's last backup"
+unfoldable pub notAfter : List ℕ → ℕ → Bool
+notAfter ds t = not (eqb (length ds) 0) && leb t (lastOf 0 ds)
+
+-- number 6: "The retention is 0 or above 5,000"
+unfoldable pub badRetention : ℕ → Bool
+badRetention r = eqb r 0 || ltb 5000 r

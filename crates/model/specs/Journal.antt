@@ -1,0 +1,37 @@
+-- The journal: the book's used slots, each with its records, and the backups of a volume. Assumes nothing.
+use Prim.Native.Nat.{ℕ}
+use mathlib.Core.Bool.{Bool, not, _||_}
+use mathlib.Core.List.{List, [], _∷_, map}
+use lib.ListN.{take, drop}
+use lib.Dec.{ltb, eqb}
+use Rattle.words.specs.Lists.{those}
+use Rattle.book.specs.Book.{Slot, Rec, Book}
+use Rattle.book.specs.Form.{enrolled}
+
+pub record Backup : Type 0 where
+  pub volume : ℕ
+  pub day : ℕ
+  pub records : List Rec
+
+-- "the first pair starts at 0, each next where the last ended"
+abbrev pub journalOf : List Slot → List Rec → List Backup
+journalOf [] rs = []
+journalOf (t ∷ ts) rs =
+    record { volume = t .volume; day = t .day; records = take (t .number) rs } ∷ journalOf ts (drop (t .number) rs)
+
+unfoldable pub journal : Book → List Backup
+journal x = journalOf (x .slots) (x .records)
+
+-- "A volume's k-th used slot is its backup number k, from 1": element k - 1, and the backups after k are `drop k`
+abbrev pub backupsIn : ℕ → List Backup → List Backup
+backupsIn v bs = those (λ b. eqb (b .volume) v) bs
+
+unfoldable pub backups : Book → ℕ → List Backup
+backups x v = backupsIn v (journal x)
+
+unfoldable pub days : Book → ℕ → List ℕ
+days x v = map (λ b. b .day) (backups x v)
+
+-- number 5 for a volume that has to be enrolled: "above 7, .. or not enrolled"
+unfoldable pub noVolume : Book → ℕ → Bool
+noVolume x v = ltb 7 v || not (enrolled x v)

@@ -1,0 +1,134 @@
+-- Backup on the plain store (document 01, "The plain store"). Assumes nothing.
+use Prim.Native.Nat.{ℕ, suc, _+_, _%_}
+use mathlib.Core.Bool.{Bool, false, not, _||_}
+use mathlib.Core.List.{List, [], _∷_, _++_, map}
+use mathlib.Core.Option.{Option, none, some}
+use lib.ListN.{length, getD, take, drop, set}
+use lib.Dec.{leb, ltb, eqb}
+use Rattle.words.specs.Blocks.{unmapped}
+use Rattle.words.specs.Choice.{if_then_else_}
+use Rattle.words.specs.Lists.{countOf, placeFrom, orElse, joined, same, sum}
+use Rattle.words.specs.Outcome.{Outcome, refused, accepted, andThen, unless}
+use Rattle.list.specs.Changes.{Change, changes, changeCount, listNumber}
+use Rattle.model.specs.Days.{badDay, notAfter}
+use Rattle.model.specs.Plain.{Block, free, held, Image, Volume, Plain, withDay, withBlocks, withVolume, volumeAt, isEnrolled, daysOf, current, currentMaps, isFree, bytesOf}
+
+-- "9 and 10 count all backups and changes so far"
+unfoldable pub backupsSoFar : Plain → ℕ
+backupsSoFar q = sum (map (λ (u : Volume). length (u .images)) (q .volumes))
+
+abbrev pub changesIn : Volume → ℕ
+changesIn u = sum (map (λ (i : Image). i .changes) (u .images))
+
+unfoldable pub changesSoFar : Plain → ℕ
+changesSoFar q = sum (map changesIn (q .volumes))
+
+-- numbers 5 to 10
+unfoldable pub backupNumber : Plain → ℕ → ℕ → List ℕ → ℕ
+backupNumber q v t list =
+    if ltb 7 v || not (isEnrolled q v) then 5 else
+    if badDay (q .day) t || notAfter (daysOf (volumeAt q v .images)) t then 7 else
+    if not (eqb (listNumber (q .sizes .l) list) 0) then 8 else
+    if leb (q .sizes .s) (backupsSoFar q) then 9 else
+    if ltb (q .sizes .j) (changesSoFar q + changeCount list) then 10 else
+    0
+
+-- ---- the changes: "for each change runs steps 1 and 2 and sets the cell in the copy"
+
+pub record Work : Type 0 where
+  pub blocks : List Block
+  pub cursor : ℕ
+  pub copy : List ℕ
+  pub taken : ℕ
+  pub touched : ℕ
+
+pub record Placed : Type 0 where
+  pub pbn : ℕ
+  pub work : Work
+
+abbrev pub hasPrint : List ℕ → Block → Bool
+hasPrint f free = false
+hasPrint f (held g b) = same g f
+
+-- steps 1 and 2, with 11 and 12
+unfoldable pub findHeld : List Block → List ℕ → Option ℕ
+findHeld bs f = placeFrom 0 (hasPrint f) bs
+
+unfoldable pub findFree : List Block → ℕ → Option ℕ
+findFree bs c = orElse (placeFrom c isFree (drop c bs)) (placeFrom 0 isFree (take c bs))
+
+unfoldable pub takeBlock : Change → ℕ → Work → Work
+takeBlock c p w = record {
+  blocks = set (w .blocks) p (held (c .print) (c .block));
+  cursor = suc p % length (w .blocks);
+  copy = w .copy;
+  taken = suc (w .taken);
+  touched = w .touched;
+}
+
+unfoldable pub placeFree : Change → Work → Option ℕ → Outcome Placed
+placeFree c w none = refused 12
+placeFree c w (some p) = accepted (record { pbn = p; work = takeBlock c p w })
+
+unfoldable pub placeHeld : Change → Work → Option ℕ → Outcome Placed
+placeHeld c w none = placeFree c w (findFree (w .blocks) (w .cursor))
+placeHeld c w (some p) = if same (bytesOf (getD (w .blocks) p free)) (c .block) then accepted (record { pbn = p; work = w }) else refused 11
+
+unfoldable pub place : Change → Work → Outcome Placed
+place c w = placeHeld c w (findHeld (w .blocks) (c .print))
+
+-- 14: "255 cells of current maps name the found block, this list's earlier changes made and this cell's before taken out"
+unfoldable pub moveNumber : List (List ℕ) → ℕ → ℕ → Placed → ℕ
+moveNumber maps v lbn d =
+    if eqb (countOf (eqb (d .pbn)) (joined (set maps v (set (d .work .copy) lbn unmapped)))) 255 then 14 else 0
+
+-- "Taken, touched and freed are counted as above"
+unfoldable pub moved : ℕ → Placed → Work
+moved lbn d = record {
+  blocks = d .work .blocks;
+  cursor = d .work .cursor;
+  copy = set (d .work .copy) lbn (d .pbn);
+  taken = d .work .taken;
+  touched = d .work .touched + (if eqb (getD (d .work .copy) lbn unmapped) unmapped then 1 else 2);
+}
+
+unfoldable pub moveTo : List (List ℕ) → ℕ → ℕ → Placed → Outcome Work
+moveTo maps v lbn d = unless (moveNumber maps v lbn d) (accepted (moved lbn d))
+
+-- maps are the current maps before the call, and v is the volume
+unfoldable pub changeStep : List (List ℕ) → ℕ → Change → Work → Outcome Work
+changeStep maps v c w = andThen (place c w) (moveTo maps v (c .lbn))
+
+abbrev pub runChanges : List (List ℕ) → ℕ → List Change → Work → Outcome Work
+runChanges maps v [] w = accepted w
+runChanges maps v (c ∷ cs) w = andThen (changeStep maps v c w) (λ w′. runChanges maps v cs w′)
+
+-- ---- the whole call: "copies the current map, .. and appends the copy with T"
+
+pub record Backed : Type 0 where
+  pub store : Plain
+  pub number : ℕ
+  pub taken : ℕ
+  pub touched : ℕ
+
+unfoldable pub begun : Plain → ℕ → Work
+begun q v = record { blocks = q .blocks; cursor = q .cursor; copy = current (q .sizes) (volumeAt q v); taken = 0; touched = 0 }
+
+unfoldable pub withImage : Image → Volume → Volume
+withImage i u = record { retention = u .retention; images = u .images ++ (i ∷ []) }
+
+unfoldable pub closed : Plain → ℕ → ℕ → ℕ → Work → Backed
+closed q v t n w = record {
+  store =
+      withDay t
+      (withBlocks (w .blocks) (w .cursor)
+      (withVolume v (withImage (record { day = t; cells = w .copy; changes = n }) (volumeAt q v)) q));
+  number = suc (length (volumeAt q v .images));
+  taken = w .taken;
+  touched = w .touched;
+}
+
+unfoldable pub backup : Plain → ℕ → ℕ → List ℕ → Outcome Backed
+backup q v t list =
+    unless (backupNumber q v t list)
+    (andThen (runChanges (currentMaps q) v (changes list) (begun q v)) (λ w. accepted (closed q v t (changeCount list) w)))

@@ -1,0 +1,1 @@
+// The model has no code: its definitions and claims are in specs/.
