@@ -1,0 +1,32 @@
+-- What an audit leaves on each way out. Assumes nothing.
+use Prim.Native.Nat.{ℕ, zero, suc}
+use mathlib.Core.Path.{_≡_, refl, _∙_}
+use mathlib.Core.Bool.{true, false}
+use mathlib.Core.List.{List}
+use Rattle.words.specs.Outcome.{Outcome, refused, accepted, unless}
+use Rattle.book.specs.Layout.{bookOf}
+use Rattle.book.specs.Form.{formNumber}
+use Rattle.model.specs.Audit.{audit}
+use Rattle.model.specs.OnBytes.{auditBytes}
+use Rattle.auditor.specs.Contracts.{Audited}
+
+unless-refused : {A : Type 0} (k : ℕ) (o : Outcome A) → (k ≡ 0 → ⊥) → unless k o ≡ refused k
+unless-refused zero o h = absurd (h refl)
+unless-refused (suc k) o h = refl
+
+pub audit-refused : (b : List ℕ) (sound : ℕ) {r : ℕ} → r ≡ formNumber b → (r ≡ 0 → ⊥) → Audited b sound r sound
+unfolding auditBytes
+audit-refused b sound {r} e h =
+    let z : auditBytes b ≡ refused (formNumber b) = unless-refused (formNumber b) (accepted (audit (bookOf b))) (λ q. h (e ∙ q)) in
+    record { number = rw z e; answer = rw z }
+
+module _ (b : List ℕ) (sound : ℕ) (form : formNumber b ≡ 0) where
+  answered : auditBytes b ≡ accepted (audit (bookOf b))
+  unfolding auditBytes
+  answered = rw form
+
+  pub audit-yes : audit (bookOf b) ≡ true → Audited b sound 0 1
+  audit-yes e = record { number = rw answered; answer = rw (answered, e) }
+
+  pub audit-no : audit (bookOf b) ≡ false → Audited b sound 0 0
+  audit-no e = record { number = rw answered; answer = rw (answered, e) }

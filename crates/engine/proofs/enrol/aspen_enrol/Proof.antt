@@ -1,0 +1,68 @@
+-- `engine::enrol::aspen_enrol` meets its contract: each way out is one of the definition.
+use mathlib.Core.Path.{_≡_, sym, _∙_}
+use denote.Ref.{now}
+use borrow.Author.Needs.{needs}
+use Rattle.book.specs.Layout.{bookOf, Holds}
+use Rattle.book.specs.Form.{formNumber}
+use Rattle.book.specs.InForm.{holds-form}
+use Rattle.model.specs.Enrol.{enrolNumber}
+use Rattle.model.specs.EnrolAgree.{enrol-volume}
+use Rattle.engine.specs.EnrolExits.{enrol-misformed, enrol-refused, enrol-done}
+use Rattle.engine.proofs.enrol.aspen_enrol.Statement.{statement}
+use Rattle.engine.proofs.enrol.aspen_enrol.Tie as tie
+
+-- what the check of form says
+formed : (c : tie.Else1) → formNumber (now (c .before .before .before .before .args .book)) ≡ 0
+formed c = sym (c .before .form .ensures) ∙ c .if1 .left
+
+holds : (c : tie.Else1) → Holds (now (c .before .before .before .before .args .book))
+holds c = holds-form _ (λ i. c .before .before .before .slice-known .given i .fits) (formed c)
+
+allowed : (c : tie.Else2) → enrolNumber (bookOf (now (c .before .before .before .before .before .before .before .args .book)))
+    (c .before .before .before .before .before .before .before .args .volume)
+    (c .before .before .before .before .before .before .before .args .retention)
+    ≡ 0
+allowed c = sym (c .before .enrol-number .ensures) ∙ c .if2 .left
+
+form-requires : tie.Need-form-requires
+form-requires c κs = search needs
+
+same-length : tie.Need-same-length
+same-length c = search needs
+
+returns : tie.Need-returns
+returns c = enrol-misformed _ _ _ _ (c .before .form .ensures) (c .if1 .taken)
+
+enrol-number-requires : tie.Need-enrol-number-requires
+enrol-number-requires c κs = holds (c .before)
+
+same-length-2 : tie.Need-same-length-2
+same-length-2 c = search needs
+
+returns-2 : tie.Need-returns-2
+returns-2 c = enrol-refused _ _ _ (formed (c .before .before .before)) _ (c .before .enrol-number .ensures) (c .if2 .taken)
+
+set-retention-requires : tie.Need-set-retention-requires
+set-retention-requires c κs = let d = c .before in (holds (d .before .before .before), enrol-volume _ _ _ (allowed d) .0)
+
+same-length-3 : tie.Need-same-length-3
+same-length-3 c = search needs
+
+returns-3 : tie.Need-returns-3
+returns-3 c =
+    let d = c .before .before .before .before in
+    enrol-done _ _ _ (formed (d .before .before .before)) (allowed d) (c .before .before .set-retention .ensures)
+
+pub aspen-enrol-spec : {M : Type 1} → statement M
+aspen-enrol-spec =
+    tie.close
+    (tie.spec
+    form-requires
+    same-length
+    returns
+    enrol-number-requires
+    same-length-2
+    returns-2
+    set-retention-requires
+    same-length-3
+    returns-3)

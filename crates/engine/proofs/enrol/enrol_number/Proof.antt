@@ -1,0 +1,36 @@
+-- `engine::enrol::enrol_number` meets its contract: each way out decides the definition's tests.
+use mathlib.Core.Path.{_≡_, sym, _∙_}
+use native.Mathlib.Omega.{arith}
+use borrow.Author.Needs.{needs}
+use denote.Ref.{now}
+use Rattle.book.specs.Book.{retentionOf}
+use Rattle.book.specs.Layout.{bookOf}
+use Rattle.engine.specs.EnrolExits.{number-above, number-enrolled, number-zero, number-long, number-none}
+use Rattle.engine.proofs.enrol.enrol_number.Statement.{statement}
+use Rattle.engine.proofs.enrol.enrol_number.Tie as tie
+
+-- the volume has no retention yet
+none : (c : tie.Else2) → retentionOf (bookOf (now (c .before .before .before .before .args .book))) (c .before .before .before .before .args .volume) ≡ 0
+none c = sym (c .before .retention .ensures) ∙ c .if2 .left
+
+returns : tie.Need-returns
+returns c = sym (number-above _ _ _ (omega arith))
+
+retention-requires : tie.Need-retention-requires
+retention-requires c κs = search needs
+
+returns-2 : tie.Need-returns-2
+returns-2 c = sym (number-enrolled _ _ _ (λ e. c .if2 .taken (c .before .retention .ensures ∙ e)))
+
+returns-3 : tie.Need-returns-3
+returns-3 c = sym (number-zero _ _ _ (omega arith) (none (c .before)) (omega arith))
+
+returns-4 : tie.Need-returns-4
+returns-4 c = sym (number-long _ _ _ (omega arith) (none (c .before .before)) (omega arith))
+
+returns-5 : tie.Need-returns-5
+returns-5 c = sym (number-none _ _ _ (omega arith) (none (c .before .before)) (c .before .if3 .left) (omega arith))
+
+pub enrol-number-spec : {M : Type 1} → statement M
+enrol-number-spec =
+    tie.close (tie.spec returns retention-requires returns-2 returns-3 returns-4 returns-5)

@@ -1,0 +1,63 @@
+-- `engine::format::aspen_format` meets its contract: the two tests are those of number 1, and each way out leaves what the definition says.
+use mathlib.Core.Path.{_≡_}
+use mathlib.Core.Bool.{true}
+use denote.Ref.{now}
+use lib.ListN.{length}
+use native.Mathlib.Omega.{arith}
+use borrow.Author.Needs.{needs}
+use Rattle.words.specs.Choice.{failed, passed}
+use Rattle.book.specs.Book.{Sizes}
+use Rattle.book.specs.Layout.{bookSize}
+use Rattle.book.specs.Form.{sizesOk}
+use Rattle.book.specs.Holding.{bounds-ok}
+use Rattle.engine.specs.FormatExits.{format-sizes, format-length, format-done}
+use Rattle.engine.proofs.format.aspen_format.Statement.{statement}
+use Rattle.engine.proofs.format.aspen_format.Tie as tie
+
+-- the sizes that were given
+abbrev given : tie.Start → Sizes
+given s = record { n = s .args .n; l = s .args .l; s = s .args .s; j = s .args .j }
+
+-- what each test passed says
+sizes : (c : tie.Else1) → sizesOk (given (c .before .before .before)) ≡ true
+sizes c = passed (c .before .sizes-ok .ensures) (c .if1 .left)
+
+fits : (c : tie.Else2) → length (now (c .before .before .before .before .before .args .book)) ≡ bookSize (given (c .before .before .before .before .before))
+fits c = omega arith
+
+sizes-ok-requires : tie.Need-sizes-ok-requires
+sizes-ok-requires c κs = search needs
+
+returns : tie.Need-returns
+returns c = format-sizes _ (given (c .before .before .before)) (failed (c .before .sizes-ok .ensures) (c .if1 .taken))
+
+size-requires : tie.Need-size-requires
+size-requires c κs = search needs
+
+returns-2 : tie.Need-returns-2
+returns-2 c = format-length _ (given (c .before .before .before .before .before)) (λ e. omega arith)
+
+format-requires : tie.Need-format-requires
+format-requires c κs =
+    let d = c .before in
+    (bounds-ok (given (d .before .before .before .before .before)) (sizes (d .before .before)), fits d)
+
+same-length : tie.Need-same-length
+same-length c = search needs
+
+returns-3 : tie.Need-returns-3
+returns-3 c =
+    let d = c .before .before .before .before in
+    format-done _ (given (d .before .before .before .before .before)) (sizes (d .before .before)) (fits d) (c .before .before .format .ensures)
+
+pub aspen-format-spec : {M : Type 1} → statement M
+aspen-format-spec =
+    tie.close
+    (tie.spec
+    sizes-ok-requires
+    returns
+    size-requires
+    returns-2
+    format-requires
+    same-length
+    returns-3)

@@ -1,0 +1,75 @@
+-- In a book in form an image names blocks of the pool, or none. Assumes nothing.
+use Prim.Native.Nat.{ℕ, _<_}
+use mathlib.Core.Path.{_≡_, refl, _∙_}
+use mathlib.Core.Logic.{_⊎_}
+use mathlib.Core.Bool.{Bool, true, false, _&&_}
+use mathlib.Core.List.{List, [], _∷_}
+use mathlib.Core.Option.{Option, none, some}
+use lib.Dec.{ltb, eqb}
+use lib.ListN.{take, drop}
+use Rattle.words.specs.Appends.{all-append}
+use Rattle.words.specs.Blocks.{unmapped}
+use Rattle.words.specs.Choice.{if_then_else_, and-true, true-and}
+use Rattle.words.specs.Lists.{all, firstThat}
+use Rattle.words.specs.Places.{all-take, all-drop, all-those, all-weaker}
+use Rattle.book.specs.Book.{Sizes, Slot, Rec, Book, cellAt}
+use Rattle.book.specs.Conditions.{pbn-cases, cell-in}
+use Rattle.book.specs.Form.{pbnOk, recOk}
+use Rattle.book.specs.FormParts.{BookParts}
+use Rattle.model.specs.Journal.{Backup, journalOf, journal, backups}
+use Rattle.model.specs.Read.{recordsOf, beforeOr, image}
+
+-- what holds of all records holds of each backup's, and of the first that passes a test
+module _ (g : Rec → Bool) where
+  abbrev allOf : Backup → Bool
+  allOf b = all g (b .records)
+
+  all-journal : (ts : List Slot) (rs : List Rec) → all g rs ≡ true → all allOf (journalOf ts rs) ≡ true
+  all-journal [] rs e = refl
+  all-journal (t ∷ ts) rs e =
+      true-and (all g (take (t .number) rs)) (all allOf (journalOf ts (drop (t .number) rs)))
+      (all-take g (t .number) rs e)
+      (all-journal ts (drop (t .number) rs) (all-drop g (t .number) rs e))
+
+  all-records : (bs : List Backup) → all allOf bs ≡ true → all g (recordsOf bs) ≡ true
+  all-records [] e = refl
+  all-records (b ∷ bs) e =
+      let w = and-true (all g (b .records)) (all allOf bs) e in
+      all-append g (b .records) (recordsOf bs) ∙ true-and (all g (b .records)) (all g (recordsOf bs)) (w .0) (all-records bs (w .1))
+
+  first-passes : (f : Rec → Bool) (rs : List Rec) (r : Rec) → all g rs ≡ true → firstThat f rs ≡ some r → g r ≡ true
+  first-passes f [] r e h = let z = h in cc
+  first-passes f (q ∷ rs) r e h = go (f q) h (and-true (g q) (all g rs) e) (first-passes f rs r)
+    where
+      go : (t : Bool) → (if t then some q else firstThat f rs) ≡ some r → (g q ≡ true) × (all g rs ≡ true)
+          → (all g rs ≡ true → firstThat f rs ≡ some r → g r ≡ true) → g r ≡ true
+      go true k w ih = let a = w .0 in cc
+      go false k w ih = ih (w .1) k
+
+before-ok : (z : Sizes) (r : Rec) → recOk z r ≡ true → pbnOk (z .n) (r .before) ≡ true
+unfolding recOk
+before-ok z r e =
+    and-true (ltb (r .lbn) (z .l)) (pbnOk (z .n) (r .before)) (and-true (ltb (r .lbn) (z .l) && pbnOk (z .n) (r .before)) (ltb (r .after) (z .n)) e .0) .1
+
+abbrev beforeOk : Book → Rec → Bool
+beforeOk x r = pbnOk (x .sizes .n) (r .before)
+
+all-ok : (x : Book) → BookParts x → (v k : ℕ) → all (beforeOk x) (recordsOf (drop k (backups x v))) ≡ true
+unfolding backups journal
+all-ok x h v k =
+    all-records (beforeOk x) (drop k (backups x v))
+    (all-drop (allOf (beforeOk x)) k (backups x v)
+    (all-those (allOf (beforeOk x)) (λ b. eqb (b .volume) v) (journal x)
+    (all-journal (beforeOk x) (x .slots) (x .records) (all-weaker (recOk (x .sizes)) (beforeOk x) (x .records) (before-ok (x .sizes)) (h .records)))))
+
+pub image-in : (x : Book) → BookParts x → (v k lbn : ℕ) → (image x v k lbn < x .sizes .n) ⊎ (image x v k lbn ≡ unmapped)
+unfolding image
+image-in x h v k lbn = go (firstThat has (recordsOf (drop k (backups x v)))) refl
+  where
+    has : Rec → Bool
+    has r = eqb (r .lbn) lbn
+
+    go : (o : Option Rec) → firstThat has (recordsOf (drop k (backups x v))) ≡ o
+        → (beforeOr (cellAt (x .maps) v lbn) o < x .sizes .n) ⊎ (beforeOr (cellAt (x .maps) v lbn) o ≡ unmapped)
+    go none e = cell-in x h v lbn
+    go (some r) e = pbn-cases (x .sizes .n) (r .before) (first-passes (beforeOk x) has (recordsOf (drop k (backups x v))) r (all-ok x h v k) e)

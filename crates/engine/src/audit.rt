@@ -1,0 +1,10 @@
+// Audit: whether the book is sound.
+ghost use Rattle.auditor.specs.Contracts.{Audited};
+use auditor::audit::answer;
+
+#[no_mangle]
+pub extern "C" fn aspen_audit(book: &[u8], sound: &mut u16) -> u16
+    ensures { λ r. ⌜ Audited (now (book .entry)) (now (sound .entry)) r (now (sound .exit)) ⌝ }
+{
+    answer(book, sound)
+}

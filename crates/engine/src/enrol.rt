@@ -1,0 +1,43 @@
+// Enrol: a volume gets its retention.
+ghost use mathlib.Core.Path.{_≡_};
+ghost use Rattle.book.specs.Layout.{bookOf, Holds};
+ghost use Rattle.model.specs.Enrol.{enrolNumber};
+ghost use Rattle.engine.specs.Contracts.{Enrolled};
+use book::form;
+use book::header;
+
+// Numbers 5 and 6, or 0.
+fn enrol_number(book: &[u8], volume: u16, retention: u16) -> u16
+    requires { ⌜ Holds (now book) ⌝ }
+    ensures { λ r. ⌜ r ≡ enrolNumber (bookOf (now (book .entry))) volume retention ⌝ }
+{
+    if volume > 7 {
+        return 5;
+    }
+    if header::retention(book, volume) != 0 {
+        return 5;
+    }
+    if retention == 0 {
+        return 6;
+    }
+    if retention > 5000 {
+        return 6;
+    }
+    0
+}
+
+#[no_mangle]
+pub extern "C" fn aspen_enrol(book: &mut [u8], volume: u16, retention: u16) -> u16
+    ensures { λ r. ⌜ Enrolled (now (book .entry)) volume retention r (now (book .exit)) ⌝ }
+{
+    let in_form = form(book);
+    if in_form != 0 {
+        return in_form;
+    }
+    let number = enrol_number(book, volume, retention);
+    if number != 0 {
+        return number;
+    }
+    header::set_retention(book, volume, retention);
+    0
+}
