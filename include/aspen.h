@@ -1,0 +1,185 @@
+/*
+ * aspen.h: the clinic backup box.
+ *
+ * An aid writes the list of its changed blocks (aspen_write_list). The box takes such a list as
+ * a backup (aspen_backup), keeps equal blocks once, frees what no kept backup needs
+ * (aspen_collect), and reads old backups (aspen_read).
+ *
+ * Memory. The box lives in two buffers of the caller's: the book, which notes what each volume
+ * held and when, and the pool, which holds the blocks. The library allocates nothing and keeps
+ * no pointer after a call. Hashing, transport and files are the caller's part. Days are counted
+ * by the caller, and the book's day is that of its last backup or collection.
+ *
+ * Pointers. No pointer may be null, even at length 0. The buffers and answers given to one call
+ * must not overlap. Byte buffers need no alignment; numbers in them are little-endian.
+ *
+ * Results. Each function returns ASPEN_OK or the number of its refusal. Checks are made in the
+ * order of the numbers and the first that fails decides; 11 to 14 are checked change by change.
+ * A refused call leaves every buffer but the spare as it was and writes no answer. A byte
+ * buffer may hold any bytes and have any length: what doesn't fit is refused.
+ *
+ * Threads. There is no global state. Calls on different buffers may run at the same time, and so
+ * may calls that only read the same ones. While a call writes a buffer nothing else may use it;
+ * to have one writer at a time is the caller's duty.
+ */
+#ifndef ASPEN_H
+#define ASPEN_H
+
+#include <stddef.h>
+#include <stdint.h>
+
+#ifdef __cplusplus
+extern "C" {
+#endif
+
+/* Limits. The numbers of blocks, slots and records, and the retention, are 1 at least. */
+#define ASPEN_BLOCK_SIZE 512      /* bytes of a block */
+#define ASPEN_PRINT_SIZE 16       /* bytes of a fingerprint */
+#define ASPEN_VOLUMES 8           /* volumes are 0 to 7 */
+#define ASPEN_MAX_BLOCKS 4096     /* n: blocks of the pool */
+#define ASPEN_MAX_LBNS 1024       /* l: logical blocks of each volume */
+#define ASPEN_MAX_SLOTS 1024      /* s: backups that the book has room for */
+#define ASPEN_MAX_RECORDS 16384   /* j: changes that the book has room for */
+#define ASPEN_MAX_RETENTION 5000  /* days */
+#define ASPEN_MAX_DAY 60000
+
+/* Sizes in bytes. Constant expressions where the arguments are; each argument is used once. */
+
+/* The book of n pool blocks, l logical blocks a volume, s slots and j records. */
+#define aspen_book_size(n, l, s, j) \
+    ((size_t)36 + (size_t)20 * (n) + (size_t)16 * (l) + (size_t)8 * (s) + (size_t)6 * (j))
+
+/* The pool of n blocks. */
+#define aspen_pool_size(n) ((size_t)ASPEN_BLOCK_SIZE * (n))
+
+/* The change list of so many changed blocks in so many runs. */
+#define aspen_list_size(runs, changes) \
+    ((size_t)2 + (size_t)4 * (runs) + (size_t)(ASPEN_PRINT_SIZE + ASPEN_BLOCK_SIZE) * (changes))
+
+/* The longest list that aspen_write_list writes for l blocks: all of them, in one run. */
+#define aspen_list_bound(l) aspen_list_size(1, l)
+
+/* What the functions return: 0, or the number of a refusal. */
+enum aspen_result {
+    ASPEN_OK = 0,
+    ASPEN_BAD_LAYOUT = 1,     /* the book's length, layout number or sizes break the layout */
+    ASPEN_BAD_FORM = 2,       /* the book is otherwise out of form: it is damaged */
+    ASPEN_BAD_POOL = 3,       /* the pool isn't aspen_pool_size(n) bytes long */
+    ASPEN_SHORT_SPARE = 4,    /* the spare is shorter than the book */
+    ASPEN_BAD_VOLUME = 5,     /* no such volume, or not enrolled; for enrol, enrolled already */
+    ASPEN_BAD_RETENTION = 6,  /* the retention is 0 or above ASPEN_MAX_RETENTION */
+    ASPEN_BAD_DAY = 7,        /* above the limit, before the book's, not after the last backup's */
+    ASPEN_BAD_LIST = 8,       /* the bytes are no change list for this book */
+    ASPEN_NO_SLOT = 9,        /* all backup slots are used */
+    ASPEN_NO_RECORD = 10,     /* the changes are more than the records left */
+    ASPEN_OTHER_BYTES = 11,   /* the held block with this fingerprint has other bytes */
+    ASPEN_NO_BLOCK = 12,      /* no block of the pool is free */
+    ASPEN_COUNT_ZERO = 13,    /* the replaced block has count 0: the book is damaged */
+    ASPEN_COUNT_FULL = 14,    /* the block's count is 255 already */
+    ASPEN_NO_BACKUP = 15,     /* the volume has no backup of this number */
+    ASPEN_NOT_KEPT = 16,      /* that backup's days have run out */
+    ASPEN_BAD_LBN = 17,       /* the LBN is l or more */
+    ASPEN_UNMAPPED = 18,      /* that backup has no block at this LBN */
+    ASPEN_BAD_INPUT = 19,     /* writer: a wrong l, a mark that isn't 0 or 1, or a wrong length */
+    ASPEN_SHORT_OUTPUT = 20   /* writer: the output is shorter than the list */
+};
+
+/*
+ * Writes a fresh book of these sizes over any bytes: day 0, no volume enrolled, every block
+ * free. book_len has to be aspen_book_size(n, l, s, j). The pool needs no preparing.
+ *
+ * Returns ASPEN_OK or ASPEN_BAD_LAYOUT.
+ */
+uint16_t aspen_format(uint8_t *book, size_t book_len, uint16_t n, uint16_t l, uint16_t s,
+                      uint16_t j);
+
+/*
+ * Enrols a volume, 0 to 7. A backup of it is kept for `retention` days after the day of the
+ * backup that follows it; the newest one is always kept.
+ *
+ * Returns ASPEN_OK, ASPEN_BAD_LAYOUT, ASPEN_BAD_FORM, ASPEN_BAD_VOLUME or ASPEN_BAD_RETENTION.
+ */
+uint16_t aspen_enrol(uint8_t *book, size_t book_len, uint16_t volume, uint16_t retention);
+
+/*
+ * Takes the change list `list` as the volume's backup of this day, which has to be after its
+ * last one and not before the book's day. The whole list is taken or nothing.
+ *
+ * The spare is room to work in, as long as the book at least; what it holds afterwards means
+ * nothing. The pool changes only at blocks that were free before the call, so a host that
+ * stores the pool first and then the book loses no backup if the power fails in between.
+ *
+ * Answers: *number, the backup's number, counted from 1 in each volume; *taken, how many free
+ * blocks it took; *touched, how many changes there were plus how many of them replaced a block.
+ *
+ * Returns ASPEN_OK, ASPEN_BAD_LAYOUT, ASPEN_BAD_FORM, ASPEN_BAD_POOL, ASPEN_SHORT_SPARE,
+ * ASPEN_BAD_VOLUME, ASPEN_BAD_DAY, ASPEN_BAD_LIST, ASPEN_NO_SLOT, ASPEN_NO_RECORD,
+ * ASPEN_OTHER_BYTES, ASPEN_NO_BLOCK, ASPEN_COUNT_ZERO or ASPEN_COUNT_FULL.
+ */
+uint16_t aspen_backup(uint8_t *book, size_t book_len, uint8_t *pool, size_t pool_len,
+                      uint8_t *spare, size_t spare_len, uint16_t volume, uint16_t day,
+                      const uint8_t *list, size_t list_len, uint16_t *number, uint16_t *taken,
+                      uint16_t *touched);
+
+/*
+ * Frees every held block with count 0 whose days ended before this day: in a sound book, exactly
+ * those that no volume's current state and no backup kept on this day needs. The day may not be
+ * before the book's, and becomes it.
+ *
+ * Answer: *freed, how many.
+ *
+ * Returns ASPEN_OK, ASPEN_BAD_LAYOUT, ASPEN_BAD_FORM or ASPEN_BAD_DAY.
+ */
+uint16_t aspen_collect(uint8_t *book, size_t book_len, uint16_t day, uint16_t *freed);
+
+/*
+ * Finds the block that a volume had at an LBN in its backup of this number.
+ *
+ * Answer: *at, where the block's ASPEN_BLOCK_SIZE bytes start in the pool. A caller who needs
+ * them past the next backup has to copy them.
+ *
+ * Returns ASPEN_OK, ASPEN_BAD_LAYOUT, ASPEN_BAD_FORM, ASPEN_BAD_POOL, ASPEN_BAD_VOLUME,
+ * ASPEN_NO_BACKUP, ASPEN_NOT_KEPT, ASPEN_BAD_LBN or ASPEN_UNMAPPED.
+ */
+uint16_t aspen_read(const uint8_t *book, size_t book_len, const uint8_t *pool, size_t pool_len,
+                    uint16_t volume, uint16_t number, uint16_t lbn, uint32_t *at);
+
+/*
+ * Replays the book's journal and compares: the maps, the counts, the days until which blocks are
+ * needed, that held fingerprints differ, and that nothing needed is free.
+ *
+ * Answer: *sound, 1 if all of it agrees, else 0.
+ *
+ * Returns ASPEN_OK, ASPEN_BAD_LAYOUT or ASPEN_BAD_FORM.
+ */
+uint16_t aspen_audit(const uint8_t *book, size_t book_len, uint16_t *sound);
+
+/*
+ * Checks that the book is in form, as every call on a book but aspen_format does first: that
+ * every field is in its range, backups stand in order and unused places are zero. A book in form
+ * may still be unsound; see aspen_audit.
+ *
+ * Returns ASPEN_OK, ASPEN_BAD_LAYOUT or ASPEN_BAD_FORM.
+ */
+uint16_t aspen_form(const uint8_t *book, size_t book_len);
+
+/*
+ * Writes the change list of the marked blocks of a volume of l blocks, for aspen_backup.
+ *   marks   l bytes, 1 for a block that changed and 0 for one that didn't
+ *   prints  l fingerprints of ASPEN_PRINT_SIZE bytes
+ *   image   l blocks of ASPEN_BLOCK_SIZE bytes
+ *   list    the output; aspen_list_bound(l) bytes are always enough
+ *
+ * Answer: *written, the list's length in bytes. The output past it is as it was.
+ *
+ * Returns ASPEN_OK, ASPEN_BAD_INPUT or ASPEN_SHORT_OUTPUT.
+ */
+uint16_t aspen_write_list(uint16_t l, const uint8_t *marks, size_t marks_len,
+                          const uint8_t *prints, size_t prints_len, const uint8_t *image,
+                          size_t image_len, uint8_t *list, size_t list_len, uint32_t *written);
+
+#ifdef __cplusplus
+}
+#endif
+
+#endif
