@@ -1,0 +1,14 @@
+/* Tests of what libengine.a exports. */
+#include "check.h"
+#include "tests.h"
+
+int main(void)
+{
+    test_format();
+    test_cases();
+    test_audit();
+    test_refusals();
+    test_lists();
+    test_changes();
+    return check_report();
+}

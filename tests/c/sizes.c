@@ -1,0 +1,31 @@
+/* The header's sizes and limits, with the figures of document 01. */
+#include <aspen.h>
+
+#include "check.h"
+#include "tests.h"
+
+/* Sizes are constant expressions. */
+enum {
+    SMALLEST_BOOK = aspen_book_size(1, 1, 1, 1),
+    LARGEST_LIST = aspen_list_bound(ASPEN_MAX_LBNS)
+};
+
+void test_sizes(void)
+{
+    const uint16_t blocks = ASPEN_MAX_BLOCKS;
+
+    check_about("sizes");
+    CHECK_EQ(SMALLEST_BOOK, 86);
+    CHECK_EQ(aspen_book_size(4, 4, 6, 8), 276);
+    CHECK_EQ(aspen_book_size(ASPEN_MAX_BLOCKS, ASPEN_MAX_LBNS, ASPEN_MAX_SLOTS, ASPEN_MAX_RECORDS),
+             204836);
+    CHECK_EQ(aspen_book_size(1 + 3, 2 + 2, 3 + 3, 4 + 4), 276);
+    CHECK_EQ(aspen_pool_size(4), 2048);
+    CHECK_EQ(aspen_pool_size(blocks), 2097152);
+    CHECK_EQ(aspen_list_size(0, 0), 2);
+    CHECK_EQ(aspen_list_size(2, 3), 2 + 8 + 3 * 528);
+    CHECK_EQ(LARGEST_LIST, 2 + 4 + 1024 * 528);
+    CHECK_EQ(ASPEN_MAX_RETENTION, 5000);
+    CHECK_EQ(ASPEN_MAX_DAY, 60000);
+    CHECK_EQ(ASPEN_VOLUMES, 8);
+}

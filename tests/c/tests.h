@@ -1,0 +1,18 @@
+/* The groups of checks that the programs are made of. */
+#ifndef ASPEN_TESTS_TESTS_H
+#define ASPEN_TESTS_TESTS_H
+
+/* With libwriter.a and libbook.a. */
+void test_sizes(void);
+void test_writer(void);
+void test_form(void);
+
+/* With libengine.a. */
+void test_format(void);
+void test_cases(void);
+void test_audit(void);
+void test_refusals(void);
+void test_lists(void);
+void test_changes(void);
+
+#endif

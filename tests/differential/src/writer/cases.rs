@@ -1,0 +1,108 @@
+//! Random calls of the writer: mostly sound, some with wrong inputs, outputs of any length.
+
+use reference::change_list::{list_bytes, write};
+use reference::prng::Prng;
+use reference::refusal::Refusal;
+
+pub struct Case {
+    pub lbns: u16,
+    pub marks: Vec<u8>,
+    pub fingerprints: Vec<u8>,
+    pub image: Vec<u8>,
+    pub output: Vec<u8>,
+}
+
+fn random_bytes(prng: &mut Prng, length: usize) -> Vec<u8> {
+    let mut bytes = vec![0; length];
+    prng.fill(&mut bytes);
+    bytes
+}
+
+impl Case {
+    pub fn random(prng: &mut Prng) -> Self {
+        let lbns = match prng.below(100) {
+            0 => prng.pick(&[1_023, 1_024]),
+            1 => prng.pick(&[0, 0, 1_025]),
+            2..=9 => prng.between(1, 3),
+            10..=15 => prng.between(40, 200),
+            _ => prng.between(1, 40),
+        };
+        let number = usize::from(lbns);
+        let mut case = Case {
+            lbns,
+            marks: random_marks(prng, number),
+            fingerprints: random_bytes(prng, 16 * number),
+            image: random_bytes(prng, 512 * number),
+            output: Vec::new(),
+        };
+        if prng.once_in(6) {
+            case.spoil(prng);
+        }
+        let room = case.room(prng);
+        case.output = random_bytes(prng, room);
+        case
+    }
+
+    /// What the reference answers, writing to `output`.
+    pub fn expected(&self, output: &mut [u8]) -> Result<u32, Refusal> {
+        let Case {
+            lbns,
+            marks,
+            fingerprints,
+            image,
+            ..
+        } = self;
+        write(*lbns, marks, fingerprints, image, output)
+    }
+
+    /// A bad mark, a wrong length or another number of blocks.
+    fn spoil(&mut self, prng: &mut Prng) {
+        let spoiled = match prng.below(8) {
+            0 | 1 if !self.marks.is_empty() => {
+                let lbn = prng.index(self.marks.len());
+                self.marks[lbn] = prng.pick(&[2, 3, 128, 254, 255]);
+                return;
+            }
+            2 => {
+                self.lbns = prng.pick(&[0, self.lbns + 1, 1_024, 1_025, 32_768, 65_535]);
+                return;
+            }
+            3 => &mut self.marks,
+            4 | 5 => &mut self.fingerprints,
+            _ => &mut self.image,
+        };
+        match prng.below(5) {
+            0 => spoiled.clear(),
+            1 => spoiled.truncate(prng.index(spoiled.len() + 1)),
+            2 => spoiled.extend([0; 16]),
+            3 => spoiled.truncate(spoiled.len().saturating_sub(1)),
+            _ => spoiled.push(0),
+        }
+    }
+
+    /// An output's length: too short, exact or longer.
+    fn room(&self, prng: &mut Prng) -> usize {
+        let most = list_bytes(self.marks.len(), self.marks.len());
+        let exact = self.expected(&mut vec![0; most]).unwrap_or(2) as usize;
+        match prng.below(10) {
+            0 => prng.index(exact),
+            1 => exact - 1,
+            2 => prng.pick(&[0, 1, 2]),
+            3..=5 => exact,
+            6 => exact + 1,
+            _ => exact + prng.index(600),
+        }
+    }
+}
+
+/// Marks that are all 0, all 1, dense, sparse or in long runs.
+fn random_marks(prng: &mut Prng, number: usize) -> Vec<u8> {
+    let (first, change_once_in) = (prng.once_in(2), prng.pick(&[1, 2, 4, 12, 5_000]));
+    let mut mark = first;
+    (0..number)
+        .map(|_| {
+            mark ^= prng.once_in(change_once_in);
+            u8::from(mark)
+        })
+        .collect()
+}

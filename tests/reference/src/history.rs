@@ -1,0 +1,93 @@
+//! What each volume held at each accepted backup, worked out from the calls as sent.
+
+use std::rc::Rc;
+
+use crate::call::{Answer, Call};
+use crate::change_list;
+use crate::layout::{Block, Lbn, VOLUMES};
+use crate::refusal::{require, Refusal};
+
+/// The bytes of each LBN, none where nothing was ever backed up.
+type Image = Vec<Option<Rc<Block>>>;
+
+#[derive(Default)]
+struct Volume {
+    retention: u16,
+    /// The day and the whole image of each backup.
+    backups: Vec<(u16, Image)>,
+}
+
+pub struct History {
+    lbns: u16,
+    day: u16,
+    volumes: [Option<Volume>; VOLUMES as usize],
+}
+
+impl History {
+    /// For volumes of `lbns` logical blocks.
+    pub fn new(lbns: u16) -> Self {
+        History {
+            lbns,
+            day: 0,
+            volumes: Default::default(),
+        }
+    }
+
+    /// Notes what an accepted call did; a refused one did nothing.
+    pub fn note(&mut self, call: &Call, answer: &Answer) {
+        if matches!(answer, Answer::Refused(_)) {
+            return;
+        }
+        match call {
+            Call::Enrol { volume, retention } => {
+                self.volumes[usize::from(*volume)] = Some(Volume {
+                    retention: *retention,
+                    backups: Vec::new(),
+                });
+            }
+            Call::Backup { volume, day, list } => self.note_backup(*volume, *day, list),
+            Call::Collect { day } => self.day = *day,
+            Call::Read { .. } | Call::Audit => {}
+        }
+    }
+
+    fn note_backup(&mut self, volume: u16, day: u16, list: &[u8]) {
+        let list = change_list::read(list, self.lbns).expect("an accepted list");
+        let volume = self.volumes[usize::from(volume)].as_mut();
+        let backups = &mut volume.expect("an enrolled volume").backups;
+        let mut image = match backups.last() {
+            Some((_, newest)) => newest.clone(),
+            None => vec![None; usize::from(self.lbns)],
+        };
+        for change in list.changes() {
+            image[change.lbn.index()] = Some(Rc::new(*change.block));
+        }
+        backups.push((day, image));
+        self.day = day;
+    }
+
+    /// How many backups a volume has.
+    pub fn backups(&self, volume: u16) -> usize {
+        self.enrolled(volume).map_or(0, |v| v.backups.len())
+    }
+
+    /// The answer of a read.
+    pub fn read(&self, volume: u16, number: u16, lbn: u16) -> Result<&Block, Refusal> {
+        let volume = self.enrolled(volume).ok_or(Refusal::Volume)?;
+        let number = usize::from(number);
+        let (_, image) = number
+            .checked_sub(1)
+            .and_then(|index| volume.backups.get(index))
+            .ok_or(Refusal::Number)?;
+        if let Some((replaced, _)) = volume.backups.get(number) {
+            let last_day = u32::from(*replaced) + u32::from(volume.retention);
+            require(last_day >= u32::from(self.day), Refusal::NotKept)?;
+        }
+        let cell = image.get(Lbn(lbn).index()).ok_or(Refusal::LbnAbove)?;
+        cell.as_deref().ok_or(Refusal::Unmapped)
+    }
+
+    fn enrolled(&self, volume: u16) -> Option<&Volume> {
+        self.volumes.get(usize::from(volume))?.as_ref()
+    }
+}

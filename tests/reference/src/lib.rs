@@ -1,0 +1,17 @@
+//! The backup box written a second time, from document 01 alone: the model that the
+//! differential tests compare with.
+
+pub mod call;
+pub mod cases;
+pub mod change_list;
+pub mod form;
+pub mod history;
+pub mod layout;
+pub mod plain;
+pub mod prng;
+pub mod random_books;
+pub mod random_calls;
+pub mod random_lists;
+pub mod refusal;
+pub mod store;
+pub mod tally;

@@ -1,0 +1,175 @@
+//! The plain store: whole maps, mark and sweep, no counts and no expiries.
+
+mod backup;
+
+use std::rc::Rc;
+
+use crate::change_list;
+use crate::layout::{
+    Block, Fingerprint, Lbn, Pbn, Sizes, DAY_MAX, RETENTION_RANGE, UNMAPPED, VOLUMES,
+};
+use crate::refusal::{require, Refusal};
+use crate::store::BackedUp;
+
+/// What a held block holds.
+#[derive(Debug, PartialEq, Eq)]
+pub struct Content {
+    pub fingerprint: Fingerprint,
+    pub bytes: Block,
+}
+
+/// Each block free or held.
+type Blocks = Vec<Option<Rc<Content>>>;
+
+type Map = Vec<Pbn>;
+
+fn held_in(blocks: &Blocks) -> impl Iterator<Item = (Pbn, &Content)> {
+    let numbered = (0..).map(Pbn).zip(blocks);
+    numbered.filter_map(|(pbn, block)| Some((pbn, block.as_deref()?)))
+}
+
+struct Volume {
+    retention: u16,
+    backups: Vec<(u16, Map)>,
+}
+
+impl Volume {
+    fn is_kept(&self, number: usize, day: u16) -> bool {
+        match self.backups.get(number) {
+            None => true,
+            Some((next, _)) => u32::from(*next) + u32::from(self.retention) >= u32::from(day),
+        }
+    }
+
+    /// The maps of the backups kept at `day`; the newest one is the current map.
+    fn kept_maps(&self, day: u16) -> impl Iterator<Item = &Map> {
+        let kept = move |number: &usize| self.is_kept(*number, day);
+        (1..=self.backups.len())
+            .filter(kept)
+            .map(|number| &self.backups[number - 1].1)
+    }
+}
+
+pub struct Plain {
+    sizes: Sizes,
+    day: u16,
+    cursor: u16,
+    blocks: Blocks,
+    volumes: [Option<Volume>; VOLUMES as usize],
+    /// Changes of all accepted backups so far.
+    changes: usize,
+}
+
+impl Plain {
+    /// The store as an accepted format of these sizes leaves it.
+    pub fn new(sizes: Sizes) -> Self {
+        Plain {
+            sizes,
+            day: 0,
+            cursor: 0,
+            blocks: vec![None; usize::from(sizes.blocks)],
+            volumes: Default::default(),
+            changes: 0,
+        }
+    }
+
+    /// The held blocks in order.
+    pub fn held(&self) -> impl Iterator<Item = (Pbn, &Content)> {
+        held_in(&self.blocks)
+    }
+
+    /// A volume's newest map, all unmapped if there is none.
+    pub fn current_map(&self, volume: u8) -> Map {
+        let newest = self.volumes[usize::from(volume)]
+            .as_ref()
+            .and_then(|volume| volume.backups.last());
+        match newest {
+            Some((_, map)) => map.clone(),
+            None => vec![UNMAPPED; usize::from(self.sizes.lbns)],
+        }
+    }
+
+    pub fn enrol(&mut self, volume: u16, retention: u16) -> Result<(), Refusal> {
+        let place = self.volumes.get_mut(usize::from(volume));
+        let place = place.ok_or(Refusal::Volume)?;
+        require(place.is_none(), Refusal::Volume)?;
+        require(RETENTION_RANGE.contains(&retention), Refusal::Retention)?;
+        *place = Some(Volume {
+            retention,
+            backups: Vec::new(),
+        });
+        Ok(())
+    }
+
+    pub fn backup(&mut self, volume: u16, day: u16, list: &[u8]) -> Result<BackedUp, Refusal> {
+        let enrolled = self.enrolled(volume)?;
+        self.check_day(day)?;
+        let last = enrolled.backups.last();
+        require(last.is_none_or(|(last, _)| day > *last), Refusal::Day)?;
+        let list = change_list::read(list, self.sizes.lbns)?;
+        self.check_room(list.number())?;
+        let made = backup::make(self, volume, &list)?;
+        let backups = &mut self.volumes[usize::from(volume)].as_mut().unwrap().backups;
+        backups.push((day, made.map));
+        let number = backups.len() as u16;
+        self.blocks = made.blocks;
+        self.cursor = made.cursor;
+        self.day = day;
+        self.changes += list.number();
+        Ok(BackedUp {
+            number,
+            taken: made.taken,
+            touched: list.number() as u16 + made.befores,
+        })
+    }
+
+    pub fn collect(&mut self, day: u16) -> Result<u16, Refusal> {
+        self.check_day(day)?;
+        let mut marked = vec![false; self.blocks.len()];
+        for map in self.volumes.iter().flatten().flat_map(|v| v.kept_maps(day)) {
+            for cell in map.iter().filter(|&&cell| cell != UNMAPPED) {
+                marked[cell.index()] = true;
+            }
+        }
+        let mut freed = 0;
+        for (block, marked) in self.blocks.iter_mut().zip(marked) {
+            if block.is_some() && !marked {
+                *block = None;
+                freed += 1;
+            }
+        }
+        self.day = day;
+        Ok(freed)
+    }
+
+    pub fn read(&self, volume: u16, number: u16, lbn: u16) -> Result<&Block, Refusal> {
+        let volume = self.enrolled(volume)?;
+        let number = usize::from(number);
+        let taken = 1..=volume.backups.len();
+        require(taken.contains(&number), Refusal::Number)?;
+        require(volume.is_kept(number, self.day), Refusal::NotKept)?;
+        require(lbn < self.sizes.lbns, Refusal::LbnAbove)?;
+        let pbn = volume.backups[number - 1].1[Lbn(lbn).index()];
+        require(pbn != UNMAPPED, Refusal::Unmapped)?;
+        let content = self.blocks[pbn.index()].as_ref();
+        Ok(&content.expect("a kept backup's block is held").bytes)
+    }
+
+    fn enrolled(&self, volume: u16) -> Result<&Volume, Refusal> {
+        let place = self.volumes.get(usize::from(volume));
+        place.and_then(Option::as_ref).ok_or(Refusal::Volume)
+    }
+
+    fn check_day(&self, day: u16) -> Result<(), Refusal> {
+        require(day <= DAY_MAX && day >= self.day, Refusal::Day)
+    }
+
+    fn check_room(&self, changes: usize) -> Result<(), Refusal> {
+        let volumes = self.volumes.iter().flatten();
+        let backups: usize = volumes.map(|volume| volume.backups.len()).sum();
+        require(backups < usize::from(self.sizes.slots), Refusal::SlotsFull)?;
+        let records = self.changes + changes;
+        let fits = records <= usize::from(self.sizes.records);
+        require(fits, Refusal::JournalFull)
+    }
+}

@@ -1,0 +1,96 @@
+//! Random change lists over a moving choice of blocks, some with other bytes than before,
+//! some broken.
+
+use crate::cases::list_of;
+use crate::layout::{Block, Fingerprint, BLOCK_BYTES, FINGERPRINT_BYTES};
+use crate::prng::Prng;
+
+/// The fingerprint that a letter's blocks are sent with; letter 0 has the zero one.
+pub fn letter_fingerprint(letter: u16) -> Fingerprint {
+    let [low, high] = letter.to_le_bytes();
+    let mut fingerprint = [0; FINGERPRINT_BYTES];
+    match letter % 3 {
+        0 => fingerprint.fill(low),
+        1 => fingerprint[0] = low,
+        _ => fingerprint[FINGERPRINT_BYTES - 1] = low,
+    }
+    fingerprint[8] ^= high;
+    fingerprint
+}
+
+pub fn letter_block(letter: u16) -> Block {
+    let [low, high] = letter.to_le_bytes();
+    let mut block = [low; BLOCK_BYTES];
+    block[300] ^= high;
+    block
+}
+
+pub struct RandomLists {
+    pub lbns: u16,
+    /// The letters in use: this many from `first_letter` up, which moves on with time.
+    pub letters: u16,
+    pub first_letter: u16,
+    /// The longest run of changed LBNs.
+    pub run_max: u16,
+    /// How often a list has zero blocks only.
+    pub zeros_once_in: u64,
+}
+
+impl RandomLists {
+    pub fn next_list(&mut self, prng: &mut Prng) -> Vec<u8> {
+        let pairs = self.pairs(prng);
+        let mut list = self.list(prng, &pairs);
+        if prng.once_in(20) {
+            self.spoil(prng, &mut list);
+        }
+        list
+    }
+
+    /// First LBN and length of runs that may touch.
+    fn pairs(&mut self, prng: &mut Prng) -> Vec<(u16, u16)> {
+        let mut pairs = Vec::new();
+        let mut end = 0;
+        loop {
+            let first = end + prng.between(0, self.lbns / 2);
+            let length = prng.between(1, self.run_max);
+            if first + length > self.lbns {
+                return pairs;
+            }
+            pairs.push((first, length));
+            end = first + length;
+        }
+    }
+
+    fn list(&mut self, prng: &mut Prng, pairs: &[(u16, u16)]) -> Vec<u8> {
+        let number: u16 = pairs.iter().map(|(_, length)| length).sum();
+        let zeros = prng.once_in(self.zeros_once_in);
+        let mut changes: Vec<_> = (0..number)
+            .map(|_| if zeros { 0 } else { self.letter(prng) })
+            .map(|letter| (letter_fingerprint(letter), letter_block(letter)))
+            .collect();
+        if number > 0 && prng.once_in(40) {
+            let change = prng.index(changes.len());
+            changes[change].1[prng.pick(&[0, 255, 511])] ^= 1;
+        }
+        list_of(pairs, &changes)
+    }
+
+    fn letter(&mut self, prng: &mut Prng) -> u16 {
+        if prng.once_in(20) {
+            self.first_letter = (self.first_letter + 1) % 60_000;
+        }
+        self.first_letter + prng.between(0, self.letters - 1)
+    }
+
+    /// Breaks the list in one of the ways that refusal 8 names.
+    fn spoil(&mut self, prng: &mut Prng, list: &mut Vec<u8>) {
+        let field = match prng.below(6) {
+            0 => return list.truncate(prng.index(list.len())),
+            1 => return list.push(0),
+            2 => 0,
+            _ => 2 * prng.index(list.len().min(12) / 2),
+        };
+        let value = prng.pick(&[0, 1, self.lbns, 65_535]);
+        list[field..field + 2].copy_from_slice(&value.to_le_bytes());
+    }
+}

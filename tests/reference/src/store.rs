@@ -1,0 +1,130 @@
+//! The box on bytes: the calls with their refusals in checking order. A refused call
+//! changes nothing but the spare.
+
+mod audit;
+mod backup;
+
+pub use backup::backup;
+
+use crate::form;
+use crate::layout::{
+    self, Book, Entry, Header, Lbn, Pbn, Sizes, Slot, DAY_MAX, HELD, RETENTION_RANGE, UNMAPPED,
+    VOLUMES,
+};
+use crate::refusal::{require, Refusal};
+
+/// The answer of an accepted backup.
+#[derive(Clone, Copy, Debug, PartialEq, Eq)]
+pub struct BackedUp {
+    pub number: u16,
+    pub taken: u16,
+    pub touched: u16,
+}
+
+pub fn format(book: &mut [u8], sizes: Sizes) -> Result<(), Refusal> {
+    let fits = sizes.in_range() && book.len() == sizes.book_bytes();
+    require(fits, Refusal::Layout)?;
+    layout::format(book, sizes);
+    Ok(())
+}
+
+pub fn enrol(book: &mut [u8], volume: u16, retention: u16) -> Result<(), Refusal> {
+    let view = form::check(book)?;
+    let volume = volume_number(volume)?;
+    require(view.retention(volume) == 0, Refusal::Volume)?;
+    require(RETENTION_RANGE.contains(&retention), Refusal::Retention)?;
+    Book::over(book).set_retention(volume, retention);
+    Ok(())
+}
+
+/// Frees the held blocks with count 0 and expiry before `day`; answers how many.
+pub fn collect(book: &mut [u8], day: u16) -> Result<u16, Refusal> {
+    let view = form::check(book)?;
+    check_day(&view, day)?;
+    let mut book = Book::over(book);
+    let mut freed = 0;
+    for pbn in book.pbns() {
+        let entry = book.entry(pbn);
+        if entry.state == HELD && entry.count == 0 && entry.expiry < day {
+            book.edit_entry(pbn, Entry::set_free);
+            freed += 1;
+        }
+    }
+    book.set_header(Header::Day, day);
+    Ok(freed)
+}
+
+/// The bytes of an LBN in backup `number` of a volume, as a part of the pool.
+pub fn read<'a>(
+    book: &[u8],
+    pool: &'a [u8],
+    volume: u16,
+    number: u16,
+    lbn: u16,
+) -> Result<&'a [u8], Refusal> {
+    let pbn = locate(book, pool, volume, number, lbn)?;
+    Ok(&pool[pbn.pool_range()])
+}
+
+/// The block that `read` answers with.
+pub fn locate(
+    book: &[u8],
+    pool: &[u8],
+    volume: u16,
+    number: u16,
+    lbn: u16,
+) -> Result<Pbn, Refusal> {
+    let book = form::check(book)?;
+    require(pool.len() == book.sizes().pool_bytes(), Refusal::Pool)?;
+    let volume = enrolled(&book, volume)?;
+    let slots = book.used_slots_of(volume);
+    let number = usize::from(number);
+    require((1..=slots.len()).contains(&number), Refusal::Number)?;
+    let day = book.header(Header::Day);
+    let kept = is_kept(&slots, number, book.retention(volume), day);
+    require(kept, Refusal::NotKept)?;
+    require(lbn < book.sizes().lbns, Refusal::LbnAbove)?;
+    let pbn = named_by(&book, volume, &slots[number..], Lbn(lbn));
+    require(pbn != UNMAPPED, Refusal::Unmapped)?;
+    Ok(pbn)
+}
+
+/// Whether the book is sound.
+pub fn audit(book: &[u8]) -> Result<bool, Refusal> {
+    let book = form::check(book)?;
+    Ok(audit::is_sound(&book))
+}
+
+fn volume_number(volume: u16) -> Result<u8, Refusal> {
+    require(volume < u16::from(VOLUMES), Refusal::Volume)?;
+    Ok(volume as u8)
+}
+
+fn enrolled(book: &Book<&[u8]>, volume: u16) -> Result<u8, Refusal> {
+    let volume = volume_number(volume)?;
+    require(book.retention(volume) != 0, Refusal::Volume)?;
+    Ok(volume)
+}
+
+fn check_day(book: &Book<&[u8]>, day: u16) -> Result<(), Refusal> {
+    let holds = day <= DAY_MAX && day >= book.header(Header::Day);
+    require(holds, Refusal::Day)
+}
+
+/// Whether backup `number`, from 1, of a volume with these slots is kept at `day`.
+fn is_kept(slots: &[Slot], number: usize, retention: u16, day: u16) -> bool {
+    match slots.get(number) {
+        None => true,
+        Some(next) => u32::from(next.day) + u32::from(retention) >= u32::from(day),
+    }
+}
+
+/// Read's rule: the before of the LBN's first record in the later slots, else the map.
+fn named_by(book: &Book<&[u8]>, volume: u8, later: &[Slot], lbn: Lbn) -> Pbn {
+    later
+        .iter()
+        .flat_map(Slot::records)
+        .map(|index| book.record(index))
+        .find(|record| record.lbn == lbn)
+        .map_or(book.cell(volume, lbn), |record| record.before)
+}

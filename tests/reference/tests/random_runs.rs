@@ -1,0 +1,162 @@
+//! Seeded runs in which the box, the plain store and the history must agree throughout.
+
+use std::collections::BTreeSet;
+
+use reference::call::{Answer, Call, Stored};
+use reference::form;
+use reference::history::History;
+use reference::layout::{Fingerprint, Pbn, HELD, VOLUMES};
+use reference::plain::Plain;
+use reference::random_calls::RandomCalls;
+use reference::store;
+
+const RUNS: u64 = 300;
+const CALLS: usize = 150;
+
+/// What the runs came upon, so that none of it goes untested.
+#[derive(Default)]
+struct Seen {
+    refusals: BTreeSet<u16>,
+    freed: u64,
+    taken: u64,
+    shared: u64,
+    blocks_read: u64,
+    kept_read: u64,
+}
+
+impl Seen {
+    fn note(&mut self, call: &Call, answer: &Answer, history: &History) {
+        match (call, answer) {
+            (_, Answer::Refused(refusal)) => {
+                self.refusals.insert(refusal.number());
+            }
+            (_, Answer::Freed(freed)) => self.freed += u64::from(*freed),
+            (_, Answer::BackedUp(backed_up)) => {
+                self.taken += u64::from(backed_up.taken);
+                self.shared += u64::from(backed_up.touched > backed_up.taken);
+            }
+            (Call::Read { volume, number, .. }, Answer::Block(_)) => {
+                self.blocks_read += 1;
+                self.kept_read += u64::from(usize::from(*number) < history.backups(*volume));
+            }
+            _ => {}
+        }
+    }
+}
+
+type Held<'a> = Vec<(Pbn, Fingerprint, &'a [u8])>;
+
+fn held_in_box(stored: &Stored) -> Held<'_> {
+    let book = form::check(&stored.book).expect("in form");
+    let entries = book.pbns().map(|pbn| (pbn, book.entry(pbn)));
+    entries
+        .filter(|(_, entry)| entry.state == HELD)
+        .map(|(pbn, entry)| (pbn, entry.fingerprint, &stored.pool[pbn.pool_range()]))
+        .collect()
+}
+
+fn held_in_plain(plain: &Plain) -> Held<'_> {
+    plain
+        .held()
+        .map(|(pbn, content)| (pbn, content.fingerprint, &content.bytes[..]))
+        .collect()
+}
+
+fn stores_agree(stored: &Stored, plain: &Plain) {
+    assert_eq!(held_in_box(stored), held_in_plain(plain));
+    let book = form::check(&stored.book).expect("in form");
+    for volume in 0..VOLUMES {
+        assert_eq!(book.map(volume), plain.current_map(volume));
+    }
+    assert_eq!(store::audit(&stored.book), Ok(true));
+}
+
+/// Reads of every backup at LBNs all over the volume, and one past its end.
+fn reads_agree(stored: &Stored, plain: &Plain, history: &History, lbns: u16) {
+    let step = usize::from(lbns / 8).max(1);
+    for volume in 0..u16::from(VOLUMES) {
+        for number in 0..=history.backups(volume) as u16 + 1 {
+            for lbn in (0..lbns).step_by(step).chain([lbns]) {
+                let expected = history.read(volume, number, lbn);
+                assert_eq!(plain.read(volume, number, lbn), expected);
+                let ours = store::read(&stored.book, &stored.pool, volume, number, lbn);
+                assert_eq!(ours, expected.map(|block| &block[..]));
+            }
+        }
+    }
+}
+
+/// The history's answer where it has one.
+fn past_answer(history: &History, call: &Call) -> Option<Answer> {
+    let Call::Read {
+        volume,
+        number,
+        lbn,
+    } = *call
+    else {
+        return None;
+    };
+    let past = history.read(volume, number, lbn);
+    Some(past.map_or_else(Answer::Refused, |block| Answer::Block(Box::new(*block))))
+}
+
+fn changes_nothing(answer: &Answer) -> bool {
+    matches!(
+        answer,
+        Answer::Refused(_) | Answer::Block(_) | Answer::Sound(_)
+    )
+}
+
+fn run(label: &str, mut calls: RandomCalls, number: usize, seen: &mut Seen) {
+    let sizes = calls.sizes();
+    let pool = calls.first_pool();
+    let mut stored = Stored::new(sizes, pool).expect("sizes in range");
+    let mut plain = Plain::new(sizes);
+    let mut history = History::new(sizes.lbns);
+    for _ in 0..number {
+        let call = calls.next_call();
+        let before = stored.clone();
+        let answer = stored.call(&call);
+        assert_eq!(plain.call(&call), answer, "{label}, {call:?}");
+        if let Some(past) = past_answer(&history, &call) {
+            assert_eq!(answer, past, "{label}, {call:?}");
+        }
+        if changes_nothing(&answer) {
+            assert!(stored.book == before.book && stored.pool == before.pool);
+        }
+        history.note(&call, &answer);
+        stores_agree(&stored, &plain);
+        seen.note(&call, &answer, &history);
+        calls.learn(&call, &answer);
+    }
+    reads_agree(&stored, &plain, &history, sizes.lbns);
+}
+
+#[test]
+fn box_plain_store_and_history_agree() {
+    let mut seen = Seen::default();
+    for seed in 0..RUNS {
+        let calls = RandomCalls::seeded(seed);
+        run(&format!("seed {seed}"), calls, CALLS, &mut seen);
+    }
+    let reachable: BTreeSet<u16> = (5..=18).filter(|&number| number != 13).collect();
+    assert_eq!(seen.refusals, reachable);
+    let counts = [
+        seen.freed,
+        seen.taken,
+        seen.shared,
+        seen.blocks_read,
+        seen.kept_read,
+    ];
+    assert!(counts.iter().all(|&times| times > 500), "{counts:?}");
+}
+
+#[test]
+fn they_agree_on_the_largest_book() {
+    let mut seen = Seen::default();
+    for seed in 0..2 {
+        let calls = RandomCalls::largest(seed);
+        run(&format!("largest, seed {seed}"), calls, 60, &mut seen);
+    }
+    assert!(seen.taken > 1_000, "{}", seen.taken);
+}

@@ -1,0 +1,254 @@
+//! Both ends of every range: sizes, retentions, days, numbers, lists and counts.
+
+use reference::call::Stored;
+use reference::cases::{after_d, block, fingerprint, list, list_of, SIZES};
+use reference::form;
+use reference::layout::{Book, Header, Lbn, Pbn, Sizes};
+use reference::refusal::Refusal;
+use reference::store::{self, BackedUp};
+
+const SMALLEST: Sizes = Sizes {
+    blocks: 1,
+    lbns: 1,
+    slots: 1,
+    records: 1,
+};
+
+const LARGEST: Sizes = Sizes {
+    blocks: 4_096,
+    lbns: 1_024,
+    slots: 1_024,
+    records: 16_384,
+};
+
+fn fresh(sizes: Sizes) -> Stored {
+    Stored::new(sizes, vec![0; sizes.pool_bytes()]).expect("sizes in range")
+}
+
+fn backup(stored: &mut Stored, volume: u16, day: u16, list: &[u8]) -> Result<BackedUp, Refusal> {
+    let Stored { book, pool, spare } = stored;
+    store::backup(book, pool, spare, volume, day, list)
+}
+
+#[test]
+fn lengths_run_from_86_to_204_836() {
+    assert_eq!(SMALLEST.book_bytes(), 86);
+    assert_eq!(LARGEST.book_bytes(), 204_836);
+    for sizes in [SMALLEST, LARGEST] {
+        let mut book = vec![0xA5; sizes.book_bytes()];
+        assert_eq!(store::format(&mut book, sizes), Ok(()));
+        assert!(form::check(&book).is_ok());
+        assert_eq!(store::audit(&book), Ok(true));
+    }
+}
+
+#[test]
+fn format_leaves_all_zero_but_layout_sizes_and_maps() {
+    let mut book = vec![0xA5; 276];
+    store::format(&mut book, SIZES).unwrap();
+    let mut expected = vec![0; 276];
+    expected[..10].copy_from_slice(&[1, 0, 4, 0, 4, 0, 6, 0, 8, 0]);
+    expected[116..180].fill(0xFF);
+    assert_eq!(book, expected);
+}
+
+#[test]
+fn sizes_out_of_range_break_the_layout() {
+    let wrong = [
+        Sizes { blocks: 0, ..SIZES },
+        Sizes {
+            blocks: 4_097,
+            ..SIZES
+        },
+        Sizes { lbns: 0, ..SIZES },
+        Sizes {
+            lbns: 1_025,
+            ..SIZES
+        },
+        Sizes { slots: 0, ..SIZES },
+        Sizes {
+            slots: 1_025,
+            ..SIZES
+        },
+        Sizes {
+            records: 0,
+            ..SIZES
+        },
+        Sizes {
+            records: 16_385,
+            ..SIZES
+        },
+    ];
+    for sizes in wrong {
+        let mut book = vec![0; sizes.book_bytes()];
+        assert_eq!(store::format(&mut book, sizes), Err(Refusal::Layout));
+        assert!(book.iter().all(|&byte| byte == 0));
+        reference::layout::format(&mut book, sizes);
+        assert_eq!(form::check(&book).err(), Some(Refusal::Layout));
+    }
+}
+
+#[test]
+fn enrol_takes_volumes_0_to_7_and_retentions_1_to_5_000() {
+    let mut book = fresh(SMALLEST).book;
+    for retention in [0, 5_001, 65_535] {
+        let result = store::enrol(&mut book, 0, retention);
+        assert_eq!(result, Err(Refusal::Retention));
+    }
+    assert_eq!(store::enrol(&mut book, 0, 1), Ok(()));
+    assert_eq!(store::enrol(&mut book, 7, 5_000), Ok(()));
+    for volume in [0, 7, 8, 256, 65_535] {
+        let result = store::enrol(&mut book, volume, 1);
+        assert_eq!(result, Err(Refusal::Volume));
+    }
+    let view = form::check(&book).unwrap();
+    assert_eq!((view.retention(0), view.retention(7)), (1, 5_000));
+}
+
+#[test]
+fn days_run_from_the_headers_to_60_000() {
+    let mut book = after_d().book;
+    assert_eq!(store::collect(&mut book, 8), Err(Refusal::Day));
+    assert_eq!(store::collect(&mut book, 9), Ok(0));
+    assert_eq!(store::collect(&mut book, 60_001), Err(Refusal::Day));
+    assert_eq!(store::collect(&mut book, 60_000), Ok(1));
+    assert_eq!(store::collect(&mut book, 59_999), Err(Refusal::Day));
+    let mut stored = after_d();
+    assert_eq!(backup(&mut stored, 0, 8, &[0, 0]), Err(Refusal::Day));
+    assert_eq!(backup(&mut stored, 1, 9, &[0, 0]), Err(Refusal::Day));
+    assert!(backup(&mut stored, 0, 9, &[0, 0]).is_ok());
+    assert_eq!(backup(&mut stored, 1, 60_001, &[0, 0]), Err(Refusal::Day));
+    assert!(backup(&mut stored, 1, 60_000, &[0, 0]).is_ok());
+}
+
+#[test]
+fn expiries_reach_65_000() {
+    let mut stored = fresh(SIZES);
+    store::enrol(&mut stored.book, 7, 5_000).unwrap();
+    backup(&mut stored, 7, 59_999, &list(&[(0, "A")])).unwrap();
+    backup(&mut stored, 7, 60_000, &list(&[(0, "B")])).unwrap();
+    let view = form::check(&stored.book).unwrap();
+    assert_eq!(view.entry(Pbn(0)).expiry, 65_000);
+    assert_eq!(store::audit(&stored.book), Ok(true));
+}
+
+#[test]
+fn lists_keep_within_the_volume() {
+    let change = (fingerprint('A'), block('A'));
+    let taken = |pairs: &[(u16, u16)]| {
+        let number: u32 = pairs.iter().map(|(_, length)| u32::from(*length)).sum();
+        let list = list_of(pairs, &vec![change; number as usize]);
+        reference::change_list::read(&list, 4).is_ok()
+    };
+    assert!(taken(&[]));
+    assert!(taken(&[(0, 4)]));
+    assert!(taken(&[(3, 1)]));
+    assert!(taken(&[(0, 1), (1, 1), (2, 2)]));
+    assert!(!taken(&[(0, 5)]));
+    assert!(!taken(&[(3, 2)]));
+    assert!(!taken(&[(4, 1)]));
+    assert!(!taken(&[(4, 0)]));
+    assert!(!taken(&[(0, 0)]));
+    assert!(!taken(&[(0, 2), (1, 1)]));
+    assert!(!taken(&[(1, 1), (0, 1)]));
+    assert!(!taken(&[(1, 1), (1, 1)]));
+    // First and length that pass 65,535 together.
+    assert!(!taken(&[(65_535, 2)]));
+    assert!(!taken(&[(2, 65_535)]));
+}
+
+#[test]
+fn lists_have_their_exact_length() {
+    let taken = |list: &[u8]| reference::change_list::read(list, 4).is_ok();
+    let mut list = list(&[(1, "AB")]);
+    assert_eq!(list.len(), 2 + 4 + 2 * 528);
+    assert!(taken(&list));
+    list.push(0);
+    assert!(!taken(&list));
+    for length in 0..list.len() - 1 {
+        assert!(!taken(&list[..length]));
+    }
+    assert!(taken(&[0, 0]));
+    assert!(!taken(&[0, 0, 0]));
+    assert!(!taken(&[1, 0]));
+}
+
+#[test]
+fn slots_and_journal_fill_up_to_the_last() {
+    let sizes = Sizes {
+        slots: 3,
+        records: 4,
+        ..SIZES
+    };
+    let mut stored = fresh(sizes);
+    store::enrol(&mut stored.book, 0, 1).unwrap();
+    let three = list(&[(0, "ABC")]);
+    let two = list(&[(0, "AB")]);
+    let one = list(&[(3, "A")]);
+    assert!(backup(&mut stored, 0, 1, &three).is_ok());
+    let result = backup(&mut stored, 0, 2, &two);
+    assert_eq!(result, Err(Refusal::JournalFull));
+    assert!(backup(&mut stored, 0, 2, &one).is_ok());
+    let result = backup(&mut stored, 0, 3, &one);
+    assert_eq!(result, Err(Refusal::JournalFull));
+    assert!(backup(&mut stored, 0, 3, &[0, 0]).is_ok());
+    let result = backup(&mut stored, 0, 4, &[0, 0]);
+    assert_eq!(result, Err(Refusal::SlotsFull));
+    assert_eq!(store::audit(&stored.book), Ok(true));
+}
+
+#[test]
+fn a_block_is_named_255_times_at_most() {
+    let sizes = Sizes {
+        blocks: 2,
+        lbns: 300,
+        slots: 9,
+        records: 600,
+    };
+    let mut stored = fresh(sizes);
+    store::enrol(&mut stored.book, 3, 1).unwrap();
+    let many = |length: usize| list(&[(0, &"A".repeat(length))]);
+    let result = backup(&mut stored, 3, 1, &many(256));
+    assert_eq!(result, Err(Refusal::CountFull));
+    assert!(backup(&mut stored, 3, 1, &many(255)).is_ok());
+    let again = backup(&mut stored, 3, 2, &many(255)).unwrap();
+    assert_eq!((again.taken, again.touched), (0, 510));
+    let result = backup(&mut stored, 3, 3, &list(&[(255, "A")]));
+    assert_eq!(result, Err(Refusal::CountFull));
+    // Lowering one cell first makes room for another.
+    assert!(backup(&mut stored, 3, 3, &list(&[(0, "B"), (255, "A")])).is_ok());
+    assert_eq!(store::audit(&stored.book), Ok(true));
+}
+
+#[test]
+fn read_takes_kept_numbers_and_lbns_of_the_volume() {
+    let mut stored = after_d();
+    let read = |stored: &Stored, number, lbn| {
+        let part = store::read(&stored.book, &stored.pool, 0, number, lbn);
+        part.map(|bytes| bytes[0])
+    };
+    assert_eq!(read(&stored, 0, 0), Err(Refusal::Number));
+    assert_eq!(read(&stored, 1, 0), Ok(b'A'));
+    assert_eq!(read(&stored, 2, 0), Ok(b'C'));
+    assert_eq!(read(&stored, 3, 0), Err(Refusal::Number));
+    assert_eq!(read(&stored, 2, 3), Err(Refusal::Unmapped));
+    assert_eq!(read(&stored, 2, 4), Err(Refusal::LbnAbove));
+    store::collect(&mut stored.book, 18).unwrap();
+    assert_eq!(read(&stored, 1, 0), Ok(b'A'));
+    store::collect(&mut stored.book, 19).unwrap();
+    assert_eq!(read(&stored, 1, 0), Err(Refusal::NotKept));
+    assert_eq!(read(&stored, 2, 1), Ok(b'B'));
+}
+
+#[test]
+fn the_cursor_goes_round() {
+    let mut stored = fresh(LARGEST);
+    store::enrol(&mut stored.book, 0, 1).unwrap();
+    Book::over(&mut stored.book[..]).set_header(Header::Cursor, 4_095);
+    backup(&mut stored, 0, 1, &list(&[(1_022, "AB")])).unwrap();
+    let view = form::check(&stored.book).unwrap();
+    assert_eq!(view.cell(0, Lbn(1_022)), Pbn(4_095));
+    assert_eq!(view.cell(0, Lbn(1_023)), Pbn(0));
+    assert_eq!(view.header(Header::Cursor), 1);
+    assert_eq!(stored.pool[4_095 * 512..], block('A'));
+}

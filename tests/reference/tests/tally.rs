@@ -1,0 +1,51 @@
+//! The pages of tally: totals, and both refusals.
+
+use reference::call::Stored;
+use reference::cases::after_d;
+use reference::layout::{Book, Header, Sizes};
+use reference::tally::page;
+
+/// A fresh book of 65,536 bytes.
+fn longest() -> Vec<u8> {
+    let sizes = Sizes {
+        blocks: 1_325,
+        lbns: 1_000,
+        slots: 1_000,
+        records: 2_500,
+    };
+    let stored = Stored::new(sizes, Vec::new()).unwrap();
+    assert_eq!(stored.book.len(), 65_536);
+    stored.book
+}
+
+#[test]
+fn totals_after_d() {
+    let totals = "blocks 4\nheld 3\nfree 1\nwaiting 1\nreferences 3\n";
+    assert_eq!(page(&after_d().book), totals.as_bytes());
+}
+
+#[test]
+fn totals_of_the_longest_input() {
+    let totals = "blocks 1325\nheld 0\nfree 1325\nwaiting 0\nreferences 0\n";
+    assert_eq!(page(&longest()), totals.as_bytes());
+}
+
+#[test]
+fn longer_input_is_refused_1() {
+    let mut input = longest();
+    input.push(0);
+    assert_eq!(page(&input), b"refused 1\n");
+}
+
+#[test]
+fn a_broken_layout_is_refused_1() {
+    assert_eq!(page(b""), b"refused 1\n");
+    assert_eq!(page(&after_d().book[..275]), b"refused 1\n");
+}
+
+#[test]
+fn a_book_out_of_form_is_refused_2() {
+    let mut book = after_d().book;
+    Book::over(&mut book[..]).set_header(Header::Cursor, 4);
+    assert_eq!(page(&book), b"refused 2\n");
+}

@@ -1,0 +1,104 @@
+//! Books whose length, layout number or sizes break the layout (refusal 1).
+
+use reference::cases;
+use reference::layout::{self, Book, Header, Sizes};
+
+use crate::vector::{Meant, Vector};
+
+pub fn vectors() -> Vec<Vector> {
+    let mut vectors = lengths();
+    vectors.extend(layout_numbers());
+    for (name, field, values) in SIZE_FIELDS {
+        for value in values {
+            vectors.push(size_alone(name, field, value));
+            vectors.push(size_in_place(name, field, value));
+        }
+    }
+    vectors.push(wrapped_length());
+    vectors
+}
+
+/// Each size with 0 and the number above its range.
+const SIZE_FIELDS: [(&str, Header, [u16; 2]); 4] = [
+    ("blocks", Header::Blocks, [0, 4_097]),
+    ("lbns", Header::Lbns, [0, 1_025]),
+    ("slots", Header::Slots, [0, 1_025]),
+    ("records", Header::Records, [0, 16_385]),
+];
+
+fn refused(name: impl Into<String>, book: Vec<u8>) -> Vector {
+    Vector::new(name, book, Meant::Refused1)
+}
+
+fn lengths() -> Vec<Vector> {
+    let book = cases::after_d().book;
+    let mut vectors: Vec<Vector> = [0, 1, 2, 10, 19, 20, 36]
+        .into_iter()
+        .map(|length| refused(format!("length-{length}"), book[..length].to_vec()))
+        .collect();
+    let one_short = book[..book.len() - 1].to_vec();
+    vectors.push(refused("length-one-short", one_short));
+    let mut one_long = book.clone();
+    one_long.push(0);
+    vectors.push(refused("length-one-long", one_long));
+    vectors.push(refused("length-twice", [&book[..], &book[..]].concat()));
+    vectors
+}
+
+fn layout_numbers() -> Vec<Vector> {
+    let mut vectors: Vec<Vector> = [0, 2, 256, 257, 65_535]
+        .into_iter()
+        .map(|layout| {
+            let name = format!("layout-{layout}");
+            Vector::edited(&name, Meant::Refused1, |book| {
+                book.set_header(Header::Layout, layout);
+            })
+        })
+        .collect();
+    vectors.push(Vector::edited(
+        "layout-2-and-out-of-form",
+        Meant::Refused1,
+        |book| {
+            book.set_header(Header::Layout, 2);
+            book.set_header(Header::Zero, 1);
+        },
+    ));
+    vectors
+}
+
+/// A fresh book of the wrong size, its length that of the sizes it names.
+fn size_alone(name: &str, field: Header, value: u16) -> Vector {
+    let mut sizes = cases::SIZES;
+    match field {
+        Header::Blocks => sizes.blocks = value,
+        Header::Lbns => sizes.lbns = value,
+        Header::Slots => sizes.slots = value,
+        _ => sizes.records = value,
+    }
+    let mut book = vec![0; sizes.book_bytes()];
+    layout::format(&mut book, sizes);
+    refused(format!("{name}-{value}-alone"), book)
+}
+
+/// The book after case d with the size changed and its length kept.
+fn size_in_place(name: &str, field: Header, value: u16) -> Vector {
+    let name = format!("{name}-{value}-in-place");
+    Vector::edited(&name, Meant::Refused1, |book| {
+        book.set_header(field, value);
+    })
+}
+
+/// The largest sizes over as many bytes as their length leaves modulo 65,536.
+fn wrapped_length() -> Vector {
+    let sizes = Sizes {
+        blocks: 4_096,
+        lbns: 1_024,
+        slots: 1_024,
+        records: 16_384,
+    };
+    let mut book = vec![0; sizes.book_bytes()];
+    layout::format(&mut book, sizes);
+    book.truncate(sizes.book_bytes() % 65_536);
+    assert_eq!(Book::over(&book[..]).sizes(), sizes);
+    refused("length-wrapped", book)
+}
