@@ -6,6 +6,7 @@ ghost use Rattle.engine.specs.Backups.{BackupsAre};
 use super::slots::Backups;
 use super::slots::backups_of;
 use book::header;
+use form::form_number;
 use list::BLOCK_SIZE;
 use list::Checked;
 use list::Shape;
@@ -26,7 +27,7 @@ pub enum Allowed {
 fn buffers(book: &[u8], pool: &[u8], spare: usize) -> u16
     ensures { λ r. ⌜ r ≡ bufferNumber (now (book .entry)) (now (pool .entry)) spare ⌝ }
 {
-    let refusal = book::form(book);
+    let refusal = form_number(book);
     if refusal != 0 {
         return refusal;
     }

@@ -9,8 +9,8 @@ ghost use Rattle.book.specs.Next.{withEntry, withEntries};
 ghost use Rattle.model.specs.Collect.{isOver, entryAfter};
 ghost use Rattle.engine.specs.Contracts.{Swept};
 use book::entry;
-use book::form;
 use book::header;
+use form::form_number;
 use words::PBN;
 
 // The block is held, no map names it, and its last day is past.
@@ -58,7 +58,7 @@ fn sweep(book: &mut [u8], day: u16) -> u16
 pub extern "C" fn aspen_collect(book: &mut [u8], day: u16, freed: &mut u16) -> u16
     ensures { λ r. ⌜ Swept (now (book .entry)) day (now (freed .entry)) r (now (book .exit)) (now (freed .exit)) ⌝ }
 {
-    let in_form = form(book);
+    let in_form = form_number(book);
     if in_form != 0 {
         return in_form;
     }

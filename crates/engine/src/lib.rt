@@ -8,6 +8,7 @@ pub mod enrol;
 mod find;
 pub mod format;
 mod image;
+pub mod in_form;
 mod moving;
 mod placing;
 pub mod read;

@@ -12,6 +12,7 @@ use super::image::backups_after;
 use super::image::image_at;
 use super::image::is_kept;
 use book::header;
+use form::form_number;
 use list::BLOCK_SIZE;
 use words::LBN;
 use words::PBN;
@@ -34,7 +35,7 @@ enum Sought {
 fn buffers_number(book: &[u8], pool: &[u8]) -> u16
     ensures { λ r. ⌜ r ≡ buffersNumber (now (book .entry)) (now (pool .entry)) ⌝ }
 {
-    let number = book::form(book);
+    let number = form_number(book);
     if number != 0 {
         return number;
     }

@@ -11,16 +11,16 @@ use Rattle.engine.proofs.allowing.buffers.Statement.{statement}
 use Rattle.engine.proofs.allowing.buffers.Tie as tie
 
 formed : (c : tie.Else1) → formNumber (c .before .before .before .before .args .book .now) ≡ 0
-formed c = sym (c .before .form .ensures) ∙ c .if1 .left
+formed c = sym (c .before .form-number .ensures) ∙ c .if1 .left
 
 size : (c : tie.After-blocks2) → c .blocks2 .result * blockSize ≡ bookOf (c .before .before .before .before .before .args .book .now) .sizes .n * blockSize
 size c = ap (λ (n : ℕ). n * blockSize) (c .blocks2 .ensures)
 
-form-requires : tie.Need-form-requires
-form-requires c κs = search needs
+form-number-requires : tie.Need-form-number-requires
+form-number-requires c κs = search needs
 
 returns : tie.Need-returns
-returns c = buffer-form (c .before .before .before .before .args .book .now) (c .before .before .before .before .args .pool .now) (c .before .before .before .before .args .spare) _ (c .before .form .ensures) (c .if1 .taken)
+returns c = buffer-form (c .before .before .before .before .args .book .now) (c .before .before .before .before .args .pool .now) (c .before .before .before .before .args .spare) _ (c .before .form-number .ensures) (c .if1 .taken)
 
 blocks-requires : tie.Need-blocks-requires
 blocks-requires c κs = holds-form (c .before .before .before .before .args .book .now) (λ i. c .before .before .before .shared-slice-known .given i .fits) (formed c)
@@ -43,4 +43,4 @@ returns-4 c = buffer-none (c .before .before .before .before .before .before .be
 pub buffers-spec : {M : Type 1} → statement M
 buffers-spec =
     tie.close
-    (tie.spec form-requires returns blocks-requires cast-if2 mul-if2 returns-2 returns-3 returns-4)
+    (tie.spec form-number-requires returns blocks-requires cast-if2 mul-if2 returns-2 returns-3 returns-4)

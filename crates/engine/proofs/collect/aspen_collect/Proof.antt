@@ -12,19 +12,19 @@ use Rattle.engine.proofs.collect.aspen_collect.Tie as tie
 
 -- what the check of form says
 formed : (c : tie.Else1) → formNumber (now (c .before .before .before .before .args .book)) ≡ 0
-formed c = sym (c .before .form .ensures) ∙ c .if1 .left
+formed c = sym (c .before .form-number .ensures) ∙ c .if1 .left
 
 holds : (c : tie.Else1) → Holds (now (c .before .before .before .before .args .book))
 holds c = holds-form _ (λ i. c .before .before .before .slice-known .given i .fits) (formed c)
 
-form-requires : tie.Need-form-requires
-form-requires c κs = search needs
+form-number-requires : tie.Need-form-number-requires
+form-number-requires c κs = search needs
 
 same-length : tie.Need-same-length
 same-length c = search needs
 
 returns : tie.Need-returns
-returns c = collect-misformed _ _ _ _ (c .before .form .ensures) (c .if1 .taken)
+returns c = collect-misformed _ _ _ _ (c .before .form-number .ensures) (c .if1 .taken)
 
 same-length-2 : tie.Need-same-length-2
 same-length-2 c = search needs
@@ -60,7 +60,7 @@ pub aspen-collect-spec : {M : Type 1} → statement M
 aspen-collect-spec =
     tie.close
     (tie.spec
-    form-requires
+    form-number-requires
     same-length
     returns
     same-length-2

@@ -6,17 +6,17 @@ use Rattle.engine.specs.ReadingLaws.{buffers-form, buffers-pool, buffers
 use Rattle.engine.proofs.read.buffers_number.Statement.{statement}
 use Rattle.engine.proofs.read.buffers_number.Tie as tie
 
-form-requires : tie.Need-form-requires
-form-requires c κs = search needs
+form-number-requires : tie.Need-form-number-requires
+form-number-requires c κs = search needs
 
 returns : tie.Need-returns
 returns c =
-    let e = c .before .form .ensures in
+    let e = c .before .form-number .ensures in
     e ∙ sym (buffers-form _ _ (λ z. c .if1 .taken (e ∙ z)))
 
 blocks-requires : tie.Need-blocks-requires
 blocks-requires c κs =
-    formed _ (λ i. c .before .before .before .shared-slice-known .given i .fits) (sym (c .before .form .ensures) ∙ c .if1 .left) .holds
+    formed _ (λ i. c .before .before .before .shared-slice-known .given i .fits) (sym (c .before .form-number .ensures) ∙ c .if1 .left) .holds
 
 cast-if2 : tie.Need-cast-if2
 cast-if2 c = search needs
@@ -27,13 +27,13 @@ mul-if2 c = search needs
 returns-2 : tie.Need-returns-2
 returns-2 c =
     let k = c .before .before in
-    sym (buffers-pool _ _ (sym (k .before .form .ensures) ∙ k .if1 .left) (λ e. c .if2 .taken (rw (c .before .blocks2 .ensures) e)))
+    sym (buffers-pool _ _ (sym (k .before .form-number .ensures) ∙ k .if1 .left) (λ e. c .if2 .taken (rw (c .before .blocks2 .ensures) e)))
 
 returns-3 : tie.Need-returns-3
 returns-3 c =
     let k = c .before .before in
-    sym (buffers-good _ _ (sym (k .before .form .ensures) ∙ k .if1 .left) (rw (c .before .blocks2 .ensures) at (c .if2 .left)))
+    sym (buffers-good _ _ (sym (k .before .form-number .ensures) ∙ k .if1 .left) (rw (c .before .blocks2 .ensures) at (c .if2 .left)))
 
 pub buffers-number-spec : {M : Type 1} → statement M
 buffers-number-spec =
-    tie.close (tie.spec form-requires returns blocks-requires cast-if2 mul-if2 returns-2 returns-3)
+    tie.close (tie.spec form-number-requires returns blocks-requires cast-if2 mul-if2 returns-2 returns-3)
