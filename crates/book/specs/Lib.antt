@@ -19,3 +19,4 @@ pub mod FormNumber
 pub mod FormParts
 pub mod Conditions
 pub mod InForm
+pub mod Formed
