@@ -1,18 +1,15 @@
 -- What an audit leaves on each way out. Assumes nothing.
-use Prim.Native.Nat.{ℕ, zero, suc}
-use mathlib.Core.Path.{_≡_, refl, _∙_}
+use Prim.Native.Nat.{ℕ}
+use mathlib.Core.Path.{_≡_, _∙_}
 use mathlib.Core.Bool.{true, false}
 use mathlib.Core.List.{List}
-use Rattle.words.specs.Outcome.{Outcome, refused, accepted, unless}
+use Rattle.words.specs.Accepted.{unless-refused}
+use Rattle.words.specs.Outcome.{refused, accepted}
 use Rattle.book.specs.Layout.{bookOf}
 use Rattle.book.specs.Form.{formNumber}
 use Rattle.model.specs.Audit.{audit}
 use Rattle.model.specs.OnBytes.{auditBytes}
 use Rattle.auditor.specs.Contracts.{Audited}
-
-unless-refused : {A : Type 0} (k : ℕ) (o : Outcome A) → (k ≡ 0 → ⊥) → unless k o ≡ refused k
-unless-refused zero o h = absurd (h refl)
-unless-refused (suc k) o h = refl
 
 pub audit-refused : (b : List ℕ) (sound : ℕ) {r : ℕ} → r ≡ formNumber b → (r ≡ 0 → ⊥) → Audited b sound r sound
 unfolding auditBytes

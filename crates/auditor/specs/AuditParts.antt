@@ -18,10 +18,10 @@ use Rattle.book.specs.Book.{Book, Sized, entryAt, cellAt}
 use Rattle.book.specs.Layout.{bookOf}
 use Rattle.book.specs.FormParts.{BookParts}
 use Rattle.book.specs.Conditions.{entry-in, cell-in}
+use Rattle.book.specs.Formed.{Formed}
 use Rattle.model.specs.Journal.{journal}
 use Rattle.model.specs.Audit.{mapsSound, countSound, expirySound, printsSound, cellSound, currentSound, backupsSound, audit}
-use Rattle.auditor.specs.Formed.{Formed}
-use Rattle.auditor.specs.KeptBefores.{takenSound, kept-befores}
+use Rattle.model.specs.KeptBefores.{takenSound, kept-befores}
 use Rattle.auditor.specs.MapsReplayed.{maps-replayed}
 
 -- the five tests

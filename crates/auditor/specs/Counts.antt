@@ -17,8 +17,8 @@ use Rattle.words.specs.Lists.{all, countOf, joined, upFrom}
 use Rattle.words.specs.Stores.{getD-set}
 use Rattle.book.specs.Book.{volumes, Entry, entryAt}
 use Rattle.book.specs.Layout.{bookOf}
+use Rattle.book.specs.Formed.{Formed}
 use Rattle.model.specs.Audit.{countSound}
-use Rattle.auditor.specs.Formed.{Formed}
 use Rattle.auditor.specs.Matching.{matching, matching-same}
 
 -- the most blocks that a pool has

@@ -18,10 +18,10 @@ use Rattle.book.specs.Book.{Entry, Rec, Book, noRec, entryAt, recAt, retentionO
 use Rattle.book.specs.Layout.{bookOf}
 use Rattle.book.specs.Struct.{RecordIs}
 use Rattle.book.specs.declared.record.Record.{Record}
+use Rattle.book.specs.Formed.{Formed}
 use Rattle.model.specs.Journal.{Backup, journal}
 use Rattle.model.specs.Audit.{hasBefore, untilIn, expirySound}
 use Rattle.auditor.specs.Counts.{poolBlocks, numberAt}
-use Rattle.auditor.specs.Formed.{Formed}
 use Rattle.auditor.specs.Matching.{matching, matching-same}
 
 -- a′ is a with block p's expiry at least f p

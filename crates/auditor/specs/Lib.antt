@@ -1,14 +1,12 @@
 pub mod Contracts
-pub mod Formed
-pub mod JournalAt
+pub mod Bounds
+pub mod JournalRead
 pub mod Matching
 pub mod Table
 pub mod TableMaps
 pub mod Counts
 pub mod Expiries
 pub mod Stamps
-pub mod KeptNumbers
-pub mod KeptBefores
 pub mod MapsReplayed
 pub mod AuditParts
 pub mod PrintsApart

@@ -2,10 +2,10 @@
 use Prim.Native.Nat.{ℕ, _≤_, _<_}
 use mathlib.Core.Path.{_≡_, sym, ap, _∙_}
 use mathlib.Core.Bool.{Bool, true, false, _&&_}
-use mathlib.Core.List.{List, [], _∷_, map}
+use mathlib.Core.List.{List, [], _∷_}
 use native.Mathlib.Omega.{arith}
 use lib.Dec.{leb, ltb, eqb}
-use lib.ListN.{length, getD, set, replicate, length-set, length-replicate, getD-replicate}
+use lib.ListN.{length, getD, set, drop, replicate, length-set, length-replicate, getD-replicate}
 use borrow.Author.Tests.{eqb-true, ltb-true, leb-true, le-leb}
 use Rattle.words.specs.Places.{all-weaker}
 use Rattle.words.specs.Blocks.{unmapped}
@@ -17,13 +17,13 @@ use Rattle.words.specs.Stores.{getD-set}
 use Rattle.book.specs.Book.{volumes, Sizes, Slot, Rec, Book, Sized}
 use Rattle.book.specs.Form.{enrolled, pbnOk, recOk, slotOk, laterOk, daysOk}
 use Rattle.book.specs.FormParts.{BookParts}
-use Rattle.model.specs.Journal.{Backup, journal, backupsIn}
+use Rattle.model.specs.Journal.{Backup, journalOf, journal, backupsIn}
 use Rattle.model.specs.Audit.{applied, replayed, beforesIn, befores, noMaps, sameMap, mapsSound}
 use Rattle.model.specs.Sound.{Sound, SoundAll, Days}
 use Rattle.model.specs.JournalLaws.{length-applied}
 use Rattle.model.specs.Replays.{mapAfter, backupsIn-replayed, backupsIn-sound, backupsIn-days}
-use Rattle.auditor.specs.JournalAt.{backupOf, backupIn, journal-slots, journal-in}
-use Rattle.auditor.specs.KeptBefores.{Replayed}
+use Rattle.model.specs.KeptBefores.{Replayed}
+use Rattle.auditor.specs.JournalRead.{backupIn, journal-in}
 
 -- ---- the tests of befores as facts
 
@@ -71,7 +71,7 @@ befores-all z ms (b ∷ bs) n rows ok e =
 -- ---- days never fall, as form says
 
 days-slots : (rs : List Rec) (d e : ℕ) (ts : List Slot) → d ≤ e → all (λ t. leb d (t .day)) ts ≡ true → daysOk ts ≡ true → all (λ t. leb (t .day) e) ts ≡ true
-    → Days d (map (backupOf rs) ts) e
+    → Days d (journalOf ts rs) e
 unfolding Days laterOk
 days-slots rs d e [] h low ok high = h
 days-slots rs d e (t ∷ ts) h low ok high =
@@ -79,18 +79,17 @@ days-slots rs d e (t ∷ ts) h low ok high =
     let b = and-true (all (laterOk t) ts) (daysOk ts) ok in
     let c = and-true (leb (t .day) e) (all (λ t. leb (t .day) e) ts) high in (
       leb-true d (t .day) (a .0),
-      days-slots rs (t .day) e ts (leb-true (t .day) e (c .0)) (all-weaker (laterOk t) (λ u. leb (t .day) (u .day)) ts (λ u f. and-true (leb (t .day) (u .day)) _ f .0) (b .0)) (b .1) (c .1),
+      days-slots (drop (t .number) rs) (t .day) e ts (leb-true (t .day) e (c .0)) (all-weaker (laterOk t) (λ u. leb (t .day) (u .day)) ts (λ u f. and-true (leb (t .day) (u .day)) _ f .0) (b .0)) (b .1) (c .1),
     )
 
 -- ---- a book in form whose maps are sound
 
 module _ (x : Book) (s : Sized x) (p : BookParts x) where
   days-journal : Days 0 (journal x) (x .day)
-  unfolding slotOk
+  unfolding slotOk journal
   days-journal =
-      rw (journal-slots x p)
-      (days-slots (x .records) 0 (x .day) (x .slots) (omega arith) (all-weaker (slotOk x) (λ t. leb 0 (t .day)) (x .slots) (λ t f. le-leb 0 (t .day) (omega arith)) (p .slots)) (p .days)
-      (all-weaker (slotOk x) (λ t. leb (t .day) (x .day)) (x .slots) (λ t f. and-true (enrolled x (t .volume)) (leb (t .day) (x .day)) f .1) (p .slots)))
+      days-slots (x .records) 0 (x .day) (x .slots) (omega arith) (all-weaker (slotOk x) (λ t. leb 0 (t .day)) (x .slots) (λ t f. le-leb 0 (t .day) (omega arith)) (p .slots)) (p .days)
+      (all-weaker (slotOk x) (λ t. leb (t .day) (x .day)) (x .slots) (λ t f. and-true (enrolled x (t .volume)) (leb (t .day) (x .day)) f .1) (p .slots))
 
   row-none : (v : ℕ) → v < volumes → getD (noMaps x) v [] ≡ replicate (x .sizes .l) unmapped
   unfolding noMaps

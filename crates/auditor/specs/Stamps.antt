@@ -22,13 +22,14 @@ use Rattle.book.specs.Layout.{bookOf}
 use Rattle.book.specs.Struct.{SlotIs, RecordIs}
 use Rattle.book.specs.declared.record.Record.{Record}
 use Rattle.book.specs.declared.slot.Slot as read
+use Rattle.book.specs.Formed.{Formed}
 use Rattle.model.specs.Journal.{Backup, journal}
 use Rattle.model.specs.Audit.{cellSound}
 use Rattle.model.specs.ReadRule.{firstBefore}
-use Rattle.auditor.specs.Formed.{Formed}
-use Rattle.auditor.specs.JournalAt.{backupAt, readBackup, journal-next}
+use Rattle.model.specs.JournalAt.{backupAt, journal-next}
+use Rattle.model.specs.KeptBefores.{takenSound}
+use Rattle.auditor.specs.JournalRead.{readBackup, backup-read}
 use Rattle.auditor.specs.Table.{rowSize}
-use Rattle.auditor.specs.KeptBefores.{takenSound}
 
 -- each record whose LBN has not the stamp k yet has a before that is unmapped or held
 abbrev pub firstsSound : Book → ℕ → List ℕ → List Rec → Bool
@@ -186,7 +187,7 @@ module _ (x : Book) (b : Backup) where
 module _ {b : List ℕ} (f : Formed b) (q : ℕ) (h : q < length (bookOf b .slots)) {r : read.Slot} (i : SlotIs (slotAt (bookOf b .slots) q) r)
     {a : List ℕ} (long : length a ≡ rowSize) (low : (l : ℕ) → getD a l 0 ≤ q) where
   pub slot-past : r .day + retentionOf (bookOf b) (r .volume) < bookOf b .day → SlotTaken (bookOf b) (backupAt (bookOf b) q) (q + 1) true a
-  slot-past k = rw (← (i .volume), ← (i .day), ← (i .first), ← (i .number)) (taken-past (bookOf b) (readBackup (bookOf b .records) r) q k long low)
+  slot-past k = rw (backup-read f q h i) (taken-past (bookOf b) (readBackup (bookOf b .records) r) q k long low)
 
   pub slot-kept : {a′ : List ℕ} {good : Bool} → bookOf b .day ≤ r .day + retentionOf (bookOf b) (r .volume)
       → Firsts (bookOf b) (q + 1) a (slice (r .first) (r .first + r .number) (bookOf b .records)) good a′
@@ -196,7 +197,7 @@ module _ {b : List ℕ} (f : Formed b) (q : ℕ) (h : q < length (bookOf b .slot
       let ok : all (recOk (x .sizes)) (slice (r .first) (r .first + r .number) (x .records)) ≡ true =
       all-drop (recOk (x .sizes)) (r .first) (take (r .first + r .number) (x .records)) (all-take (recOk (x .sizes)) (r .first + r .number) (x .records) (f .parts .records))
       in
-      rw (← (i .volume), ← (i .day), ← (i .first), ← (i .number)) (taken-kept x (readBackup (x .records) r) q k (f .holds .l) long low ok w)
+      rw (backup-read f q h i) (taken-kept x (readBackup (x .records) r) q k (f .holds .l) long low ok w)
 
 -- what is left of the journal, one slot further
 pub taken-next : {b : List ℕ} → Formed b → (q : ℕ) → q < length (bookOf b .slots) → (good : Bool) {t whole : Bool} → t ≡ takenSound (bookOf b) (backupAt (bookOf b) q)
@@ -204,5 +205,5 @@ pub taken-next : {b : List ℕ} → Formed b → (q : ℕ) → q < length (bookO
     → whole ≡ ((good && t) && all (takenSound (bookOf b)) (drop (q + 1) (journal (bookOf b))))
 taken-next {b} f q h good e w =
     let x = bookOf b in
-    w ∙ ap (λ (bs : List Backup). good && all (takenSound x) bs) (journal-next x (f .parts) q h)
+    w ∙ ap (λ (bs : List Backup). good && all (takenSound x) bs) (journal-next x q h)
     ∙ rw e (sym (and-assoc good (takenSound x (backupAt x q)) (all (takenSound x) (drop (q + 1) (journal x)))))

@@ -17,10 +17,10 @@ use Rattle.words.specs.Stores.{getD-set}
 use Rattle.book.specs.Book.{volumes, Sizes, Rec, Book, Sized, cellAt}
 use Rattle.book.specs.Layout.{bookOf}
 use Rattle.book.specs.Form.{pbnOk, recOk}
+use Rattle.book.specs.Formed.{Formed}
 use Rattle.model.specs.Journal.{Backup, journal}
 use Rattle.model.specs.Audit.{applied, replayed, beforesIn, befores, noMaps, sameMap, mapsSound}
-use Rattle.auditor.specs.Formed.{Formed}
-use Rattle.auditor.specs.JournalAt.{backupIn, journal-in}
+use Rattle.auditor.specs.JournalRead.{backupIn, journal-in}
 use Rattle.auditor.specs.Matching.{matching, matching-same}
 use Rattle.auditor.specs.Table.{rowSize, tableSize, cellsAfter, cellsBefore, tableAfter, tableBefores, ReplaysAll}
 

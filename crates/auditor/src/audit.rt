@@ -1,9 +1,9 @@
 // Audit: whether the book is sound.
 ghost use mathlib.Core.Path.{_≡_};
 ghost use Rattle.book.specs.Layout.{bookOf};
+ghost use Rattle.book.specs.Formed.{Formed};
 ghost use Rattle.model.specs.Audit.{audit};
 ghost use Rattle.auditor.specs.Contracts.{Audited};
-ghost use Rattle.auditor.specs.Formed.{Formed};
 use super::audit_counts::counts_sound;
 use super::audit_expiries::expiries_sound;
 use super::audit_kept::backups_held;

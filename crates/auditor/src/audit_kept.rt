@@ -8,11 +8,11 @@ ghost use lib.Seq.{slice};
 ghost use Rattle.words.specs.Blocks.{unmapped};
 ghost use Rattle.words.specs.Lists.{all};
 ghost use Rattle.book.specs.Layout.{bookOf};
+ghost use Rattle.book.specs.Formed.{Formed};
 ghost use Rattle.model.specs.Journal.{journal};
 ghost use Rattle.model.specs.Audit.{cellSound};
-ghost use Rattle.auditor.specs.Formed.{Formed};
-ghost use Rattle.auditor.specs.JournalAt.{backupAt};
-ghost use Rattle.auditor.specs.KeptBefores.{takenSound};
+ghost use Rattle.model.specs.JournalAt.{backupAt};
+ghost use Rattle.model.specs.KeptBefores.{takenSound};
 ghost use Rattle.auditor.specs.Stamps.{Firsts, SlotTaken};
 ghost use Rattle.auditor.specs.Table.{rowSize};
 use book::entry::is_held;
@@ -22,13 +22,14 @@ use book::header::used_slots;
 use book::record::record_at;
 use book::slot::slot_at;
 use words::PBN;
+use words::UNMAPPED;
 
 fn unmapped_or_held(book: &[u8], p: PBN) -> bool
     requires { ⌜ Formed (now book) ⌝ }
     requires { ⌜ (p .0 < bookOf (now book) .sizes .n) ⊎ (p .0 ≡ unmapped) ⌝ }
     ensures { λ r. ⌜ r ≡ cellSound (bookOf (now (book .entry))) (p .0) ⌝ }
 {
-    if p.0 == 65535 {
+    if p.0 == UNMAPPED {
         return true;
     }
     is_held(book, p)

@@ -5,9 +5,9 @@ ghost use lib.ListN.{length};
 ghost use lib.Seq.{slice};
 ghost use Rattle.book.specs.Book.{volumes};
 ghost use Rattle.book.specs.Layout.{bookOf};
+ghost use Rattle.book.specs.Formed.{Formed};
 ghost use Rattle.model.specs.Journal.{journal};
 ghost use Rattle.model.specs.Audit.{mapsSound};
-ghost use Rattle.auditor.specs.Formed.{Formed};
 ghost use Rattle.auditor.specs.Table.{rowSize, Replays, ReplaysAll};
 ghost use Rattle.auditor.specs.TableMaps.{rowMatches, tableMatches};
 use book::header::cells;
@@ -16,6 +16,7 @@ use book::map::cell;
 use book::record::record_at;
 use book::slot::slot_at;
 use words::LBN;
+use words::UNMAPPED;
 
 // The places of a volume in a table of all cells.
 pub const ROW: usize = 1024;
@@ -90,7 +91,7 @@ pub fn maps_sound(book: &[u8]) -> bool
     requires { ⌜ Formed (now book) ⌝ }
     ensures { λ r. ⌜ r ≡ mapsSound (bookOf (now (book .entry))) ⌝ }
 {
-    let mut table = [65535u16; 8192];
+    let mut table = [UNMAPPED; 8192];
     let replayed = replay(book, &mut table);
     replayed & matches(book, &table)
 }

@@ -1,7 +1,7 @@
 -- What a book holds (document 01, "The book"), with no byte in it. Assumes nothing.
-use Prim.Native.Nat.{ℕ, _+_, _≤_, _<_}
+use Prim.Native.Nat.{ℕ, _≤_, _<_}
 use mathlib.Core.Path.{_≡_}
-use mathlib.Core.Bool.{Bool, true, false, not}
+use mathlib.Core.Bool.{Bool, false, not}
 use mathlib.Core.List.{List, []}
 use lib.ListN.{length, getD, replicate}
 use Rattle.words.specs.Blocks.{printSize, unmapped}

@@ -1,18 +1,18 @@
 -- Bytes in form: the shape that they have, and that a book's conditions and the shape are all that form asks. Assumes nothing.
 use Prim.Native.Nat.{ℕ, _+_, _-_, _*_, _≤_, _<_}
-use mathlib.Core.Path.{_≡_, ap, _∙_, sym}
+use mathlib.Core.Path.{_≡_, _∙_, sym}
 use mathlib.Core.Bool.{true}
 use mathlib.Core.List.{List}
 use native.Mathlib.Omega.{arith}
-use lib.Dec.{leb, eqb}
+use lib.Dec.{eqb}
 use lib.ListN.{length, getD}
 use borrow.Author.Tests.{leb-true, eqb-true, le-leb, eq-eqb}
-use Rattle.words.specs.Each.{each, each-at, at-each, all-each, zeros-each}
+use Rattle.words.specs.Each.{each-at, at-each, all-each, zeros-each}
 use Rattle.words.specs.Lists.{allZero}
 use Rattle.words.specs.Numbers.{num}
 use Rattle.words.specs.Sections.{part}
 use Rattle.book.specs.Book.{Sizes, Book, Sized}
-use Rattle.book.specs.Layout.{layoutNumber, headerSize, nPlace, sPlace, jPlace, bPlace, uPlace, entryPlace, slotSize, slotPlace, recordsFrom, recSize, recPlace, bookSize, bytes, sizesOf, bookOf, Holds}
+use Rattle.book.specs.Layout.{layoutNumber, headerSize, nPlace, sPlace, jPlace, bPlace, uPlace, entryPlace, slotSize, slotPlace, recSize, recPlace, bookSize, bytes, sizesOf, bookOf, Holds}
 use Rattle.book.specs.Form.{between, sizesOk, layoutOk, stateOk, secondOk, bookOk, formNumber}
 use Rattle.book.specs.FormNumber.{SizesIn, Laid, layout-facts, form-parts, parts-form}
 use Rattle.book.specs.FormParts.{RawParts, raw-parts, parts-raw}

@@ -5,4 +5,5 @@ pub mod header;
 pub mod map;
 pub mod place;
 pub mod record;
+pub mod sizes;
 pub mod slot;

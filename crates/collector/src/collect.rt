@@ -54,6 +54,7 @@ fn sweep(book: &mut [u8], day: u16) -> u16
     freed
 }
 
+// The call: freed is how many blocks became free.
 pub fn collect(book: &mut [u8], day: u16, freed: &mut u16) -> u16
     ensures { λ r. ⌜ Swept (now (book .entry)) day (now (freed .entry)) r (now (book .exit)) (now (freed .exit)) ⌝ }
 {

@@ -14,6 +14,9 @@ use book::place::ENTRY_SIZE;
 use book::place::REC_SIZE;
 use book::place::SLOT_SIZE;
 use book::place::VOLUMES;
+use book::sizes::size;
+use book::sizes::sizes_ok;
+use words::UNMAPPED;
 use words::u16_at;
 use words::wide;
 ghost use Prim.Native.Nat.{_+_, _*_, _≤_, _<_};
@@ -21,8 +24,8 @@ ghost use mathlib.Core.Path.{_≡_};
 ghost use mathlib.Core.Bool.{_&&_};
 ghost use lib.ListN.{length};
 ghost use Rattle.words.specs.Numbers.{num};
-ghost use Rattle.book.specs.Layout.{nPlace, lPlace, dayPlace, headerSize, entriesFrom, entryPlace, entrySize, slotsFrom, bookSize, slotSize, recSize, entryOf, recOf, sizesOf};
-ghost use Rattle.book.specs.Form.{between, sizesOk, layoutOk, stateOk, entryOk, pbnOk, recOk, formNumber};
+ghost use Rattle.book.specs.Layout.{nPlace, lPlace, dayPlace, headerSize, entriesFrom, entryPlace, entrySize, slotsFrom, slotSize, recSize, entryOf, recOf, sizesOf};
+ghost use Rattle.book.specs.Form.{layoutOk, stateOk, entryOk, pbnOk, recOk, formNumber};
 ghost use Rattle.book.specs.FormNumber.{Laid};
 ghost use Rattle.form.specs.Passes.{blocksOk, slotsOk, journalOk};
 ghost use Rattle.form.specs.Days.{noLasts};
@@ -41,28 +44,6 @@ fn zeros(b: &[u8], from: usize, to: usize) -> bool
         i += 1;
     }
     clear
-}
-
-fn in_range(x: u16, high: u16) -> bool
-    ensures { λ r. ⌜ r ≡ between 1 high x ⌝ }
-{
-    (1 <= x) & (x <= high)
-}
-
-fn sizes_ok(n: u16, l: u16, s: u16, j: u16) -> bool
-    ensures { λ r. ⌜ r ≡ sizesOk (record { n = n; l = l; s = s; j = j }) ⌝ }
-{
-    in_range(n, 4096) & in_range(l, 1024) & in_range(s, 1024) & in_range(j, 16384)
-}
-
-fn size(n: u16, l: u16, s: u16, j: u16) -> usize
-    ensures { λ r. ⌜ r ≡ bookSize (record { n = n; l = l; s = s; j = j }) ⌝ }
-{
-    ENTRIES_FROM
-        + n as usize * ENTRY_SIZE
-        + VOLUMES * (l as usize * 2)
-        + s as usize * SLOT_SIZE
-        + j as usize * REC_SIZE
 }
 
 fn layout_ok(b: &[u8]) -> bool
@@ -141,7 +122,7 @@ fn entries_ok(b: &[u8], n: usize) -> bool
 fn pbn_ok(p: u16, n: u16) -> bool
     ensures { λ r. ⌜ r ≡ pbnOk n p ⌝ }
 {
-    (p < n) | (p == 65535)
+    (p < n) | (p == UNMAPPED)
 }
 
 // The PBNs of all maps, which stand one after the other. It never leaves early, as `zeros`.

@@ -5,19 +5,21 @@ use mathlib.Core.Bool.{Bool, true, false}
 use mathlib.Core.List.{List, [], _∷_}
 use native.Mathlib.Omega.{arith}
 use lib.Dec.{leb, eqb}
-use lib.ListN.{length, drop, length-map}
+use lib.ListN.{length, length-map}
 use borrow.Author.Tests.{lt-ltb, le-ltb, le-leb, lt-leb, eq-eqb, ne-eqb, eqb-true, ltb-false, not-false}
+use Rattle.words.specs.Accepted.{unless-refused}
 use Rattle.words.specs.Blocks.{blockSize}
 use Rattle.words.specs.Choice.{if_then_else_}
 use Rattle.words.specs.Lists.{those, lastOf}
 use Rattle.words.specs.Outcome.{Outcome, refused, accepted, andThen, unless}
 use Rattle.list.specs.Changes.{changeCount, changes, listNumber}
-use Rattle.book.specs.Book.{Slot, Rec, Book, retentionOf}
+use Rattle.book.specs.Book.{Book, retentionOf}
 use Rattle.book.specs.Layout.{bookOf}
 use Rattle.book.specs.Form.{formNumber}
 use Rattle.model.specs.Days.{badDay, notAfter}
-use Rattle.model.specs.Journal.{Backup, journalOf, journal, backups, days, noVolume}
+use Rattle.model.specs.Journal.{Backup, journal, backups, days, noVolume}
 use Rattle.model.specs.Backup.{Work, Backed, runChanges, begun, closed, backupNumber, backup}
+use Rattle.model.specs.JournalAt.{length-journal}
 use Rattle.model.specs.OnBytes.{poolNumber, spareNumber, BackedBytes, backedBytes, backupBytes}
 use Rattle.intake.specs.Allowing.{orNumber, bufferNumber, dayRefused, roomNumber, goesOn}
 
@@ -124,10 +126,6 @@ module _ (x : Book) (n : ℕ) where
 
 -- ---- the call
 
-unless-stop : {A : Type 0} (k : ℕ) (o : Outcome A) → (k ≡ 0 → ⊥) → unless k o ≡ refused k
-unless-stop zero o h = absurd (h refl)
-unless-stop (suc k) o h = refl
-
 unless-or : {A : Type 0} (j k : ℕ) (o : Outcome A) → unless j (unless k o) ≡ unless (orNumber j k) o
 unless-or zero k o = refl
 unless-or (suc j) k o = refl
@@ -147,7 +145,7 @@ module _ (b pool : List ℕ) (spare v t : ℕ) (list : List ℕ) where
       ∙ unless-or (formNumber b) (orNumber (poolNumber b pool) (spareNumber b spare)) inner
 
   pub buffers-refused : (k : ℕ) → k ≡ bufferNumber b pool spare → (k ≡ 0 → ⊥) → backupBytes b pool spare v t list ≡ refused k
-  buffers-refused k e n = by-buffers ∙ rw (← e) (unless-stop k inner n)
+  buffers-refused k e n = by-buffers ∙ rw (← e) (unless-refused k inner n)
 
   module _ (e : bufferNumber b pool spare ≡ 0) where
     pub number-refused : (k : ℕ) → backupNumber (bookOf b) v t list ≡ k → (k ≡ 0 → ⊥) → backupBytes b pool spare v t list ≡ refused k
@@ -155,7 +153,7 @@ module _ (b pool : List ℕ) (spare v t : ℕ) (list : List ℕ) where
     number-refused k f n =
         by-buffers ∙ rw (e, f)
         (ap (λ (o : Outcome Backed). andThen o (λ (d : Backed). accepted (backedBytes d)))
-        (unless-stop k (andThen (runChanges v (t + retentionOf (bookOf b) v) (changes list) (begun (bookOf b) pool)) (λ (w : Work). accepted (closed (bookOf b) v t (changeCount list) w))) n))
+        (unless-refused k (andThen (runChanges v (t + retentionOf (bookOf b) v) (changes list) (begun (bookOf b) pool)) (λ (w : Work). accepted (closed (bookOf b) v t (changeCount list) w))) n))
 
     pub goes-on : backupNumber (bookOf b) v t list ≡ 0 → backupBytes b pool spare v t list ≡ goesOn (bookOf b) pool v t list
     unfolding backup
@@ -173,11 +171,7 @@ length-those f (x ∷ xs) = go (f x) (length-those f xs)
     go true h = omega arith
     go false h = omega arith
 
-length-journal : (ts : List Slot) (rs : List Rec) → length (journalOf ts rs) ≡ length ts
-length-journal [] rs = refl
-length-journal (t ∷ ts) rs = ap suc (length-journal ts (drop (t .number) rs))
-
 pub days-bound : (x : Book) (v : ℕ) → length (days x v) ≤ length (x .slots)
-unfolding days backups journal
+unfolding days backups
 days-bound x v =
-    omega (arith, length-map (backups x v) (λ b. b .day), length-those (λ (b : Backup). eqb (b .volume) v) (journal x), length-journal (x .slots) (x .records))
+    omega (arith, length-map (backups x v) (λ b. b .day), length-those (λ (b : Backup). eqb (b .volume) v) (journal x), length-journal x)

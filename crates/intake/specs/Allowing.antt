@@ -11,11 +11,11 @@ use Rattle.list.specs.Changes.{changeCount, changes}
 use Rattle.book.specs.Book.{volumes, Book, retentionOf}
 use Rattle.book.specs.Layout.{bookOf}
 use Rattle.book.specs.Form.{formNumber}
+use Rattle.book.specs.Formed.{Formed}
 use Rattle.model.specs.Days.{badDay, notAfter}
 use Rattle.model.specs.Journal.{days}
 use Rattle.model.specs.Backup.{Work, runChanges, begun, closed}
 use Rattle.model.specs.OnBytes.{poolNumber, spareNumber, BackedBytes, backedBytes, backupBytes}
-use Rattle.book.specs.Formed.{Formed}
 use Rattle.mover.specs.Working.{Job}
 use Rattle.intake.specs.declared.allowing.Plan.{Plan}
 use Rattle.intake.specs.declared.allowing.Allowed.{Allowed}

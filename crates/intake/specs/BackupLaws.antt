@@ -11,14 +11,14 @@ use Rattle.book.specs.Layout.{bookOf}
 use Rattle.book.specs.Holding.{bytes-is}
 use Rattle.model.specs.Backup.{Work, runChanges, begun, closed}
 use Rattle.model.specs.OnBytes.{backedBytes, backupBytes}
-use Rattle.intake.specs.Allowing.{Ready, AllowedBy, allowedNumber}
-use Rattle.intake.specs.Closing.{WorkedBy}
-use Rattle.intake.specs.Contracts.{Answers, BackedUp}
 use Rattle.mover.specs.Stepping.{stepNumber}
 use Rattle.mover.specs.Working.{workAt}
 use Rattle.mover.specs.declared.placing.Tally.{Tally}
 use Rattle.mover.specs.declared.moving.Step.{Step}
 use Rattle.mover.specs.declared.moving.Step.the-variants.{Next, Stop}
+use Rattle.intake.specs.Allowing.{Ready, AllowedBy, allowedNumber}
+use Rattle.intake.specs.Closing.{WorkedBy}
+use Rattle.intake.specs.Contracts.{Answers, BackedUp}
 use Rattle.intake.specs.declared.allowing.Plan.{Plan}
 use Rattle.intake.specs.declared.allowing.Allowed.{Allowed}
 use Rattle.intake.specs.declared.allowing.Allowed.the-variants.{Go, Refused}

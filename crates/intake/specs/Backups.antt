@@ -9,8 +9,8 @@ use Rattle.book.specs.Book.{Book, slotAt}
 use Rattle.book.specs.Struct.{SlotIs}
 use Rattle.book.specs.declared.slot.Slot.{Slot}
 use Rattle.model.specs.Journal.{Backup, backups, days}
-use Rattle.intake.specs.declared.slots.Backups.{Backups}
 use Rattle.model.specs.JournalAt.{day-at, backupsFrom, from-start, from-own, from-other, from-end}
+use Rattle.intake.specs.declared.slots.Backups.{Backups}
 
 -- what the code answers
 pub record BackupsAre (x : Book) (v : ℕ) (r : Backups) : Type 0 where

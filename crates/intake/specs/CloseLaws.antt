@@ -10,9 +10,8 @@ use Rattle.list.specs.Changes.{changeCount, changes}
 use Rattle.list.specs.declared.Shape.{Shape}
 use Rattle.book.specs.Book.{Book, entryAt}
 use Rattle.book.specs.Layout.{bookOf, Holds, Is}
-use Rattle.model.specs.Backup.{Work, runChanges, begun}
-use Rattle.intake.specs.Closing.{closedBook, WorkedBy}
 use Rattle.book.specs.Formed.{Formed}
+use Rattle.model.specs.Backup.{Work, runChanges, begun}
 use Rattle.mover.specs.MoveLaws.{is-same}
 use Rattle.mover.specs.PoolLaws.{start-now}
 use Rattle.mover.specs.Stepping.{RanBy}
@@ -20,6 +19,7 @@ use Rattle.mover.specs.Working.{poolNow, workAt, workOf, Job, Standing, Storabl
 use Rattle.mover.specs.declared.placing.Tally.{Tally}
 use Rattle.mover.specs.declared.moving.Step.{Step}
 use Rattle.mover.specs.declared.moving.Step.the-variants.{Next, Stop}
+use Rattle.intake.specs.Closing.{closedBook, WorkedBy}
 
 -- the table of who took a block, before any did
 abbrev pub noMarks : List ℕ

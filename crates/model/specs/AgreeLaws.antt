@@ -1,13 +1,13 @@
 -- What both sides say alike where they agree: current maps, days, numbers of backups, who is enrolled. Assumes nothing.
-use Prim.Native.Nat.{ℕ, suc, _-_, _≤_, _<_}
+use Prim.Native.Nat.{ℕ, suc, _-_, _<_}
 use mathlib.Core.Path.{_≡_, refl, sym, ap, _∙_}
 use mathlib.Core.Bool.{Bool, true, false, not, _||_}
 use mathlib.Core.List.{List, [], map}
 use native.Mathlib.Omega.{arith}
-use lib.Dec.{ltb, eqb}
+use lib.Dec.{ltb}
 use lib.ListN.{length, getD, replicate, getD-replicate, length-map}
 use lib.Seq.{ext-getD}
-use borrow.Author.Tests.{eqb-false, ltb-false}
+use borrow.Author.Tests.{ltb-false}
 use Rattle.words.specs.Blocks.{unmapped}
 use Rattle.words.specs.Choice.{not-both}
 use Rattle.words.specs.Lists.{lastOf}
@@ -40,13 +40,6 @@ volume-inside x v e = go (ltb 7 v) refl e
     go : (t : Bool) → ltb 7 v ≡ t → (t || not (enrolled x v)) ≡ false → v < volumes
     go true f e = absurd (not-both true refl e)
     go false f e = omega (arith, ltb-false 7 v f)
-
-pub number-inside : (k n : ℕ) → (eqb k 0 || ltb n k) ≡ false → (0 < k) × (k ≤ n)
-number-inside k n e = go (eqb k 0) refl e
-  where
-    go : (t : Bool) → eqb k 0 ≡ t → (t || ltb n k) ≡ false → (0 < k) × (k ≤ n)
-    go true f e = absurd (not-both true refl e)
-    go false f e = (let z = eqb-false k 0 f in omega arith, ltb-false n k e)
 
 module _ {x : Book} {pool : List ℕ} {q : Plain} (g : Agree x pool q) where
   -- ---- a volume's backups are sound from the map with no backup

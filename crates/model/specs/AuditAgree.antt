@@ -10,6 +10,7 @@ use Rattle.words.specs.Lists.{all}
 use Rattle.words.specs.Places.{all-place}
 use Rattle.book.specs.Book.{volumes, Rec, Book, cellAt, retentionOf}
 use Rattle.book.specs.Form.{pbnOk}
+use Rattle.book.specs.FormParts.{book-parts}
 use Rattle.model.specs.Days.{kept}
 use Rattle.model.specs.Journal.{Backup, journal, days}
 use Rattle.model.specs.Read.{image}
@@ -18,7 +19,6 @@ use Rattle.model.specs.AuditMeans.{BeforesIn, Befores, Holds, cell-holds
 use Rattle.model.specs.Plain.{Plain}
 use Rattle.model.specs.Agree.{Agree, named}
 use Rattle.model.specs.Sound.{Sound, SoundAll}
-use Rattle.model.specs.FormParts.{form-parts}
 use Rattle.model.specs.KeptHeld.{current-held, kept-held}
 use Rattle.model.specs.ReadAgree.{image-agree}
 
@@ -42,7 +42,7 @@ module _ {x : Book} {pool : List ℕ} {q : Plain} (g : Agree x pool q) where
   current-holds v l h k =
       let ok =
       all-place (pbnOk (x .sizes .n)) (getD (x .maps) v []) unmapped l
-      (all-place (all (pbnOk (x .sizes .n))) (x .maps) [] v (form-parts x (g .fit .form) .maps) h)
+      (all-place (all (pbnOk (x .sizes .n))) (x .maps) [] v (book-parts x (g .fit .form) .maps) h)
       k
       in
       cell-holds x (cellAt (x .maps) v l) .0 (current-held g v l (rw (g .fit .sized .maps) at h) ok)

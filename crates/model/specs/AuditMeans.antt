@@ -1,5 +1,5 @@
 -- What audit's yes says, clause by clause, in facts (document 01, "Audit says yes exactly when"). Assumes nothing.
-use Prim.Native.Nat.{ℕ, zero, suc, _+_, _-_, _≤_, _<_}
+use Prim.Native.Nat.{ℕ, zero, suc, _≤_, _<_}
 use mathlib.Core.Path.{_≡_, refl, sym, ap}
 use mathlib.Core.Logic.{_↔_, _≢_}
 use mathlib.Core.Bool.{Bool, true, false, not, _&&_, _||_}
@@ -10,9 +10,8 @@ use lib.ListN.{length, getD, set}
 use borrow.Author.Tests.{eqb-true, eq-eqb, eqb-false, not-true}
 use Rattle.words.specs.Blocks.{unmapped}
 use Rattle.words.specs.Choice.{if_then_else_, and-true, true-and, not-both}
-use Rattle.words.specs.Each.{each, each-at}
 use Rattle.words.specs.Lists.{all, those, countOf, joined, same, differ, upFrom}
-use Rattle.words.specs.Places.{all-place, place-all, all-upFrom}
+use Rattle.words.specs.Places.{all-place, place-all, all-upFrom, upFrom-all}
 use Rattle.words.specs.Same.{same-self, same-equal}
 use Rattle.words.specs.Tests.{surely-not}
 use Rattle.book.specs.Book.{volumes, Entry, Rec, Book, entryAt, cellAt, retentionOf}
@@ -76,10 +75,6 @@ cell-holds x p = go (eqb p unmapped) refl
     go : (t : Bool) → eqb p unmapped ≡ t → ((t || entryAt (x .entries) p .held) ≡ true) ↔ Holds x p
     go true e = (λ o n. absurd (n (eqb-true p unmapped e)), λ g. refl)
     go false e = (λ o n. o, λ g. g (eqb-false p unmapped e))
-
-up-at : (f : ℕ → Bool) (i m : ℕ) → all f (upFrom i m) ≡ true → (k : ℕ) → i ≤ k → k < i + m → f k ≡ true
-unfolding each
-up-at f i m e k a b = let z : i + m - i ≡ m = omega arith in each-at f i (i + m) (rw z e) k a b
 
 -- ---- "held fingerprints differ"
 
@@ -146,7 +141,7 @@ module _ (x : Book) where
       let ms = replayed (noMaps x) (journal x) in
       let b = befores-all (noMaps x) (journal x) in (
         λ e. let w = and-true (befores (noMaps x) (journal x)) (all (sameMap (x .maps) ms) (upFrom 0 volumes)) e in
-            (b .0 (w .0), λ v h. same-equal (getD (x .maps) v []) (getD ms v []) (up-at (sameMap (x .maps) ms) 0 volumes (w .1) v (omega arith) (omega arith))),
+            (b .0 (w .0), λ v h. same-equal (getD (x .maps) v []) (getD ms v []) (upFrom-all (sameMap (x .maps) ms) 0 volumes (w .1) v (omega arith) (omega arith))),
         λ g. true-and (befores (noMaps x) (journal x)) (all (sameMap (x .maps) ms) (upFrom 0 volumes)) (b .1 (g .0))
             (all-upFrom (sameMap (x .maps) ms) 0 volumes (λ v _ h. rw (g .1 v (omega arith)) (same-self (getD ms v [])))),
       )
@@ -155,7 +150,7 @@ module _ (x : Book) where
       ↔ ((p : ℕ) → p < x .sizes .n → entryAt (x .entries) p .count ≡ countOf (eqb p) (joined (x .maps)))
   unfolding countSound
   counts-mean = (
-    λ e p h. eqb-true _ _ (up-at (countSound x) 0 (x .sizes .n) e p (omega arith) (omega arith)),
+    λ e p h. eqb-true _ _ (upFrom-all (countSound x) 0 (x .sizes .n) e p (omega arith) (omega arith)),
     λ g. all-upFrom (countSound x) 0 (x .sizes .n) (λ p _ h. eq-eqb _ _ (g p (omega arith))),
   )
 
@@ -163,7 +158,7 @@ module _ (x : Book) where
       ↔ ((p : ℕ) → p < x .sizes .n → entryAt (x .entries) p .expiry ≡ untilIn x p (journal x))
   unfolding expirySound
   expiries-mean = (
-    λ e p h. eqb-true _ _ (up-at (expirySound x) 0 (x .sizes .n) e p (omega arith) (omega arith)),
+    λ e p h. eqb-true _ _ (upFrom-all (expirySound x) 0 (x .sizes .n) e p (omega arith) (omega arith)),
     λ g. all-upFrom (expirySound x) 0 (x .sizes .n) (λ p _ h. eq-eqb _ _ (g p (omega arith))),
   )
 
@@ -183,7 +178,7 @@ module _ (x : Book) where
       go : (t : Bool) → ((not t || all (λ l. cellSound x (image x v k l)) (upFrom 0 (x .sizes .l))) ≡ true)
           ↔ ((l : ℕ) → t ≡ true → l < x .sizes .l → Holds x (image x v k l))
       go true = (
-        λ e l z h. cell-holds x _ .0 (up-at (λ l. cellSound x (image x v k l)) 0 (x .sizes .l) e l (omega arith) (omega arith)),
+        λ e l z h. cell-holds x _ .0 (upFrom-all (λ l. cellSound x (image x v k l)) 0 (x .sizes .l) e l (omega arith) (omega arith)),
         λ g. all-upFrom (λ l. cellSound x (image x v k l)) 0 (x .sizes .l) (λ l _ h. cell-holds x _ .1 (g l refl (omega arith))),
       )
       go false = (λ e l z. absurd (not-both false z refl), λ g. refl)
@@ -193,7 +188,7 @@ module _ (x : Book) where
   unfolding backupsSound
   backups-mean = (
     λ e v k l h a b z. backup-means v k .0
-        (up-at (backupSound x v) 1 (length (days x v)) (up-at (λ v. all (backupSound x v) (upFrom 1 (length (days x v)))) 0 volumes e v (omega arith) (omega arith)) k a (omega arith))
+        (upFrom-all (backupSound x v) 1 (length (days x v)) (upFrom-all (λ v. all (backupSound x v) (upFrom 1 (length (days x v)))) 0 volumes e v (omega arith) (omega arith)) k a (omega arith))
         l z,
     λ g. all-upFrom (λ v. all (backupSound x v) (upFrom 1 (length (days x v)))) 0 volumes
         (λ v _ h. all-upFrom (backupSound x v) 1 (length (days x v)) (λ k a b. backup-means v k .1 (λ l. g v k l (omega arith) a (omega arith)))),

@@ -17,6 +17,7 @@ use Rattle.list.specs.Changes.{Change, changeCount, changes}
 use Rattle.list.specs.Laws.{length-changes, changes-rise}
 use Rattle.book.specs.Book.{volumes, Sizes, Slot, Rec, Book, entryAt, retentionOf}
 use Rattle.book.specs.Next.{withDay, withSlot}
+use Rattle.book.specs.FormParts.{book-parts}
 use Rattle.model.specs.Journal.{Backup, journalOf, journal, backupsIn}
 use Rattle.model.specs.Audit.{applied, replayed, noMaps, untilIn, printsSound}
 use Rattle.model.specs.Backup.{Work, closed}
@@ -30,7 +31,6 @@ use Rattle.model.specs.JournalLaws.{journalOf-append, backupsIn-append, 
 use Rattle.model.specs.Replays.{mapAfter, imagesOf-append}
 use Rattle.model.specs.AgreeLaws.{map-after}
 use Rattle.model.specs.Reaches.{reached-earlier}
-use Rattle.model.specs.FormParts.{form-parts}
 use Rattle.model.specs.BackupAllowed.{Allowed}
 use Rattle.model.specs.Level.{Level, namesIn}
 use Rattle.model.specs.Trail.{Trail}
@@ -69,7 +69,7 @@ module _ {x : Book} {pool : List ℕ} {q : Plain} (g : Agree x pool q) (v t : �
       ap₂ (λ (ts : List Slot) (rs : List Rec). journalOf (ts ++ (record { volume = v; day = t; first = length (x .records); number = changeCount list } ∷ [])) rs)
       (a .slots) (r .records)
       ∙ journalOf-append (x .slots) (x .records) (record { volume = v; day = t; first = length (x .records); number = changeCount list }) (r .new) 0
-      (rw zero-add (form-parts x (g .fit .form) .pairs)) length-new
+      (rw zero-add (book-parts x (g .fit .form) .pairs)) length-new
 
   pub rising-new : Rising 0 (r .new)
   rising-new =

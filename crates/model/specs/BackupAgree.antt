@@ -9,6 +9,7 @@ use Rattle.words.specs.Lists.{someOf}
 use Rattle.words.specs.Outcome.{Outcome, refused, accepted, andThen, unless}
 use Rattle.list.specs.Changes.{changes, changeCount, lbns}
 use Rattle.book.specs.Book.{volumes, Book, entryAt, retentionOf}
+use Rattle.book.specs.FormNumber.{sizes-facts}
 use Rattle.model.specs.Backup.{Work, Backed, begun, closed, runChanges, backupNumber, backup}
 use Rattle.model.specs.Plain.{Plain, currentMaps}
 use Rattle.model.specs.PlainBackup
@@ -17,9 +18,9 @@ use Rattle.model.specs.Runs.{plain, plainBacked}
 use Rattle.model.specs.Claims.{isOldOrNew, changesName, isDamage}
 use Rattle.model.specs.Agree.{Fit, Agree}
 use Rattle.model.specs.AgreeLaws.{volume-inside, backups-agree}
-use Rattle.model.specs.SizesParts.{sizes-parts}
 use Rattle.model.specs.Lockstep.{BothMoved}
-use Rattle.model.specs.BackupStart.{changes-fit, changes-both}
+use Rattle.model.specs.BackupStart.{changes-both}
+use Rattle.model.specs.ChangesFit.{changes-fit}
 use Rattle.model.specs.BackupAllowed.{Allowed, number-zero, number-damage}
 use Rattle.model.specs.BackupNumber.{number-agree}
 use Rattle.model.specs.BackupAfter.{agree-after}
@@ -63,7 +64,7 @@ module _ {x : Book} {pool : List ℕ} {q : Plain} (g : Agree x pool q) (v t : �
       let inside = volume-inside x v (ok .volume) in
       close-both ok inside _ _
       (changes-both g v inside (t + retentionOf x v) (changes list)
-      (changes-fit (x .sizes .l) list (sizes-parts (x .sizes) (g .fit .sizes) .l) (ok .good)))
+      (changes-fit (x .sizes .l) list (sizes-facts (x .sizes) (g .fit .sizes) .l) (ok .good)))
 
   pub backup-agree : BothBacked x q v list (backup x pool v t list) (PlainBackup.backup q v t list)
   unfolding backup PlainBackup.backup

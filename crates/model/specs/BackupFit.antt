@@ -18,6 +18,7 @@ use Rattle.list.specs.Laws.{length-changes}
 use Rattle.book.specs.Book.{Slot, Book, retentionOf}
 use Rattle.book.specs.Form.{enrolled, slotOk}
 use Rattle.book.specs.Next.{withDay, withSlot}
+use Rattle.book.specs.FormNumber.{sizes-facts}
 use Rattle.model.specs.Journal.{noVolume}
 use Rattle.model.specs.Pool.{poolSize}
 use Rattle.model.specs.Backup.{Work, Backed, runChanges, begun, closed, backupNumber, backup}
@@ -27,7 +28,6 @@ use Rattle.model.specs.BackupAllowed.{Allowed, number-zero}
 use Rattle.model.specs.ChangesFit.{changes-fit}
 use Rattle.model.specs.FitParts.{fit-parts, parts-fit}
 use Rattle.model.specs.RunFit.{run-fit, start-fit, until-low}
-use Rattle.model.specs.SizesParts.{sizes-parts}
 use Rattle.model.specs.SlotsFit.{slots-kept, days-more, slots-before, pairs-more}
 use Rattle.model.specs.WorkFit.{WorkFit}
 
@@ -104,7 +104,7 @@ backup-fit {x} fit pool v t list d long e =
     let p = then-accepted o (λ w. accepted (closed x v t (changeCount list) w)) d (a .1) in
     let ok = number-zero x v t list (a .0) in
     let f = run-fit x v (t + retentionOf x v) (volume-inside x v (ok .volume)) (until-low fit v t (ok .last)) 0 (changes list) (begun x pool) (p .0)
-    (changes-fit (x .sizes .l) list (sizes-parts (x .sizes) (fit .sizes) .l) (ok .good)) (start-fit fit pool long) (p .1) in
+    (changes-fit (x .sizes .l) list (sizes-facts (x .sizes) (fit .sizes) .l) (ok .good)) (start-fit fit pool long) (p .1) in
     let n : length (changes list) + 0 ≡ changeCount list = omega (arith, length-changes list) in
     let g = subst (λ (k : ℕ). WorkFit x k (p .0)) n f in
     let q : closed x v t (changeCount list) (p .0) ≡ d = cc (p .2) in

@@ -1,5 +1,5 @@
--- Where both sides agree, a backup starts level with nothing written, and the changes of a good list fit: so they go in step. Assumes nothing.
-use Prim.Native.Nat.{ℕ, zero, suc, _≤_, _<_}
+-- Where both sides agree, a backup starts level with nothing written, so changes that fit go in step. Assumes nothing.
+use Prim.Native.Nat.{ℕ, _≤_, _<_}
 use mathlib.Core.Path.{_≡_, refl, sym, ap, _∙_}
 use mathlib.Core.Logic.{_≢_, _⊎_, inl, inr}
 use mathlib.Core.Bool.{true}
@@ -9,42 +9,26 @@ use lib.Dec.{eqb, ltb}
 use lib.ListN.{length, getD, set, List·getD-eq-default}
 use lib.Seq.{set-getD}
 use borrow.Author.Tests.{eqb-true, ltb-true}
-use Rattle.words.specs.Blocks.{blockSize, unmapped}
+use Rattle.words.specs.Blocks.{unmapped}
 use Rattle.words.specs.Choice.{or-cases, or-no}
 use Rattle.words.specs.Lists.{all, joined, countOf}
 use Rattle.words.specs.Places.{all-place}
 use Rattle.words.specs.Runs.{below-or-not}
-use Rattle.words.specs.Sections.{tab}
-use Rattle.list.specs.Answers.{shapeOf}
-use Rattle.list.specs.Changes.{Change, changeCount, changeAt, changes, listNumber}
-use Rattle.list.specs.Laws.{change-below, number-good, good-whole, length-block}
+use Rattle.list.specs.Changes.{Change}
 use Rattle.book.specs.Book.{volumes, Book}
 use Rattle.book.specs.Form.{pbnOk}
+use Rattle.book.specs.FormParts.{book-parts}
+use Rattle.book.specs.FormNumber.{sizes-facts}
 use Rattle.model.specs.Backup.{begun, runChanges}
 use Rattle.model.specs.Plain.{Plain, volumeAt, current, currentMaps}
 use Rattle.model.specs.PlainBackup
 use Rattle.model.specs.Sound.{Sound}
 use Rattle.model.specs.Agree.{Agree, named}
 use Rattle.model.specs.AgreeLaws.{current-agree, maps-agree}
-use Rattle.model.specs.FormParts.{form-parts}
+use Rattle.model.specs.ChangesFit.{changeFit}
 use Rattle.model.specs.Level.{Level, namesIn}
 use Rattle.model.specs.Trail.{Trail}
-use Rattle.model.specs.SizesParts.{sizes-parts}
-use Rattle.model.specs.Lockstep.{BothMoved, Fits, run-both}
-
--- ---- the changes of a list
-
-fits-tab : (l n : ℕ) (f : ℕ → Change) → ((i : ℕ) → i < n → (length (f i .block) ≡ blockSize) × (f i .lbn < l)) → Fits l (tab n f)
-fits-tab l zero f h = tt
-fits-tab l (suc n) f h = let o = h 0 (omega arith) in (o .0, o .1, fits-tab l n (λ i. f (suc i)) (λ i k. h (suc i) (omega arith)))
-
-pub changes-fit : (l : ℕ) (list : List ℕ) → l ≤ 1024 → listNumber l list ≡ 0 → Fits l (changes list)
-unfolding changes
-changes-fit l list k e =
-    fits-tab l (changeCount list) (changeAt list) (λ i h.
-    (length-block list (shapeOf list) (good-whole l list (shapeOf list) (omega arith) (number-good l list e)) i h, change-below l list e i h))
-
--- ---- the start
+use Rattle.model.specs.Lockstep.{BothMoved, run-both}
 
 module _ {x : Book} {pool : List ℕ} {q : Plain} (g : Agree x pool q) (v : ℕ) (h : v < volumes) where
   copy-start : current (q .sizes) (volumeAt q v) ≡ getD (x .maps) v []
@@ -63,7 +47,7 @@ module _ {x : Book} {pool : List ℕ} {q : Plain} (g : Agree x pool q) (v : ℕ)
   cells-start i z = go (below-or-not i (length (getD (x .maps) v [])))
     where
       row : all (pbnOk (x .sizes .n)) (getD (x .maps) v []) ≡ true
-      row = all-place (all (pbnOk (x .sizes .n))) (x .maps) [] v (form-parts x (g .fit .form) .maps) (omega (arith, g .fit .sized .maps))
+      row = all-place (all (pbnOk (x .sizes .n))) (x .maps) [] v (book-parts x (g .fit .form) .maps) (omega (arith, g .fit .sized .maps))
 
       mapped : (c : ℕ) → c ≢ unmapped → (ltb c (x .sizes .n) ≡ true) ⊎ (eqb c unmapped ≡ true) → c < x .sizes .n
       mapped c y (inl e) = ltb-true c (x .sizes .n) e
@@ -112,9 +96,9 @@ module _ {x : Book} {pool : List ℕ} {q : Plain} (g : Agree x pool q) (v : ℕ)
   }
 
   -- all changes of a list, from where both sides agree
-  pub changes-both : (until : ℕ) (cs : List Change) → Fits (x .sizes .l) cs
+  pub changes-both : (until : ℕ) (cs : List Change) → all (changeFit (x .sizes .l)) cs ≡ true
       → BothMoved x v until cs (runChanges v until cs (begun x pool)) (PlainBackup.runChanges (currentMaps q) v cs (PlainBackup.begun q v))
   changes-both until cs f =
-      let small = sizes-parts (x .sizes) (g .fit .sizes) in
+      let small = sizes-facts (x .sizes) (g .fit .sizes) in
       rw (maps-agree g)
       (run-both x v until (omega (arith, g .fit .sized .maps)) (omega arith) [] cs f (begun x pool) (PlainBackup.begun q v) start-level (start-trail until))

@@ -11,11 +11,11 @@ use Rattle.words.specs.Lists.{all}
 use Rattle.words.specs.Places.{all-getD, all-take, all-drop, all-those, all-set, all-replicate, all-weaker}
 use Rattle.book.specs.Book.{Sizes, Slot, Rec, Book}
 use Rattle.book.specs.Form.{pbnOk, recOk, bookOk}
+use Rattle.book.specs.FormParts.{book-parts}
 use Rattle.model.specs.Journal.{Backup, journalOf, journal, backupsIn}
 use Rattle.model.specs.Audit.{applied}
 use Rattle.model.specs.Plain.{mapsOf, noMap}
 use Rattle.model.specs.Agree.{imagesOf}
-use Rattle.model.specs.FormParts.{form-parts}
 
 -- ---- what holds of all records holds of each backup's
 
@@ -74,7 +74,7 @@ image-cells x v k l e =
     records : all (λ (b : Backup). all (λ (r : Rec). pbnOk n (r .after)) (b .records)) (journal x) ≡ true
     records =
         all-journal (λ (r : Rec). pbnOk n (r .after)) (x .slots) (x .records)
-        (all-weaker (recOk (x .sizes)) (λ (r : Rec). pbnOk n (r .after)) (x .records) (after-ok (x .sizes)) (form-parts x e .records))
+        (all-weaker (recOk (x .sizes)) (λ (r : Rec). pbnOk n (r .after)) (x .records) (after-ok (x .sizes)) (book-parts x e .records))
 
     images : all (all (pbnOk n)) (mapsOf (imagesOf (noMap (x .sizes)) (backupsIn v (journal x)))) ≡ true
     images =

@@ -14,6 +14,7 @@ use Rattle.words.specs.Lists.{all, someOf}
 use Rattle.book.specs.Book.{volumes, Slot, Rec, Book}
 use Rattle.book.specs.Form.{enrolled, slotOk}
 use Rattle.book.specs.Next.{withRetention}
+use Rattle.book.specs.FormParts.{book-parts}
 use Rattle.model.specs.Days.{badRetention}
 use Rattle.model.specs.Journal.{Backup, journalOf, journal, backupsIn}
 use Rattle.model.specs.Enrol.{enrolNumber}
@@ -22,7 +23,6 @@ use Rattle.model.specs.Plain
 use Rattle.model.specs.Plain.{Plain, Volume, noMap}
 use Rattle.model.specs.Agree.{Fit, Agree, imagesOf, named, reaches}
 use Rattle.model.specs.AgreeLaws.{enrolled-agree}
-use Rattle.model.specs.FormParts.{form-parts}
 use Rattle.model.specs.Reaches.{reachesBy}
 
 -- ---- the backups of other volumes
@@ -129,4 +129,4 @@ module _ {x : Book} {pool : List ℕ} {q : Plain} (g : Agree x pool q) where
   }
     where
       apart : Apart v (journal x)
-      apart = slots-apart x v (x .slots) (x .records) (enrol-volume x v r ok .1) (form-parts x (g .fit .form) .slots)
+      apart = slots-apart x v (x .slots) (x .records) (enrol-volume x v r ok .1) (book-parts x (g .fit .form) .slots)

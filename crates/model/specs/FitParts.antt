@@ -5,15 +5,15 @@ use mathlib.Core.Bool.{Bool, true, _&&_}
 use mathlib.Core.List.{List, []}
 use lib.Dec.{eqb}
 use lib.ListN.{length, getD}
-use borrow.Author.Tests.{leb-true, ltb-true, eqb-true, le-leb, lt-ltb, eq-eqb}
+use borrow.Author.Tests.{eqb-true, eq-eqb}
 use Rattle.words.specs.Blocks.{printSize}
 use Rattle.words.specs.Choice.{and-true, true-and}
 use Rattle.words.specs.Lists.{all}
 use Rattle.words.specs.Places.{all-place, place-all, all-weaker}
 use Rattle.book.specs.Book.{volumes, Sizes, Entry, Book, freeEntry, entryAt, Sized}
 use Rattle.book.specs.Form.{sizesOk, retentionOk, entryOk, pbnOk, recOk, slotOk, daysOk, pairsOk}
+use Rattle.book.specs.FormParts.{BookParts, book-parts, parts-book}
 use Rattle.model.specs.Agree.{Fit}
-use Rattle.model.specs.FormParts.{FormParts, form-parts, parts-form}
 
 -- an entry in form with a whole fingerprint
 unfoldable pub entryFit : Entry → Bool
@@ -60,11 +60,11 @@ sized-maps x s e =
 
 pub fit-parts : {x : Book} → Fit x → FitParts x
 fit-parts {x} f =
-    let p = form-parts x (f .form) in
+    let p = book-parts x (f .form) in
     record {
       sizes = f .sizes;
-      day = leb-true (x .day) 60000 (p .day);
-      cursor = ltb-true (x .cursor) (x .sizes .n) (p .cursor);
+      day = p .day;
+      cursor = p .cursor;
       retentionCount = f .sized .retentions;
       retentions = p .retentions;
       entryCount = f .sized .entries;
@@ -109,11 +109,11 @@ module _ {x : Book} (p : FitParts x) where
     records = p .recordCount;
   }
 
-  parts-tests : FormParts x
+  parts-tests : BookParts x
   unfolding entryFit mapFit
   parts-tests = record {
-    day = le-leb (x .day) 60000 (p .day);
-    cursor = lt-ltb (x .cursor) (x .sizes .n) (p .cursor);
+    day = p .day;
+    cursor = p .cursor;
     retentions = p .retentions;
     entries =
         all-weaker entryFit entryOk (x .entries) (λ e k. and-true (entryOk e) (eqb (length (e .print)) printSize) k .0) (p .entries);
@@ -127,4 +127,4 @@ module _ {x : Book} (p : FitParts x) where
   }
 
   pub parts-fit : Fit x
-  parts-fit = record { sized = parts-sized; sizes = p .sizes; form = parts-form x parts-tests }
+  parts-fit = record { sized = parts-sized; sizes = p .sizes; form = parts-book x parts-tests }

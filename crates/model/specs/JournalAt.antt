@@ -49,7 +49,18 @@ records-in (t ∷ ts) rs at u (suc q) e h =
     rw (drop-drop (t .number) at rs)
     (records-in ts rs (at + t .number) u q (and-true (eqb (t .first) at) (pairsOk (at + t .number) ts u) e .1) (le-of-suc-le-suc h))
 
+pub length-journal : (x : Book) → length (journal x) ≡ length (x .slots)
+unfolding journal
+length-journal x = length-journalOf (x .slots) (x .records)
+
 module _ (x : Book) (q : ℕ) where
+  -- the backup of slot q, and those after it
+  pub journal-next : q < length (x .slots) → drop q (journal x) ≡ backupAt x q ∷ drop (q + 1) (journal x)
+  journal-next h = rw (add-one q) (drop-cons (journal x) q noBackup (rw (length-journal x) h))
+
+  pub journal-end : length (x .slots) ≤ q → drop q (journal x) ≡ []
+  journal-end h = drop-of-length-le (journal x) {i = q} (rw (length-journal x) h)
+
   pub volume-at : backupAt x q .volume ≡ slotAt (x .slots) q .volume
   unfolding journal
   volume-at = volume-in (x .slots) (x .records) q
@@ -78,25 +89,19 @@ unfolding backupsFrom backups
 from-start x v = refl
 
 module _ (x : Book) (v q : ℕ) where
-  from-here : q < length (x .slots) → drop q (journal x) ≡ backupAt x q ∷ drop (q + 1) (journal x)
-  unfolding journal
-  from-here h =
-      let k : q < length (journalOf (x .slots) (x .records)) = rw (length-journalOf (x .slots) (x .records)) h in
-      rw (add-one q) (drop-cons (journal x) q noBackup k)
-
   -- slot q is the volume's, or another's
   pub from-own : q < length (x .slots) → slotAt (x .slots) q .volume ≡ v → backupsFrom x v q ≡ backupAt x q ∷ backupsFrom x v (q + 1)
   unfolding backupsFrom
-  from-own h e = rw (from-here h, eq-eqb (backupAt x q .volume) v (volume-at x q ∙ e))
+  from-own h e = rw (journal-next x q h, eq-eqb (backupAt x q .volume) v (volume-at x q ∙ e))
 
   pub from-other : q < length (x .slots) → (slotAt (x .slots) q .volume ≡ v → ⊥) → backupsFrom x v q ≡ backupsFrom x v (q + 1)
   unfolding backupsFrom
-  from-other h n = rw (from-here h, ne-eqb (backupAt x q .volume) v (λ e. n (sym (volume-at x q) ∙ e)))
+  from-other h n = rw (journal-next x q h, ne-eqb (backupAt x q .volume) v (λ e. n (sym (volume-at x q) ∙ e)))
 
   pub from-split : q < length (x .slots) → backupsFrom x v q ≡ ownAt x v q ++ backupsFrom x v (q + 1)
   unfolding backupsFrom
-  from-split h = rw (from-here h) (backupsIn-append v (backupAt x q ∷ []) (drop (q + 1) (journal x)))
+  from-split h = rw (journal-next x q h) (backupsIn-append v (backupAt x q ∷ []) (drop (q + 1) (journal x)))
 
   pub from-end : length (x .slots) ≤ q → backupsFrom x v q ≡ []
-  unfolding backupsFrom journal
-  from-end h = rw (drop-of-length-le (journal x) {i = q} (rw (length-journalOf (x .slots) (x .records)) h))
+  unfolding backupsFrom
+  from-end h = rw (journal-end x q h)

@@ -1,40 +1,30 @@
 -- No current map and no kept backup names a free block. Assumes nothing.
-use Prim.Native.Nat.{ℕ, zero, suc, _<_}
+use Prim.Native.Nat.{ℕ, suc, _<_}
 use mathlib.Core.Path.{_≡_, refl, sym, ap, _∙_}
 use mathlib.Core.Logic.{_⊎_, inl, inr}
-use mathlib.Core.Bool.{Bool, true, false, _&&_, _||_}
-use mathlib.Core.List.{List, [], _∷_}
-use native.Mathlib.Omega.{arith}
+use mathlib.Core.Bool.{Bool, true, false, _||_}
+use mathlib.Core.List.{List, []}
 use lib.Dec.{ltb, eqb}
-use lib.ListN.{length, getD, drop}
+use lib.ListN.{length, getD}
 use borrow.Author.Tests.{eq-eqb, ltb-true, not-true}
 use Rattle.words.specs.Blocks.{unmapped}
-use Rattle.words.specs.Choice.{true-and, or-cases, or-l, or-r, not-both}
+use Rattle.words.specs.Choice.{or-cases, or-l, or-r, not-both}
 use Rattle.words.specs.Lists.{someOf}
 use Rattle.words.specs.Places.{place-some}
 use Rattle.book.specs.Book.{volumes, Book, entryAt, cellAt, retentionOf}
 use Rattle.book.specs.Form.{pbnOk}
-use Rattle.model.specs.Days.{keptBefore, kept}
+use Rattle.model.specs.Days.{kept}
 use Rattle.model.specs.Journal.{journal, backupsIn, days}
 use Rattle.model.specs.Audit.{cellSound}
-use Rattle.model.specs.Plain.{Image, Plain, volumeAt, noMap, daysOf, mapsOf, names, cell}
+use Rattle.model.specs.Plain.{Plain, volumeAt, noMap, mapsOf, names, cell}
 use Rattle.model.specs.Agree.{Agree, named, reaches}
 use Rattle.model.specs.AgreeLaws.{days-agree, backups-agree, cell-agree}
 use Rattle.model.specs.KeptCells.{keptAt, takenAt}
 use Rattle.model.specs.KeptNames.{cell-names}
+use Rattle.model.specs.KeptNumbers.{number-kept}
 use Rattle.model.specs.Reaches.{taken-reaches}
 use Rattle.model.specs.Marks.{named-none, pbn-mapped, kept-cell-agree}
 use Rattle.model.specs.Bounds.{image-cells}
-
--- backup k + 1 is kept and has p at l
-number-kept : (p r d l k : ℕ) (z : List ℕ) (is : List Image) → k < length is → keptBefore (drop (suc k) (daysOf is)) r d ≡ true
-    → eqb p (getD (getD (mapsOf is) k z) l unmapped) ≡ true → keptAt p r d l is ≡ true
-number-kept p r d l k z [] h e f = absurd (omega arith)
-number-kept p r d l zero z (i ∷ is) h e f =
-    or-l (keptBefore (daysOf is) r d && eqb p (getD (i .cells) l unmapped)) (keptAt p r d l is)
-    (true-and (keptBefore (daysOf is) r d) (eqb p (getD (i .cells) l unmapped)) e f)
-number-kept p r d l (suc k) z (i ∷ is) h e f =
-    or-r (keptBefore (daysOf is) r d && eqb p (getD (i .cells) l unmapped)) (keptAt p r d l is) (number-kept p r d l k z is (omega arith) e f)
 
 module _ {x : Book} {pool : List ℕ} {q : Plain} (g : Agree x pool q) where
   -- a free block is named by no current map, and was taken by no backup that reaches the day

@@ -32,7 +32,7 @@ pub mod Sweep
 pub mod CollectAgree
 pub mod CollectTwice
 pub mod ReadRule
-pub mod FormParts
+pub mod ReadNumbers
 pub mod Bounds
 pub mod BlocksIn
 pub mod KeptHeld
@@ -47,7 +47,6 @@ pub mod Moving
 pub mod Level
 pub mod Trail
 pub mod Lockstep
-pub mod SizesParts
 pub mod BackupStart
 pub mod BackupAllowed
 pub mod SoFar
@@ -81,3 +80,5 @@ pub mod OnBytesFit
 pub mod Standing
 pub mod Proved
 pub mod JournalAt
+pub mod KeptNumbers
+pub mod KeptBefores

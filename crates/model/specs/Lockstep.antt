@@ -7,13 +7,15 @@ use native.Mathlib.Omega.{arith}
 use lib.Dec.{eqb}
 use lib.ListN.{length, getD, set}
 use Rattle.words.specs.Blocks.{blockSize, unmapped}
-use Rattle.words.specs.Choice.{if_then_else_}
+use Rattle.words.specs.Choice.{if_then_else_, and-true}
+use Rattle.words.specs.Lists.{all}
 use Rattle.words.specs.Outcome.{Outcome, refused, accepted, andThen, unless}
 use Rattle.list.specs.Changes.{Change}
 use Rattle.book.specs.Book.{Book, cellAt}
 use Rattle.model.specs.Backup
 use Rattle.model.specs.Backup.{Work, Placed, moveTo, changeStep, runChanges}
 use Rattle.model.specs.PlainBackup
+use Rattle.model.specs.ChangesFit.{changeFit, change-says}
 use Rattle.model.specs.Claims.{isDamage}
 use Rattle.model.specs.Placing.{PlacedAt, BothPlaced, place-both}
 use Rattle.model.specs.Level.{Level, namesIn, placed-level, cell-before, number-same, moved-level}
@@ -23,11 +25,6 @@ use Rattle.model.specs.Trail.{Trail, trail-next}
 pub data BothMoved (x : Book) (v until : ℕ) (ds : List Change) : Outcome Work → Outcome PlainBackup.Work → Type 0 where
   stopped : (k : ℕ) → isDamage k ≡ false → BothMoved x v until ds (refused k) (refused k)
   moved : (w : Work) (u : PlainBackup.Work) → Level x v w u → Trail x v until ds w u → BothMoved x v until ds (accepted w) (accepted u)
-
--- what the changes of a whole list are
-abbrev pub Fits : ℕ → List Change → Type 0
-Fits l [] = Unit {0}
-Fits l (c ∷ cs) = (length (c .block) ≡ blockSize) × (c .lbn < l) × Fits l cs
 
 module _ (x : Book) (v until : ℕ) (inside : v < length (x .maps)) (small : x .sizes .n < unmapped) where
   -- steps 3 and 4 of a change that was placed
@@ -70,9 +67,11 @@ module _ (x : Book) (v until : ℕ) (inside : v < length (x .maps)) (small : x .
   next-both ds cs es o o′ (stopped k d) next = stopped k d
   next-both ds cs es o o′ (moved w u a g) next = next w u a g
 
-  pub run-both : (ds cs : List Change) → Fits (x .sizes .l) cs → (w : Work) (u : PlainBackup.Work) → Level x v w u → Trail x v until ds w u
+  pub run-both : (ds cs : List Change) → all (changeFit (x .sizes .l)) cs ≡ true → (w : Work) (u : PlainBackup.Work) → Level x v w u → Trail x v until ds w u
       → BothMoved x v until (ds ++ cs) (runChanges v until cs w) (PlainBackup.runChanges (x .maps) v cs u)
   run-both ds [] f w u a g = rw append-nil (moved w u a g)
   run-both ds (c ∷ cs) f w u a g =
+      let t = and-true (changeFit (x .sizes .l) c) (all (changeFit (x .sizes .l)) cs) f in
+      let s = change-says (x .sizes .l) c (t .0) in
       rw (← append-assoc ds (c ∷ []) cs)
-      (next-both (ds ++ (c ∷ [])) cs ((ds ++ (c ∷ [])) ++ cs) _ _ (change-both ds c (f .1) w u a g (f .0)) (run-both (ds ++ (c ∷ [])) cs (f .2)))
+      (next-both (ds ++ (c ∷ [])) cs ((ds ++ (c ∷ [])) ++ cs) _ _ (change-both ds c (s .lbn) w u a g (s .block)) (run-both (ds ++ (c ∷ [])) cs (t .1)))

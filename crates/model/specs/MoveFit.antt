@@ -15,14 +15,14 @@ use Rattle.words.specs.Choice.{if_then_else_, and-true, true-and, or-l}
 use Rattle.words.specs.Lists.{all}
 use Rattle.words.specs.Outcome.{accepted}
 use Rattle.words.specs.Places.{all-place, all-getD, all-set}
-use Rattle.words.specs.Stores.{getD-set-kept}
-use Rattle.book.specs.Book.{volumes, Sizes, Entry, Rec, Book, freeEntry, entryAt, cellAt}
+use Rattle.book.specs.Book.{volumes, Sizes, Entry, Rec, Book, entryAt, cellAt}
 use Rattle.book.specs.Form.{pbnOk, recOk}
 use Rattle.book.specs.Next.{cellsWith, withEntries, withMaps, withRecord, countAs, expiryAs}
 use Rattle.model.specs.Backup.{Work, Placed, lowered, lower, raised, nameBlock, moveNumber, moved, moveTo}
 use Rattle.model.specs.Bounds.{unmapped-ok}
 use Rattle.model.specs.EntriesFit.{entry-fit, fit-expiry, fit-print, counted-held, held-fit}
 use Rattle.model.specs.FitParts.{entryFit, mapFit}
+use Rattle.model.specs.Moving.{length-lower, lower-kept}
 use Rattle.model.specs.WorkFit.{WorkFit, PlacedFit}
 
 -- ---- entries
@@ -40,21 +40,9 @@ move-passed until before p es e mapped =
     go false false c f g e = eqb-false (entryAt es before .count) 0 g
 
 module _ (until before : ℕ) (es : List Entry) where
-  lower-length : length (lower until before es) ≡ length es
-  unfolding lower
-  lower-length = go (eqb before unmapped)
-    where
-      go : (t : Bool) → length (if t then es else set es before (lowered until (entryAt es before))) ≡ length es
-      go true = refl
-      go false = length-set es before (lowered until (entryAt es before))
-
   lower-held : (q : ℕ) → entryAt (lower until before es) q .held ≡ entryAt es q .held
-  unfolding lower lowered countAs expiryAs
-  lower-held q = go (eqb before unmapped)
-    where
-      go : (t : Bool) → entryAt (if t then es else set es before (lowered until (entryAt es before))) q .held ≡ entryAt es q .held
-      go true = refl
-      go false = getD-set-kept (λ (e : Entry). e .held) es before (lowered until (entryAt es before)) freeEntry refl q
+  unfolding lowered countAs expiryAs
+  lower-held = lower-kept until before es (λ (e : Entry). e .held) (λ e. refl)
 
   -- a before whose count isn't 0 is held, and until is 65,000 at most
   lower-fit : until ≤ 65000 → all entryFit es ≡ true → (before ≢ unmapped → entryAt es before .count ≢ 0)
@@ -133,7 +121,7 @@ module _ (x : Book) (k v until lbn before : ℕ) (inside : v < volumes) (low : u
         retentions = w .retentions;
         slots = w .slots;
         cursor = w .cursor;
-        entryCount = length-set (lower until before es) (d .pbn) _ ∙ lower-length until before es ∙ w .entryCount;
+        entryCount = length-set (lower until before es) (d .pbn) _ ∙ length-lower until before es ∙ w .entryCount;
         entries =
             raise-fit (lower until before es) (d .pbn) (lower-fit until before es low (w .entries) some)
             (lower-held until before es (d .pbn) ∙ f .holds);

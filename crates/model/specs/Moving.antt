@@ -32,7 +32,7 @@ module _ (until before : ℕ) (es : List Entry) where
       go false = length-set es before (lowered until (entryAt es before))
 
   -- what lowering an entry keeps
-  lower-kept : {B : Type 0} (f : Entry → B) → ((e : Entry) → f (lowered until e) ≡ f e) → (q : ℕ) → f (entryAt (lower until before es) q) ≡ f (entryAt es q)
+  pub lower-kept : {B : Type 0} (f : Entry → B) → ((e : Entry) → f (lowered until e) ≡ f e) → (q : ℕ) → f (entryAt (lower until before es) q) ≡ f (entryAt es q)
   unfolding lower
   lower-kept f k q = go (eqb before unmapped)
     where

@@ -1,15 +1,11 @@
 -- A collect in the plain store: blocks that a kept map names are marked, and marked blocks stay. Assumes nothing.
 use Prim.Native.Nat.{ℕ, zero, suc, _+_, _<_}
 use mathlib.Core.Path.{_≡_, refl, ap}
-use mathlib.Core.Logic.{_≢_}
 use mathlib.Core.Bool.{Bool, true, _&&_}
 use mathlib.Core.List.{List, [], _∷_}
 use native.Mathlib.Nat.{zero-add, add-zero, add-suc, suc-add}
 use native.Mathlib.Omega.{arith}
-use lib.Dec.{eqb}
 use lib.ListN.{length, getD}
-use borrow.Author.Tests.{eq-eqb}
-use Rattle.words.specs.Blocks.{unmapped}
 use Rattle.words.specs.Choice.{true-and, or-l, or-r}
 use Rattle.words.specs.Lists.{someOf}
 use Rattle.words.specs.Places.{place-some}
@@ -17,12 +13,6 @@ use Rattle.model.specs.Days.{keptBefore, kept}
 use Rattle.model.specs.Plain.{Block, free, Image, Volume, noVolume, Plain, volumeAt, daysOf, mapsOf, currentMaps, names, keptNames, marked, swept}
 
 -- ---- marked
-
--- past its end a map is unmapped
-pub cell-named : (m : List ℕ) (lbn : ℕ) → getD m lbn unmapped ≢ unmapped → names (getD m lbn unmapped) m ≡ true
-cell-named [] lbn n = absurd (n refl)
-cell-named (x ∷ m) zero n = or-l (eqb x x) (names x m) (eq-eqb x x refl)
-cell-named (x ∷ m) (suc lbn) n = or-r (eqb (getD m lbn unmapped) x) (names (getD m lbn unmapped) m) (cell-named m lbn n)
 
 -- backup k + 1 is kept and names p
 image-named : (p r d k : ℕ) (z : List ℕ) (is : List Image) → k < length is → kept (daysOf is) r d (suc k) ≡ true

@@ -6,41 +6,23 @@ use mathlib.Core.List.{List, [], map}
 use native.Mathlib.Omega.{arith}
 use lib.Dec.{leb, ltb, eqb}
 use lib.ListN.{length, getD, List·getD-eq-default}
-use borrow.Author.Tests.{ltb-true, ltb-false, leb-false, eqb-false, eq-eqb}
+use borrow.Author.Tests.{ltb-true, leb-false, eq-eqb}
 use Rattle.words.specs.Blocks.{unmapped}
-use Rattle.words.specs.Choice.{if_then_else_}
-use Rattle.words.specs.Tests.{or-neither}
-use Rattle.words.specs.Outcome.{Outcome, accepted, unless}
+use Rattle.words.specs.Outcome.{accepted}
 use Rattle.book.specs.Book.{Sizes}
 use Rattle.book.specs.Form.{sizesOk}
+use Rattle.book.specs.FormNumber.{sizes-facts}
 use Rattle.model.specs.Days.{kept}
 use Rattle.model.specs.Plain
 use Rattle.model.specs.Plain.{Plain, Volume, noVolume, free, start, volumeAt, isEnrolled, daysOf, bytesOf, cell}
 use Rattle.model.specs.Calls.{Call}
 use Rattle.model.specs.Runs.{answersOf, endOf, readAnswer, plain}
 use Rattle.model.specs.History.{Sent, History, historyOf, dayOf, sentBlock, isNone, blockOr, historyNumber, historyRead}
-use Rattle.model.specs.SizesParts.{sizes-parts}
+use Rattle.model.specs.ReadNumbers.{same-refusal, number-inside}
 use Rattle.model.specs.PlainShows.{shownAt, held-bytes-or}
 use Rattle.model.specs.PlainRecalls.{imageAt, AllRecall, as-many}
 use Rattle.model.specs.PlainRecallsOthers.{start-recalls}
 use Rattle.model.specs.PlainHistory.{list-recalls}
-
--- the numbers in order, by their tests
-abbrev number : Bool → Bool → Bool → Bool → Bool → ℕ
-number a b c d e = if a then 5 else if b then 15 else if not c then 16 else if d then 17 else if e then 18 else 0
-
--- the last test and the bytes count only where no number refuses before
-same-unless : {A : Type 0} (a b c d e e′ : Bool) (o o′ : Outcome A) → (b ≡ false → d ≡ false → e ≡ e′)
-    → (b ≡ false → c ≡ true → d ≡ false → o ≡ o′) → unless (number a b c d e) o ≡ unless (number a b c d e′) o′
-same-unless true b c d e e′ o o′ f g = refl
-same-unless false true c d e e′ o o′ f g = refl
-same-unless false false false d e e′ o o′ f g = refl
-same-unless false false true true e e′ o o′ f g = refl
-same-unless false false true false e e′ o o′ f g = rw (f refl refl) (go e′)
-  where
-    go : (t : Bool) → unless (number false false true false t) o ≡ unless (number false false true false t) o′
-    go true = refl
-    go false = g refl refl refl
 
 module _ {l d : ℕ} {q : Plain} {h : ℕ → History} (a : AllRecall l d q h) (v : ℕ) where
   abbrev u : Volume
@@ -77,25 +59,19 @@ module _ {l d : ℕ} {q : Plain} {h : ℕ → History} (a : AllRecall l d q h) (
   cell-image zero lbn i = absurd (omega arith)
   cell-image (suc k) lbn i = let e : suc k - 1 ≡ k = omega arith in rw (e, a .logical)
 
-  number-there : (k : ℕ) → (eqb k 0 || ltb (length (u .images)) k) ≡ false → (0 < k) × (k ≤ length (u .images))
-  number-there k e =
-      let b = or-neither (eqb k 0) (ltb (length (u .images)) k) e in
-      let n : k ≡ 0 → ⊥ = eqb-false k 0 (b .0) in
-      (omega arith, ltb-false (length (u .images)) k (b .1))
-
   lbn-there : (lbn : ℕ) → leb (q .sizes .l) lbn ≡ false → lbn < l
   lbn-there lbn e = leb-false l lbn (sym (same-logical lbn) ∙ e)
 
   same-mapped : (k lbn : ℕ) → (eqb k 0 || ltb (length (u .images)) k) ≡ false → leb (q .sizes .l) lbn ≡ false
       → eqb (cell q v k lbn) unmapped ≡ isNone (sentBlock (h v) k lbn)
   same-mapped k lbn e f =
-      let n = number-there k e in
+      let n = number-inside k (length (u .images)) e in
       ap (λ (p : ℕ). eqb p unmapped) (cell-image k lbn (n .0)) ∙ a .each v .maps k (n .1) lbn (lbn-there lbn f)
 
   same-bytes : (k lbn : ℕ) → (eqb k 0 || ltb (length (u .images)) k) ≡ false → kept (daysOf (u .images)) (u .retention) (q .day) k ≡ true
       → leb (q .sizes .l) lbn ≡ false → bytesOf (getD (q .blocks) (cell q v k lbn) free) ≡ blockOr [] (sentBlock (h v) k lbn)
   same-bytes k lbn e g f =
-      let n = number-there k e in
+      let n = number-inside k (length (u .images)) e in
       let c = a .each v .carries k (n .1) (rw (a .day) at g) lbn (lbn-there lbn f) in
       held-bytes-or (getD (q .blocks) (cell q v k lbn) free)
       ∙ ap (λ (p : ℕ). blockOr [] (shownAt (q .blocks) p)) (cell-image k lbn (n .0))
@@ -106,11 +82,16 @@ module _ {l d : ℕ} {q : Plain} {h : ℕ → History} (a : AllRecall l d q h) (
   read-recalls k lbn =
       rw (← same-enrolled, ← (same-count k), ← (same-kept k), ← (same-logical lbn))
       (ap readAnswer
-      (same-unless (ltb 7 v || not (isEnrolled q v)) (eqb k 0 || ltb (length (u .images)) k)
-      (kept (daysOf (u .images)) (u .retention) (q .day) k) (leb (q .sizes .l) lbn)
+      (same-refusal (ltb 7 v || not (isEnrolled q v)) absent absent keeps keeps (leb (q .sizes .l) lbn) (leb (q .sizes .l) lbn)
       (eqb (cell q v k lbn) unmapped) (isNone (sentBlock (h v) k lbn))
       (accepted (bytesOf (getD (q .blocks) (cell q v k lbn) free))) (accepted (blockOr [] (sentBlock (h v) k lbn)))
-      (same-mapped k lbn) (λ e g f. ap accepted (same-bytes k lbn e g f))))
+      (λ _. refl) (λ _ _. (refl, refl)) (λ _ e f. same-mapped k lbn e f) (λ _ e g f _. ap accepted (same-bytes k lbn e g f))))
+    where
+      absent : Bool
+      absent = eqb k 0 || ltb (length (u .images)) k
+
+      keeps : Bool
+      keeps = kept (daysOf (u .images)) (u .retention) (q .day) k
 
 -- ---- every list of calls from the start
 
@@ -119,5 +100,5 @@ pub plain-reads : (z : Sizes) → sizesOk z ≡ true → (cs : List Call) (v k l
     ≡ historyRead (z .l) (historyOf v cs (answersOf plain (start z) cs)) (dayOf cs (answersOf plain (start z) cs)) k lbn
 unfolding historyOf dayOf
 plain-reads z ok cs v k lbn =
-    let small : z .n ≤ unmapped = omega (arith, sizes-parts z ok .n) in
+    let small : z .n ≤ unmapped = omega (arith, sizes-facts z ok .n) in
     read-recalls (list-recalls (start-recalls z small) cs) v k lbn

@@ -7,7 +7,7 @@ use mathlib.Core.Option.{none, some}
 use native.Mathlib.Omega.{arith}
 use lib.Dec.{ltb, eqb}
 use lib.ListN.{length, getD, replicate, length-set, length-replicate, List·getD-eq-default}
-use borrow.Author.Tests.{ltb-true, ltb-false}
+use borrow.Author.Tests.{ltb-true, ltb-false, eq-eqb}
 use Rattle.words.specs.Blocks.{unmapped}
 use Rattle.words.specs.Choice.{if_then_else_}
 use Rattle.words.specs.Places.{getD-replicated}
@@ -16,7 +16,8 @@ use Rattle.model.specs.Days.{kept}
 use Rattle.model.specs.Plain.{Block, free, Volume, noVolume, Plain, start, withDay, withBlocks, withVolume, volumeAt, daysOf, mapsOf, marked, swept, collected}
 use Rattle.model.specs.History.{Sent, History, noHistory, withEnrol, sentBlock}
 use Rattle.model.specs.PlainShows.{heldBytes, shownAt, shown-past, Maps, Carries}
-use Rattle.model.specs.PlainMarks.{cell-named, kept-marked, length-swept, swept-marked}
+use Rattle.model.specs.KeptNames.{cell-names}
+use Rattle.model.specs.PlainMarks.{kept-marked, length-swept, swept-marked}
 use Rattle.model.specs.PlainRecalls.{imageAt, Recalls, AllRecall, as-many, recalls-later, recalls-set}
 
 -- nothing is sent before backup 1
@@ -87,7 +88,7 @@ module _ {l d : ℕ} {q : Plain} {h : ℕ → History} (a : AllRecall l d q h) w
       let p = getD m lbn unmapped in
       let n : p ≡ unmapped → ⊥ = λ f. not-unmapped p f z in
       ap heldBytes (swept-marked (marked q t) p (q .blocks)
-      (kept-marked q t v k p (replicate l unmapped) (volume-there q v k hk) hk e (cell-named m lbn n)))
+      (kept-marked q t v k p (replicate l unmapped) (volume-there q v k hk) hk e (cell-names p lbn m n (eq-eqb p p refl))))
       ∙ z
     where
       not-unmapped : (p : ℕ) → p ≡ unmapped → shownAt (q .blocks) p ≡ some b → ⊥

@@ -1,14 +1,13 @@
 -- Read answers alike on both sides: the number of a refusal, or the bytes. Assumes nothing.
 use Prim.Native.Nat.{ℕ, zero, suc, _≤_, _<_}
-use mathlib.Core.Path.{_≡_, refl, sym, ap, _∙_}
-use mathlib.Core.Bool.{Bool, true, false, not, _||_}
+use mathlib.Core.Path.{_≡_, sym, ap, _∙_}
+use mathlib.Core.Bool.{Bool, true, false, _||_}
 use mathlib.Core.List.{List}
 use native.Mathlib.Omega.{arith}
 use lib.Dec.{leb, ltb, eqb}
 use lib.ListN.{length, getD, drop, length-map}
 use Rattle.words.specs.Blocks.{unmapped}
-use Rattle.words.specs.Choice.{if_then_else_}
-use Rattle.words.specs.Outcome.{Outcome, accepted, unless}
+use Rattle.words.specs.Outcome.{accepted, unless}
 use Rattle.book.specs.Book.{volumes, Book, entryAt, retentionOf}
 use Rattle.model.specs.Days.{kept}
 use Rattle.model.specs.Journal.{journal, backups, backupsIn, days, noVolume}
@@ -18,38 +17,11 @@ use Rattle.model.specs.Read.{recordsOf, image, readNumber, read}
 use Rattle.model.specs.Plain
 use Rattle.model.specs.Plain.{Plain, free, volumeAt, noMap, daysOf, bytesOf, cell}
 use Rattle.model.specs.Agree.{Agree}
-use Rattle.model.specs.AgreeLaws.{sounds-agree, volume-inside, number-inside, map-after, days-agree, backups-agree, noVolume-agree, cell-agree}
+use Rattle.model.specs.AgreeLaws.{sounds-agree, volume-inside, map-after, days-agree, backups-agree, noVolume-agree, cell-agree}
+use Rattle.model.specs.ReadNumbers.{refusal, same-refusal, number-inside}
 use Rattle.model.specs.ReadRule.{firstBefore, read-rule}
 use Rattle.model.specs.BlocksIn.{held-bytes, held-inside}
 use Rattle.model.specs.KeptHeld.{kept-held}
-
--- the numbers in order, by their tests
-abbrev number : Bool → Bool → Bool → Bool → Bool → ℕ
-number a b c d e =
-    if a then 5 else
-    if b then 15 else
-    if not c then 16 else
-    if d then 17 else
-    if e then 18 else
-    0
-
--- what makes two of them alike, where each test may rely on those before it
-same-number : {A : Type 0} (a b b′ c c′ d d′ e e′ : Bool) (o o′ : Outcome A) → (a ≡ false → b ≡ b′)
-    → (a ≡ false → b ≡ false → (c ≡ c′) × (d ≡ d′) × (e ≡ e′))
-    → (a ≡ false → b ≡ false → c ≡ true → e ≡ false → o ≡ o′)
-    → unless (number a b c d e) o ≡ unless (number a b′ c′ d′ e′) o′
-same-number true b b′ c c′ d d′ e e′ o o′ f h k = refl
-same-number false b b′ c c′ d d′ e e′ o o′ f h k = rw (← (f refl)) (go b refl)
-  where
-    go : (t : Bool) → b ≡ t → unless (number false t c d e) o ≡ unless (number false t c′ d′ e′) o′
-    go true p = refl
-    go false p = let w = h refl p in rw (← (w .0), ← (w .1), ← (w .2)) (last c d e refl refl)
-      where
-        last : (s t u : Bool) → c ≡ s → e ≡ u → unless (number false false s t u) o ≡ unless (number false false s t u) o′
-        last false t u i j = refl
-        last true true u i j = refl
-        last true false true i j = refl
-        last true false false i j = k refl p i j
 
 module _ {x : Book} {pool : List ℕ} {q : Plain} (g : Agree x pool q) where
   -- "the before of that LBN's first record in the volume's backups after k, else the current map" is the cell of map k
@@ -86,14 +58,15 @@ module _ {x : Book} {pool : List ℕ} {q : Plain} (g : Agree x pool q) where
   pub read-agree : (v k l : ℕ) → read x pool v k l ≡ Plain.read q v k l
   unfolding read readNumber Plain.read Plain.readNumber
   read-agree v k l =
-      same-number (noVolume x v) (eqb k 0 || ltb (length (days x v)) k) absent
+      same-refusal (noVolume x v) (eqb k 0 || ltb (length (days x v)) k) absent
       (kept (days x v) (retentionOf x v) (x .day) k) keeps
       (leb (x .sizes .l) l) (leb (q .sizes .l) l) (eqb (image x v k l) unmapped) (eqb (cell q v k l) unmapped)
       (accepted (blockAt pool (image x v k l))) (accepted block)
       (λ a. ap (λ n. eqb k 0 || ltb n k) (sym (backups-agree g v (volume-inside x v a))))
-      (λ a b. tests (volume-inside x v a) (number-inside k (length (days x v)) b))
-      (λ a b c e. bytes (volume-inside x v a) (number-inside k (length (days x v)) b) c e)
-      ∙ ap (λ a. unless (number a absent keeps (leb (q .sizes .l) l) (eqb (cell q v k l) unmapped)) (accepted block)) (sym (noVolume-agree g v))
+      (λ a b. tests (volume-inside x v a))
+      (λ a b d. mapped (volume-inside x v a) (number-inside k (length (days x v)) b))
+      (λ a b c d e. bytes (volume-inside x v a) (number-inside k (length (days x v)) b) c e)
+      ∙ ap (λ a. unless (refusal a absent keeps (leb (q .sizes .l) l) (eqb (cell q v k l) unmapped)) (accepted block)) (sym (noVolume-agree g v))
     where
       -- the plain store's tests for 15 and 16, and its block
       absent : Bool
@@ -105,14 +78,11 @@ module _ {x : Book} {pool : List ℕ} {q : Plain} (g : Agree x pool q) where
       block : List ℕ
       block = bytesOf (getD (q .blocks) (cell q v k l) free)
 
-      tests : v < volumes → (0 < k) × (k ≤ length (days x v))
-          → (kept (days x v) (retentionOf x v) (x .day) k ≡ keeps) × (leb (x .sizes .l) l ≡ leb (q .sizes .l) l)
-          × (eqb (image x v k l) unmapped ≡ eqb (cell q v k l) unmapped)
-      tests h w = (
-        rw (days-agree g v h, g .retentions v h, g .day),
-        ap (λ z. leb (z .l) l) (sym (g .sizes)),
-        ap (λ p. eqb p unmapped) (image-agree v k l h (w .0) (w .1)),
-      )
+      tests : v < volumes → (kept (days x v) (retentionOf x v) (x .day) k ≡ keeps) × (leb (x .sizes .l) l ≡ leb (q .sizes .l) l)
+      tests h = (rw (days-agree g v h, g .retentions v h, g .day), ap (λ z. leb (z .l) l) (sym (g .sizes)))
+
+      mapped : v < volumes → (0 < k) × (k ≤ length (days x v)) → eqb (image x v k l) unmapped ≡ eqb (cell q v k l) unmapped
+      mapped h w = ap (λ p. eqb p unmapped) (image-agree v k l h (w .0) (w .1))
 
       bytes : v < volumes → (0 < k) × (k ≤ length (days x v)) → kept (days x v) (retentionOf x v) (x .day) k ≡ true
           → eqb (image x v k l) unmapped ≡ false → accepted (blockAt pool (image x v k l)) ≡ accepted block

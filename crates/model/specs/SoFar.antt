@@ -14,6 +14,7 @@ use Rattle.words.specs.Sections.{tab}
 use Rattle.words.specs.Sums.{sum-tab-same, sum-tab-zero, sum-tab-add, sum-tab-one, sum-map-tab}
 use Rattle.book.specs.Book.{volumes, Slot, Rec, Book}
 use Rattle.book.specs.Form.{pairsOk}
+use Rattle.book.specs.FormParts.{book-parts}
 use Rattle.model.specs.Journal.{Backup, journalOf, journal, backupsIn}
 use Rattle.model.specs.Audit.{applied, noMaps}
 use Rattle.model.specs.Plain
@@ -23,7 +24,6 @@ use Rattle.model.specs.Sound.{SoundAll}
 use Rattle.model.specs.Agree.{Agree, imagesOf}
 use Rattle.model.specs.Replays.{length-imagesOf}
 use Rattle.model.specs.AgreeLaws.{length-noMaps}
-use Rattle.model.specs.FormParts.{form-parts}
 
 -- ---- a journal's backups, volume by volume
 
@@ -109,4 +109,4 @@ module _ {x : Book} {pool : List ℕ} {q : Plain} (g : Agree x pool q) where
   changes-so-far =
       over-volumes changesIn (λ b. length (b .records))
       (λ v h. ap (λ is. sum (map (λ (i : Image). i .changes) is)) (g .images v h) ∙ changes-images (noMap (x .sizes)) (backupsIn v (journal x)))
-      ∙ records-journal (x .slots) (x .records) (omega (arith, pairs-sum 0 (x .slots) (length (x .records)) (form-parts x (g .fit .form) .pairs)))
+      ∙ records-journal (x .slots) (x .records) (omega (arith, pairs-sum 0 (x .slots) (length (x .records)) (book-parts x (g .fit .form) .pairs)))

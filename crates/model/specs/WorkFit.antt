@@ -2,14 +2,12 @@
 use Prim.Native.Nat.{ℕ, suc, _+_, _<_}
 use mathlib.Core.Path.{_≡_, refl, ap, subst, _∙_}
 use mathlib.Core.Bool.{Bool, true, false}
-use mathlib.Core.List.{List}
 use mathlib.Core.Option.{Option, none, some}
 use native.Mathlib.Nat.{mod-lt}
 use native.Mathlib.Omega.{arith}
-use lib.ListN.{length, length-append, length-take, length-drop, length-set}
+use lib.ListN.{length, length-set}
 use lib.Seq.{getD-set-same}
 use Rattle.words.specs.Accepted.{refused-not}
-use Rattle.words.specs.Blocks.{blockSize}
 use Rattle.words.specs.Choice.{if_then_else_}
 use Rattle.words.specs.Lists.{all, same}
 use Rattle.words.specs.Outcome.{refused, accepted}
@@ -18,8 +16,9 @@ use Rattle.list.specs.Changes.{Change}
 use Rattle.book.specs.Book.{volumes, Entry, Book, freeEntry, entryAt}
 use Rattle.book.specs.Form.{recOk}
 use Rattle.book.specs.Next.{withCursor, withEntries, heldAs}
-use Rattle.model.specs.Pool.{poolSize, blockAt, withBlock}
+use Rattle.model.specs.Pool.{poolSize, blockAt}
 use Rattle.model.specs.Backup.{Work, Placed, findHeld, findFree, takeBlock, placeFree, placeHeld, place}
+use Rattle.model.specs.BlockLaws.{length-with}
 use Rattle.model.specs.ChangesFit.{ChangeFit}
 use Rattle.model.specs.EntriesFit.{entry-fit, fit-expiry, held-fit}
 use Rattle.model.specs.FitParts.{entryFit, mapFit}
@@ -44,10 +43,6 @@ pub record PlacedFit (x : Book) (k : ℕ) (d : Placed) : Type 0 where
   pub work : WorkFit x k (d .work)
   pub inside : d .pbn < x .sizes .n
   pub holds : entryAt (d .work .book .entries) (d .pbn) .held ≡ true
-
--- a block written within the pool
-length-withBlock : (pool c : List ℕ) (p n : ℕ) → length c ≡ blockSize → p < n → length pool ≡ poolSize n → length (withBlock pool p c) ≡ poolSize n
-length-withBlock pool c p n l h k = simp (length-append, length-take, length-drop) (omega arith)
 
 module _ (x : Book) (k : ℕ) (c : Change) (good : ChangeFit (x .sizes .l) c) (w : Work) (f : WorkFit x k w) where
   -- the entry that a taken block has
@@ -75,7 +70,7 @@ module _ (x : Book) (k : ℕ) (c : Change) (good : ChangeFit (x .sizes .l) c) (w
           maps = f .maps;
           recordCount = f .recordCount;
           records = f .records;
-          pool = length-withBlock (w .pool) (c .block) p (x .sizes .n) (good .block) h (f .pool);
+          pool = length-with (w .pool) (c .block) p (x .sizes .n) (good .block) h (f .pool);
         };
         inside = h;
         holds = ap (λ (e : Entry). e .held) (getD-set-same (w .book .entries) p (taken p) freeEntry (rw (f .entryCount) h));

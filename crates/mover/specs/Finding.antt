@@ -11,12 +11,12 @@ use borrow.Author.Tests.{not-true}
 use Rattle.words.specs.Choice.{and-true}
 use Rattle.words.specs.Found.{place-found}
 use Rattle.words.specs.Lists.{orElse, same, placeFrom}
+use Rattle.words.specs.declared.PBN.{PBN}
 use Rattle.book.specs.Book.{Entry, freeEntry, entryAt, isFree}
 use Rattle.model.specs.Backup.{findHeld, findFree}
 use Rattle.mover.specs.Answers.{foundOf}
 use Rattle.mover.specs.Search.{placeIn, place-up, place-below}
 use Rattle.mover.specs.declared.find.Found.the-variants.{At, Nothing}
-use Rattle.words.specs.declared.PBN.{PBN}
 
 -- the test of step 1
 abbrev pub hasPrint : List ℕ → Entry → Bool

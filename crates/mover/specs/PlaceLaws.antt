@@ -17,8 +17,8 @@ use Rattle.words.specs.Outcome.{refused, accepted}
 use Rattle.words.specs.declared.PBN.{PBN}
 use Rattle.words.specs.Parts.{length-part}
 use Rattle.words.specs.Sections.{part}
-use Rattle.list.specs.Changes.{Change, changeCount, changeAt, printsFrom}
 use Rattle.words.specs.Blocks.{printSize}
+use Rattle.list.specs.Changes.{Change, changeCount, changeAt, printsFrom}
 use Rattle.list.specs.Answers.{Whole}
 use Rattle.list.specs.Laws.{length-block}
 use Rattle.list.specs.declared.Shape.{Shape}

@@ -19,8 +19,7 @@ use book::map;
 use book::record;
 use words::LBN;
 use words::PBN;
-
-const UNMAPPED: u16 = 65535;
+use words::UNMAPPED;
 
 // What a change answers: what is counted after it, or the number of its refusal.
 pub enum Step {

@@ -15,8 +15,8 @@ use Rattle.book.specs.Struct.{SlotIs}
 use Rattle.book.specs.declared.slot.Slot.{Slot}
 use Rattle.model.specs.Days.{keptBefore, kept}
 use Rattle.model.specs.Journal.{Backup, backups, days}
-use Rattle.restorer.specs.declared.image.After.{After}
 use Rattle.model.specs.JournalAt.{backupAt, day-at, backupsFrom, from-start, from-own, from-other, from-end}
+use Rattle.restorer.specs.declared.image.After.{After}
 
 -- what the code answers
 pub record AfterIs (x : Book) (v k : ℕ) (r : After) : Type 0 where

@@ -20,9 +20,9 @@ use Rattle.book.specs.Struct.{SlotIs}
 use Rattle.book.specs.declared.slot.Slot.{Slot}
 use Rattle.model.specs.Journal.{Backup}
 use Rattle.model.specs.Read.{recordsOf, beforeOr}
+use Rattle.model.specs.JournalAt.{backupAt, volume-at, records-at, backupsFrom, ownAt, from-split, from-end}
 use Rattle.restorer.specs.declared.image.Before.{Before}
 use Rattle.restorer.specs.declared.image.Before.the-variants.{At, Nothing}
-use Rattle.model.specs.JournalAt.{backupAt, volume-at, records-at, backupsFrom, ownAt, from-split, from-end}
 
 -- "that LBN's first record", among these
 abbrev pub firstOf : ℕ → List Rec → Option Rec

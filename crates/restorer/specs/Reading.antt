@@ -15,11 +15,11 @@ use Rattle.model.specs.Days.{kept}
 use Rattle.model.specs.Journal.{backups, days, noVolume}
 use Rattle.model.specs.OnBytes.{numberOf, poolNumber}
 use Rattle.model.specs.Read.{image, readNumber}
+use Rattle.model.specs.JournalAt.{backupsFrom}
 use Rattle.restorer.specs.declared.read.Kept.{Kept}
 use Rattle.restorer.specs.declared.read.Sought.{Sought}
 use Rattle.restorer.specs.declared.read.Kept.the-variants as kept-is
 use Rattle.restorer.specs.declared.read.Sought.the-variants as sought-is
-use Rattle.model.specs.JournalAt.{backupsFrom}
 use Rattle.restorer.specs.Befores.{imageFrom}
 
 -- numbers 1 and 2 of the book, then 3: "The pool isn't 512N bytes"

@@ -4,9 +4,9 @@ ghost use Prim.Native.Nat.{_*_, _<_};
 ghost use Rattle.words.specs.Blocks.{blockSize};
 ghost use Rattle.book.specs.Book.{volumes};
 ghost use Rattle.book.specs.Layout.{bookOf, Holds};
+ghost use Rattle.book.specs.Formed.{Formed};
 ghost use Rattle.model.specs.OnBytes.{readBytes, readNumberBytes, blockAfter};
 ghost use Rattle.restorer.specs.Contracts.{Located};
-ghost use Rattle.book.specs.Formed.{Formed};
 ghost use Rattle.restorer.specs.Reading.{buffersNumber, KeptIs, soughtOf, soughtNumber, soughtFrom, soughtBytes};
 use super::image::backups_after;
 use super::image::image_at;
@@ -16,8 +16,7 @@ use form::form_number;
 use list::BLOCK_SIZE;
 use words::LBN;
 use words::PBN;
-
-const UNMAPPED: u16 = 65535;
+use words::UNMAPPED;
 
 // A backup that is there and kept: its volume's later backups are in the slots from this one on. Else the number of the refusal.
 enum Kept {

@@ -1,14 +1,15 @@
 -- Runs of one value, and stores that lay runs and numbers down. Assumes nothing.
 use mathlib.Core.Path.{_≡_, refl, sym, ap, _∙_}
 use mathlib.Core.List.{List, [], _∷_, _++_}
-use Prim.Native.Nat.{ℕ, zero, suc, _+_, _*_, _≤_, _<_}
-use native.Mathlib.Nat.{zero-mul, suc-mul, add-comm, add-zero, zero-add}
+use Prim.Native.Nat.{ℕ, zero, suc, _+_, _*_}
+use native.Mathlib.Nat.{zero-mul, suc-mul, add-comm, add-zero}
 use native.Mathlib.Numerals.{add-one, towards-suc}
 use native.Mathlib.Omega.{arith}
 use lib.ListN.{length, set, drop, length-drop, replicate, length-replicate, replicate-append-replicate}
-use lib.Seq.{sets, sets-eq}
+use lib.Seq.{sets}
 use Rattle.words.specs.Numbers.{two, put}
 use Rattle.words.specs.Sections.{flat, fit, sets-snoc, sets-append-right, sets-whole}
+use Rattle.words.specs.Laying.{sets-front}
 
 -- a number written is its two bytes stored
 pub put-sets : (b : List ℕ) (at v : ℕ) → put b at v ≡ sets b at (two v)
@@ -40,9 +41,6 @@ fill-more d at i v =
     ∙ ap (λ (k : ℕ). set (sets d at (replicate i v)) (at + k) v) (length-replicate i v))
 
 -- stores that lay lists down one after the other, from the start
-lay : (u b : List ℕ) → length u ≤ length b → sets b 0 u ≡ u ++ drop (length u) b
-lay u b h = sets-eq u b 0 (rw zero-add h) ∙ rw zero-add
-
 after : (v u r : List ℕ) → sets (u ++ r) (length u) v ≡ u ++ sets r 0 v
 after v u r = rw (← add-zero (length u)) (sets-append-right v u r 0)
 
@@ -53,8 +51,8 @@ sets-three u v w b e =
     let r′ = drop (length v) r in
     let n : length r ≡ length v + length w = length-drop (length u) b ∙ omega arith in
     let n′ : length r′ ≡ length w = length-drop (length v) r ∙ omega arith in
-    ap (λ (l : List ℕ). sets (sets l (length u) v) (length u + length v) w) (lay u b (omega arith))
-    ∙ ap (λ (l : List ℕ). sets l (length u + length v) w) (after v u r ∙ ap (λ (l : List ℕ). u ++ l) (lay v r (omega arith)))
+    ap (λ (l : List ℕ). sets (sets l (length u) v) (length u + length v) w) (sets-front u b (omega arith))
+    ∙ ap (λ (l : List ℕ). sets l (length u + length v) w) (after v u r ∙ ap (λ (l : List ℕ). u ++ l) (sets-front v r (omega arith)))
     ∙ sets-append-right w u (v ++ r′) (length v)
     ∙ ap (λ (l : List ℕ). u ++ l) (after w v r′ ∙ ap (λ (l : List ℕ). v ++ l) (sets-whole w r′ (sym n′)))
 

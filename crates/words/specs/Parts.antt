@@ -11,7 +11,7 @@ use Rattle.words.specs.Sections.{part}
 pub length-part : (b : List ℕ) (o m : ℕ) → o + m ≤ length b → length (part b o m) ≡ m
 length-part b o m h = length-take-le m (drop o b) (rw length-drop (omega arith))
 
-drop-take : (k n : ℕ) (l : List ℕ) → drop k (take (k + n) l) ≡ take n (drop k l)
+pub drop-take : {A : Type 0} (k n : ℕ) (l : List A) → drop k (take (k + n) l) ≡ take n (drop k l)
 drop-take zero n l = rw zero-add
 drop-take (suc k) n [] = rw (suc-add, take-nil)
 drop-take (suc k) n (x ∷ l) = rw suc-add (drop-take k n l)

@@ -7,6 +7,7 @@ use mathlib.Core.List.{List, [], _∷_, map}
 use native.Mathlib.Omega.{arith}
 use lib.Dec.{eqb, eqb·suc-zero}
 use lib.ListN.{length, getD, take, drop, set, replicate}
+use borrow.Author.Tests.{eqb-true, eqb-false}
 use Rattle.words.specs.Choice.{if_then_else_, and-true, true-and, or-cases, or-l, or-r, not-both}
 use Rattle.words.specs.Lists.{all, someOf, those, countOf, joined, upFrom}
 use Rattle.words.specs.Appends.{someOf-append}
@@ -98,6 +99,14 @@ pub all-upFrom : (f : ℕ → Bool) (i m : ℕ) → ((j : ℕ) → i ≤ j → j
 all-upFrom f i zero h = refl
 all-upFrom f i (suc m) h =
     true-and (f i) (all f (upFrom (suc i) m)) (h i (omega arith) (omega arith)) (all-upFrom f (suc i) m (λ j a b. h j (omega arith) (omega arith)))
+
+pub upFrom-all : (f : ℕ → Bool) (i m : ℕ) → all f (upFrom i m) ≡ true → (k : ℕ) → i ≤ k → k < i + m → f k ≡ true
+upFrom-all f i zero e k h g = absurd (omega arith)
+upFrom-all f i (suc m) e k h g = let w = and-true (f i) (all f (upFrom (suc i) m)) e in go (eqb i k) refl (w .0) (upFrom-all f (suc i) m (w .1) k)
+  where
+    go : (t : Bool) → eqb i k ≡ t → f i ≡ true → (suc i ≤ k → k < suc i + m → f k ≡ true) → f k ≡ true
+    go true q w ih = rw (eqb-true i k q) at w
+    go false q w ih = let n = eqb-false i k q in ih (omega arith) (omega arith)
 
 -- ---- none, or some
 

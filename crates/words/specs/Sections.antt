@@ -1,14 +1,14 @@
 -- Lists made of sections, and sections made of elements of one size: where a byte stands, and what a store does. No law here knows a
 -- layout: the size of an element and its encoder are parameters. Assumes nothing.
-use mathlib.Core.Path.{_≡_, refl, sym, ap, _∙_, subst}
+use mathlib.Core.Path.{_≡_, refl, sym, ap, _∙_}
 use mathlib.Core.List.{List, [], _∷_, _++_, map}
-use Prim.Native.Nat.{ℕ, zero, suc, _+_, _*_, _-_, _≤_, _<_, suc-le-suc}
+use Prim.Native.Nat.{ℕ, zero, suc, _+_, _*_, _≤_, _<_, suc-le-suc}
 use native.Mathlib.Nat.{zero-add, add-zero, suc-add, add-suc, add-assoc, suc-mul, zero-mul, not-suc-le-zero, le-of-suc-le-suc, suc-inj, suc-ne-zero, zero-lt-suc, le-refl, lt-of-lt-of-le, mul-le-mul-right, add-comm}
 use native.Mathlib.Numerals.{add-one}
 use native.Mathlib.Omega.{arith}
-use lib.ListN.{length, getD, set, take, drop, length-append, length-set, length-drop, drop-of-length-le, take-append-drop, List·getD-append, List·getD-map, List·getD-eq-default, length-map}
+use lib.ListN.{length, getD, set, take, drop, length-append, length-set, length-drop, drop-of-length-le, take-append-drop, List·getD-append, List·getD-eq-default, length-map}
 use Rattle.words.specs.Lists.{joined, sum}
-use lib.Seq.{sets, getD-append-add, set-append-left, length-sets, take-add, drop-drop, drop-cons, getD-take, getD-drop, length-take-le, take-suc}
+use lib.Seq.{sets, getD-append-add, set-append-left, take-add, drop-drop, drop-cons, getD-take, getD-drop, length-take-le, take-suc}
 
 -- ---- stores into an append
 

@@ -2,7 +2,7 @@
 ghost use mathlib.Core.Path.{_≡_};
 ghost use mathlib.Core.List.{[], _∷_};
 ghost use Prim.Native.Nat.{_+_, _≤_, _<_};
-ghost use lib.ListN.{length, take, drop, replicate};
+ghost use lib.ListN.{length, replicate};
 ghost use lib.Seq.{sets};
 ghost use Rattle.words.specs.Numbers.{two, num, put};
 ghost use Rattle.words.specs.Sections.{flat};
@@ -11,8 +11,10 @@ ghost use Rattle.words.specs.Lists.{same};
 // A block of an aid's volume. Never taken for a PBN.
 pub struct LBN(pub u16);
 
-// A block of the pool; 65,535 is unmapped. Never taken for an LBN.
+// A block of the pool, or unmapped. Never taken for an LBN.
 pub struct PBN(pub u16);
+
+pub const UNMAPPED: u16 = 65535;
 
 // A byte as a wider number, which keeps its bound.
 pub fn wide(x: u8) -> u16

@@ -4,15 +4,15 @@ use mathlib.Core.Path.{_≡_, refl, sym, ap, _∙_}
 use mathlib.Core.Bool.{Bool, true, _&&_}
 use mathlib.Core.List.{List, [], _∷_, map, map-map, map-id}
 use native.Mathlib.Omega.{arith}
-use lib.ListN.{length, length-map, length-take, length-drop}
+use lib.ListN.{length, length-take, length-drop}
 use lib.Dec.{leb, ltb, eqb}
 use borrow.Author.Tests.{leb-true, eqb-true, ltb-true, eq-eqb}
 use Rattle.words.specs.Choice.{and-true}
 use Rattle.words.specs.Lists.{all, joined, upFrom}
 use Rattle.words.specs.Pieces.{sized, all-pieces}
 use Rattle.words.specs.Sections.{flat}
-use Rattle.list.specs.Changes.{Change}
 use Rattle.words.specs.Blocks.{blockSize, printSize}
+use Rattle.list.specs.Changes.{Change}
 use Rattle.writer.specs.ListBytes.{lbn, print, block, Fitting}
 use Rattle.writer.specs.Runs.{marked-below, runs-named}
 use Rattle.writer.specs.Writer.{runs, markedFrom, imageChange, markedChanges, inputOk}
@@ -80,10 +80,6 @@ module _ (L : ℕ) (prints image : List ℕ) where
   all-blocks e = ap joined (map-map block (imageChange prints image) (upFrom 0 L)) ∙ all-pieces blockSize image L e
 
 -- ---- the marked ones
-
-pub length-marked : (marks prints image : List ℕ) → length (markedChanges marks prints image) ≡ length (markedFrom 0 marks)
-unfolding markedChanges
-length-marked marks prints image = length-map (markedFrom 0 marks) (imageChange prints image)
 
 module _ (L : ℕ) (marks prints image : List ℕ) (g : Input L marks prints image) where
   below : all (λ l. ltb l L) (markedFrom 0 marks) ≡ true

@@ -1,5 +1,5 @@
 -- "The reader recovers exactly these": it takes the list that the writer writes, and finds the marked blocks in it. Assumes nothing.
-use Prim.Native.Nat.{ℕ, _+_, _*_}
+use Prim.Native.Nat.{ℕ}
 use mathlib.Core.Path.{_≡_, refl, sym}
 use mathlib.Core.Bool.{Bool, true, false, not}
 use mathlib.Core.List.{List, [], _∷_, _++_}
@@ -10,10 +10,10 @@ use lib.Dec.{ltb}
 use Rattle.words.specs.Choice.{if_then_else_}
 use Rattle.words.specs.Lists.{allZero}
 use Rattle.list.specs.Changes.{changes, listNumber}
-use Rattle.writer.specs.ListBytes.{changes-back, length-back, listNumber-back}
-use Rattle.writer.specs.Marked.{input-facts, length-marked, marked-fitting}
+use Rattle.writer.specs.ListBytes.{changes-back, listNumber-back}
+use Rattle.writer.specs.Marked.{input-facts, marked-fitting}
 use Rattle.writer.specs.Runs.{marked-none, runs-fit, runs-none}
-use Rattle.writer.specs.Writer.{runs, markedFrom, markedChanges, listBytes, markedList, inputOk, writeNumber, answerAfter, outputAfter, Wrote}
+use Rattle.writer.specs.Writer.{runs, markedChanges, listBytes, markedList, inputOk, writeNumber, answerAfter, outputAfter, Wrote}
 
 -- the reader doesn't refuse the list, and its changes are the marked blocks, in order
 pub record Recovered (L : ℕ) (marks prints image list : List ℕ) : Type 0 where
@@ -50,15 +50,6 @@ recovered-written L marks prints image out answer out′ answer′ w =
     let o : out′ ≡ list ++ drop (length list) out = rw n at (w .output) in
     let e : take answer′ out′ ≡ list = rw (a, o) (take-at list (drop (length list) out) (length list) refl) in
     rw e (recovered L marks prints image (input-written L marks prints image out n))
-
--- ---- the size, and a list without changes
-
-pub length-written : (L : ℕ) (marks prints image : List ℕ) → inputOk L marks prints image ≡ true
-    → length (markedList marks prints image) ≡ 2 + 4 * length (runs 0 0 marks) + 528 * length (markedFrom 0 marks)
-unfolding markedList
-length-written L marks prints image h =
-    let n = length-marked marks prints image in
-    omega (arith, length-back (runs 0 0 marks) (markedChanges marks prints image) (marked-fitting L marks prints image (input-facts L marks prints image h)))
 
 -- "E = 0 is a backup without changes"
 pub nothing-written : (marks prints image : List ℕ) → allZero marks ≡ true → markedList marks prints image ≡ 0 ∷ 0 ∷ []

@@ -1,17 +1,16 @@
 -- The writer on the aid (document 01, "The writer on the aid"; numbers 19 and 20). Assumes nothing.
-use Prim.Native.Nat.{ℕ, zero, suc, _+_, _-_, _*_}
+use Prim.Native.Nat.{ℕ, zero, suc, _-_, _*_}
 use mathlib.Core.Path.{_≡_}
-use mathlib.Core.Bool.{Bool, true, false, not, _&&_, _||_}
+use mathlib.Core.Bool.{Bool, not, _&&_}
 use mathlib.Core.List.{List, [], _∷_, _++_, map}
 use lib.ListN.{length, drop}
 use lib.Dec.{leb, ltb, eqb}
 use Rattle.words.specs.Choice.{if_then_else_}
 use Rattle.words.specs.Lists.{all}
 use Rattle.words.specs.Numbers.{two}
-use Rattle.words.specs.Outcome.{Outcome, refused, accepted, unless}
 use Rattle.words.specs.Sections.{flat, part}
-use Rattle.list.specs.Changes.{Pair, Change}
 use Rattle.words.specs.Blocks.{blockSize, printSize}
+use Rattle.list.specs.Changes.{Pair, Change}
 
 -- the run of k blocks that ends before LBN i; none where k is 0
 abbrev pub runBefore : ℕ → ℕ → List Pair

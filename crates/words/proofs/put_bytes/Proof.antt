@@ -1,15 +1,13 @@
 use mathlib.Core.List.{List}
 use Rattle.words.specs.Sections.{sets-more}
 use lib.Seq.{sets, take-length}
-use lib.ListN.{length, take, drop, getD, set, length-set}
-use Prim.Native.Nat.{ℕ, _+_, _*_, _-_, _<_, _≤_}
+use lib.ListN.{length, take, getD, set, length-set}
+use Prim.Native.Nat.{ℕ, _+_, _-_, _≤_}
 use denote.Ref.{now}
-use mathlib.Core.Path.{_≡_, sym, ap, _∙_, refl}
+use mathlib.Core.Path.{_≡_, ap, _∙_, refl}
 use native.Mathlib.Omega.{arith}
 use Rattle.words.proofs.put_bytes.Statement.{statement}
 use Rattle.words.proofs.put_bytes.Tie as tie
-use Rattle.words.proofs.put_bytes.Reads as reads
-use Rattle.words.proofs.put_bytes.Lts as lts
 
 abbrev Inv-loop : tie.InvT-loop
 Inv-loop b₀ at src i₀ b i = (i ≤ length src) × (b ≡ sets b₀ at (take i src)) × (length b ≡ length b₀)

@@ -1,8 +1,8 @@
--- `engine::audit::answer` meets its contract, by what an audit leaves on each way out.
+-- `auditor::audit::answer` meets its contract, by what an audit leaves on each way out.
 use mathlib.Core.Path.{_≡_, sym, _∙_}
 use denote.Ref.{now}
 use Rattle.book.specs.Form.{formNumber}
-use Rattle.auditor.specs.Formed.{formed}
+use Rattle.book.specs.Formed.{formed}
 use Rattle.auditor.specs.AuditAnswers.{audit-refused, audit-yes, audit-no}
 use borrow.Author.Needs.{needs}
 use Rattle.auditor.proofs.audit.answer.Statement.{statement}

@@ -1,4 +1,4 @@
--- `engine::audit::is_sound` meets its contract: each way out decides the five tests of `auditParts`, which are audit's.
+-- `auditor::audit::is_sound` meets its contract: each way out decides the five tests of `auditParts`, which are audit's.
 use mathlib.Core.Path.{_≡_, sym, _∙_}
 use mathlib.Core.Bool.{true}
 use denote.Ref.{now}

@@ -1,4 +1,4 @@
--- `engine::audit_counts::count_one` meets its contract: a store at the block's counter, or none.
+-- `auditor::audit_counts::count_one` meets its contract: a store at the block's counter, or none.
 use native.Mathlib.Omega.{arith}
 use Rattle.auditor.specs.Counts.{counted-one, counted-past}
 use borrow.Author.Needs.{needs}

@@ -1,4 +1,4 @@
--- `engine::audit_counts::count_row` meets its contract: the cells passed are counted.
+-- `auditor::audit_counts::count_row` meets its contract: the cells passed are counted.
 use Prim.Native.Nat.{_*_, _-_, _≤_}
 use mathlib.Core.Path.{_≡_, _∙_}
 use mathlib.Core.List.{[]}

@@ -1,4 +1,4 @@
--- `engine::audit_counts::counts_sound` meets its contract: the rows passed are counted, and then `counts-sound`.
+-- `auditor::audit_counts::counts_sound` meets its contract: the rows passed are counted, and then `counts-sound`.
 use Prim.Native.Nat.{ℕ, _*_, _-_, _≤_, _<_}
 use mathlib.Core.Path.{_≡_, _∙_}
 use lib.ListN.{getD, take, replicate, length-replicate, getD-replicate}

@@ -1,4 +1,4 @@
--- `engine::audit_counts::matches` meets its contract: `good` is the test of the counts passed.
+-- `auditor::audit_counts::matches` meets its contract: `good` is the test of the counts passed.
 use Prim.Native.Nat.{_-_, _≤_}
 use mathlib.Core.Path.{_≡_, refl, _∙_}
 use denote.Ref.{now}

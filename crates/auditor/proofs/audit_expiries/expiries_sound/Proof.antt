@@ -1,4 +1,4 @@
--- `engine::audit_expiries::expiries_sound` meets its contract, by `expiries-sound`.
+-- `auditor::audit_expiries::expiries_sound` meets its contract, by `expiries-sound`.
 use Rattle.auditor.specs.Expiries.{expiries-sound}
 use borrow.Author.Needs.{needs}
 use Rattle.auditor.proofs.audit_expiries.expiries_sound.Statement.{statement}

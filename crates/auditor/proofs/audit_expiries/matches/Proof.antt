@@ -1,4 +1,4 @@
--- `engine::audit_expiries::matches` meets its contract: `good` is the test of the expiries passed.
+-- `auditor::audit_expiries::matches` meets its contract: `good` is the test of the expiries passed.
 use Prim.Native.Nat.{_-_, _≤_}
 use mathlib.Core.Path.{_≡_, refl}
 use denote.Ref.{now}

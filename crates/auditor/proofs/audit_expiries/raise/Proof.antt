@@ -1,4 +1,4 @@
--- `engine::audit_expiries::raise` meets its contract: a store at the block's expiry, or none.
+-- `auditor::audit_expiries::raise` meets its contract: a store at the block's expiry, or none.
 use Rattle.auditor.specs.Expiries.{raised-past, raised-kept, raised-set}
 use native.Mathlib.Omega.{arith}
 use borrow.Author.Needs.{needs}

@@ -1,4 +1,4 @@
--- `engine::audit_expiries::raise_all` meets its contract: the backups that are left raise what the whole journal does.
+-- `auditor::audit_expiries::raise_all` meets its contract: the backups that are left raise what the whole journal does.
 use Prim.Native.Nat.{_+_, _-_, _≤_}
 use mathlib.Core.Path.{_≡_, _∙_}
 use mathlib.Core.List.{_∷_}
@@ -8,7 +8,8 @@ use Rattle.book.specs.Book.{retentionOf}
 use Rattle.book.specs.Layout.{bookOf}
 use Rattle.model.specs.Journal.{journal}
 use Rattle.model.specs.Audit.{untilIn}
-use Rattle.auditor.specs.JournalAt.{readBackup, SlotRead, slot-read, journal-read, journal-end}
+use Rattle.model.specs.JournalAt.{journal-end}
+use Rattle.auditor.specs.JournalRead.{readBackup, SlotRead, slot-read, journal-read}
 use Rattle.auditor.specs.Expiries.{Raising, untilEach, raising-start, raising-more, raising-end, until-next}
 use borrow.Author.Needs.{needs}
 use native.Mathlib.Omega.{arith}
@@ -75,7 +76,7 @@ returns : tie.Need-returns Inv-loop μ-loop
 returns c =
     let s = c .before .before .before .before in
     let x = bookOf (now (s .args .book)) in
-    let e = journal-end x (s .pre .0 .parts) (c .before .loop .q) (omega arith) in
+    let e = journal-end x (c .before .loop .q) (omega arith) in
     raising-end (λ p. rw e) (c .before .loop .inv .1)
 
 pub raise-all-spec : {M : Type 1} → statement M

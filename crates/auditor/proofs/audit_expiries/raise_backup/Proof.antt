@@ -1,4 +1,4 @@
--- `engine::audit_expiries::raise_backup` meets its contract: the befores that are left raise what the whole does.
+-- `auditor::audit_expiries::raise_backup` meets its contract: the befores that are left raise what the whole does.
 use Prim.Native.Nat.{_+_, _-_, _≤_}
 use mathlib.Core.Path.{_≡_, _∙_}
 use lib.Seq.{slice}

@@ -1,4 +1,4 @@
--- `engine::audit_kept::backups_held` meets its contract: what is left of the journal decides as the whole does.
+-- `auditor::audit_kept::backups_held` meets its contract: what is left of the journal decides as the whole does.
 use Prim.Native.Nat.{ℕ, _-_, _≤_}
 use mathlib.Core.Path.{_≡_, refl, sym, _∙_}
 use mathlib.Core.Bool.{_&&_}
@@ -9,9 +9,9 @@ use Rattle.words.specs.Lists.{all}
 use Rattle.words.specs.Places.{getD-replicated}
 use Rattle.book.specs.Layout.{bookOf}
 use Rattle.model.specs.Journal.{journal}
+use Rattle.model.specs.JournalAt.{journal-end}
+use Rattle.model.specs.KeptBefores.{takenSound}
 use Rattle.auditor.specs.Table.{rowSize}
-use Rattle.auditor.specs.JournalAt.{journal-end}
-use Rattle.auditor.specs.KeptBefores.{takenSound}
 use Rattle.auditor.specs.Stamps.{taken-next}
 use borrow.Author.Needs.{needs}
 use native.Mathlib.Omega.{arith}
@@ -53,7 +53,7 @@ returns c =
     let s = c .before .before .before .before in
     let l = c .before .loop in
     let x = bookOf (now (s .args .book)) in
-    sym (l .inv .3 ∙ rw (journal-end x (s .pre .parts) (l .q) (omega arith)) (and-yes (l .good)))
+    sym (l .inv .3 ∙ rw (journal-end x (l .q) (omega arith)) (and-yes (l .good)))
 
 pub backups-held-spec : {M : Type 1} → statement M
 backups-held-spec =

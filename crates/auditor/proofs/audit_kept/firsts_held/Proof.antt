@@ -1,10 +1,10 @@
--- `engine::audit_kept::firsts_held` meets its contract: what is left of the records decides as the whole does.
+-- `auditor::audit_kept::firsts_held` meets its contract: what is left of the records decides as the whole does.
 use Prim.Native.Nat.{_-_, _≤_}
 use mathlib.Core.Path.{_≡_}
 use lib.Seq.{slice}
 use denote.Ref.{now}
 use Rattle.book.specs.Layout.{bookOf}
-use Rattle.auditor.specs.Formed.{ReadIn, read-in}
+use Rattle.auditor.specs.Bounds.{ReadIn, read-in}
 use Rattle.auditor.specs.Stamps.{Stamping, stamping-start, stamping-more, stamping-end}
 use borrow.Author.Needs.{needs}
 use native.Mathlib.Omega.{arith}

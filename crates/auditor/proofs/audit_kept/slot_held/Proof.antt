@@ -1,7 +1,7 @@
--- `engine::audit_kept::slot_held` meets its contract, by `slot-past` and `slot-kept`.
+-- `auditor::audit_kept::slot_held` meets its contract, by `slot-past` and `slot-kept`.
 use denote.Ref.{now}
 use Rattle.book.specs.Layout.{bookOf}
-use Rattle.auditor.specs.JournalAt.{SlotRead, slot-read}
+use Rattle.auditor.specs.JournalRead.{SlotRead, slot-read}
 use Rattle.auditor.specs.Stamps.{slot-past, slot-kept}
 use native.Mathlib.Omega.{arith}
 use borrow.Author.Needs.{needs}

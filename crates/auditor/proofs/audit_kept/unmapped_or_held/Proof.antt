@@ -1,4 +1,4 @@
--- `engine::audit_kept::unmapped_or_held` meets its contract.
+-- `auditor::audit_kept::unmapped_or_held` meets its contract.
 use mathlib.Core.Logic.{⊎-elim}
 use borrow.Author.Tests.{eq-eqb, ne-eqb}
 use Rattle.words.specs.Blocks.{unmapped}

@@ -1,4 +1,4 @@
--- `engine::audit_maps::maps_sound` meets its contract, by `passes-sound`.
+-- `auditor::audit_maps::maps_sound` meets its contract, by `passes-sound`.
 use Rattle.auditor.specs.TableMaps.{passes-sound}
 use borrow.Author.Needs.{needs}
 use Rattle.auditor.proofs.audit_maps.maps_sound.Statement.{statement}

@@ -1,4 +1,4 @@
--- `engine::audit_maps::matches` meets its contract: `good` is the test of the rows passed.
+-- `auditor::audit_maps::matches` meets its contract: `good` is the test of the rows passed.
 use Prim.Native.Nat.{_-_, _≤_}
 use mathlib.Core.Path.{_≡_, sym}
 use Rattle.words.specs.Each.{each, each-none, each-grow}

@@ -1,4 +1,4 @@
--- `engine::audit_maps::replay` meets its contract: what is left of the journal decides as the whole does.
+-- `auditor::audit_maps::replay` meets its contract: what is left of the journal decides as the whole does.
 use Prim.Native.Nat.{_+_, _-_, _≤_}
 use mathlib.Core.Path.{_≡_}
 use mathlib.Core.List.{_∷_}
@@ -6,7 +6,8 @@ use lib.ListN.{drop}
 use denote.Ref.{now}
 use Rattle.book.specs.Layout.{bookOf}
 use Rattle.model.specs.Journal.{journal}
-use Rattle.auditor.specs.JournalAt.{readBackup, SlotRead, slot-read, journal-read, journal-end}
+use Rattle.model.specs.JournalAt.{journal-end}
+use Rattle.auditor.specs.JournalRead.{readBackup, SlotRead, slot-read, journal-read}
 use Rattle.auditor.specs.Table.{ReplayingAll, all-start, all-more, all-end}
 use borrow.Author.Needs.{needs}
 use native.Mathlib.Omega.{arith}
@@ -61,7 +62,7 @@ loop-again c =
 returns : tie.Need-returns Inv-loop μ-loop
 returns c =
     let s = c .before .before .before .before in
-    all-end _ _ (journal-end _ (s .pre .parts) (c .before .loop .q) (omega arith)) (c .before .loop .inv .1)
+    all-end _ _ (journal-end _ (c .before .loop .q) (omega arith)) (c .before .loop .inv .1)
 
 pub replay-spec : {M : Type 1} → statement M
 replay-spec =

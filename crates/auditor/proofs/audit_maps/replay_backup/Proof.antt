@@ -1,9 +1,9 @@
--- `engine::audit_maps::replay_backup` meets its contract: what is left of the records decides as the whole does.
+-- `auditor::audit_maps::replay_backup` meets its contract: what is left of the records decides as the whole does.
 use Prim.Native.Nat.{_*_, _-_, _≤_}
 use lib.Seq.{slice}
 use mathlib.Core.Path.{_≡_}
 use Rattle.book.specs.Layout.{bookOf}
-use Rattle.auditor.specs.Formed.{ReadIn, read-in}
+use Rattle.auditor.specs.Bounds.{ReadIn, read-in}
 use Rattle.auditor.specs.Table.{rowSize, Replaying, replaying-start, replaying-more, replaying-end}
 use borrow.Author.Needs.{needs}
 use native.Mathlib.Omega.{arith}

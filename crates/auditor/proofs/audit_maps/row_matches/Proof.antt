@@ -1,4 +1,4 @@
--- `engine::audit_maps::row_matches` meets its contract: `good` is the test of the cells passed.
+-- `auditor::audit_maps::row_matches` meets its contract: `good` is the test of the cells passed.
 use Prim.Native.Nat.{_-_, _≤_}
 use mathlib.Core.Path.{_≡_, refl}
 use denote.Ref.{now}

@@ -1,4 +1,4 @@
--- `engine::audit_prints::apart` meets its contract: what is left of the entries decides as the whole does.
+-- `auditor::audit_prints::apart` meets its contract: what is left of the entries decides as the whole does.
 use Prim.Native.Nat.{_+_, _-_, _≤_}
 use mathlib.Core.Path.{_≡_, refl, sym, _∙_}
 use mathlib.Core.Bool.{not, _&&_}

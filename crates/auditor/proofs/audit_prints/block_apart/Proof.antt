@@ -1,4 +1,4 @@
--- `engine::audit_prints::block_apart` meets its contract.
+-- `auditor::audit_prints::block_apart` meets its contract.
 use Prim.Native.Nat.{ℕ, _+_}
 use mathlib.Core.Path.{ap, _∙_}
 use mathlib.Core.List.{List}

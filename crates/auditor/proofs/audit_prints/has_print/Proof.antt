@@ -1,4 +1,4 @@
--- `engine::audit_prints::has_print` meets its contract.
+-- `auditor::audit_prints::has_print` meets its contract.
 use mathlib.Core.Path.{ap, _∙_}
 use denote.Ref.{now}
 use Rattle.words.specs.Choice.{failed, passed}

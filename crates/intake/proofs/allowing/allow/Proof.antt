@@ -9,11 +9,11 @@ use Rattle.list.specs.Laws.{good-number, refused-number, good-whole}
 use Rattle.book.specs.Book.{retentionOf}
 use Rattle.book.specs.Conditions.{retention-in}
 use Rattle.book.specs.Layout.{bookOf}
+use Rattle.book.specs.Formed.{Formed, formed}
 use Rattle.model.specs.Backup.{backupNumber}
 use Rattle.model.specs.BackupAllowed.{Allowed, number-zero}
 use Rattle.intake.specs.Allowing.{bufferNumber, dayRefused, roomNumber, AllowedBy}
 use Rattle.intake.specs.AllowLaws.{buffer-facts, buffers-refused, number-refused, goes-on, five-above, five-none, seven, eight, by-room, days-bound}
-use Rattle.book.specs.Formed.{Formed, formed}
 use borrow.Author.Needs.{needs}
 use Rattle.intake.proofs.allowing.allow.Statement.{statement}
 use Rattle.intake.proofs.allowing.allow.Tie as tie

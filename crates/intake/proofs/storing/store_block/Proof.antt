@@ -8,11 +8,11 @@ use lib.ListN.{length, getD}
 use Rattle.words.specs.Blocks.{blockSize}
 use Rattle.words.specs.Choice.{failed, passed}
 use Rattle.words.specs.Parts.{length-part}
+use Rattle.words.specs.Lending.{lent, spliced}
 use Rattle.list.specs.Laws.{length-block}
 use Rattle.book.specs.Book.{entryAt}
 use Rattle.book.specs.Layout.{bookOf}
 use Rattle.model.specs.Pool.{withBlock}
-use Rattle.words.specs.Lending.{lent, spliced}
 use Rattle.intake.specs.Storing.{stored-old, stored-free, stored-new}
 use borrow.Author.Needs.{needs}
 use Rattle.intake.proofs.storing.store_block.Statement.{statement}

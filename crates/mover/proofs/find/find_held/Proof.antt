@@ -7,11 +7,11 @@ use lib.ListN.{length, take, drop}
 use borrow.Author.Needs.{needs}
 use Rattle.words.specs.Blocks.{printSize}
 use Rattle.words.specs.Parts.{length-part}
+use Rattle.words.specs.Lending.{lent}
 use Rattle.book.specs.Book.{freeEntry}
 use Rattle.book.specs.Layout.{bookOf}
 use Rattle.model.specs.Backup.{findHeld}
 use Rattle.mover.specs.Answers.{foundOf}
-use Rattle.words.specs.Lending.{lent}
 use Rattle.mover.specs.Search.{placeIn, place-stop, place-more, place-end}
 use Rattle.mover.specs.Finding.{hasPrint, held-search}
 use Rattle.mover.proofs.find.find_held.Statement.{statement}

@@ -1,4 +1,4 @@
--- What form gives a pass over the book: bounds of the slots, the records and the cells. Assumes nothing.
+-- What form gives a pass over the book: bounds of its used slots, and of the records that it reads. Assumes nothing.
 use Prim.Native.Nat.{ℕ, _+_, _≤_, _<_}
 use mathlib.Core.Path.{_≡_}
 use mathlib.Core.Logic.{_⊎_}
@@ -6,24 +6,16 @@ use mathlib.Core.Bool.{true, false}
 use mathlib.Core.List.{List}
 use native.Mathlib.Decide.{decLt}
 use native.Mathlib.Omega.{arith}
-use lib.ListN.{length, getD, List·getD-eq-default}
+use lib.ListN.{length, List·getD-eq-default}
 use Rattle.words.specs.Blocks.{unmapped}
 use Rattle.book.specs.Book.{volumes, Slot, Book, Sized, slotAt, recAt, retentionOf}
-use Rattle.book.specs.Layout.{bookOf, Holds}
-use Rattle.book.specs.Form.{enrolled, formNumber}
-use Rattle.book.specs.FormParts.{BookParts, book-parts}
-use Rattle.book.specs.InForm.{holds-form, book-form}
+use Rattle.book.specs.Layout.{bookOf}
+use Rattle.book.specs.Form.{enrolled}
+use Rattle.book.specs.FormParts.{BookParts}
+use Rattle.book.specs.Formed.{Formed}
 use Rattle.book.specs.Conditions.{slot-in, rec-in, retention-in, pairs-in}
 use Rattle.book.specs.Struct.{RecordIs}
 use Rattle.book.specs.declared.record.Record.{Record}
-
--- b is a book in form
-pub record Formed (b : List ℕ) : Type 0 where
-  pub holds : Holds b
-  pub parts : BookParts (bookOf b)
-
-pub formed : (b : List ℕ) → ((i : ℕ) → getD b i 0 < 256) → formNumber b ≡ 0 → Formed b
-formed b small e = record { holds = holds-form b small e; parts = book-parts (bookOf b) (book-form b e .1) }
 
 -- a used slot of the book x
 pub record SlotIn (x : Book) (t : Slot) : Type 0 where

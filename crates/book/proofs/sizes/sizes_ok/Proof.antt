@@ -1,8 +1,8 @@
--- `engine::format::sizes_ok` meets its contract: the definition's tests, of what `in_range` answers.
+-- `book::sizes::sizes_ok` meets its contract: the code computes the definition.
 use borrow.Author.Needs.{needs}
 use Rattle.book.specs.Form.{sizesOk}
-use Rattle.engine.proofs.format.sizes_ok.Statement.{statement}
-use Rattle.engine.proofs.format.sizes_ok.Tie as tie
+use Rattle.book.proofs.sizes.sizes_ok.Statement.{statement}
+use Rattle.book.proofs.sizes.sizes_ok.Tie as tie
 
 in-range-requires : tie.Need-in-range-requires
 in-range-requires c κs = search needs

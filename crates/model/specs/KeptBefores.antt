@@ -4,7 +4,7 @@ use Prim.Native.Nat.{ℕ, zero, suc, _+_, _≤_, _<_}
 use mathlib.Core.Path.{_≡_, refl, sym, ap, _∙_}
 use mathlib.Core.Logic.{_≢_, _⊎_, inl, inr}
 use mathlib.Core.Bool.{Bool, true, false, not, _&&_, _||_}
-use mathlib.Core.List.{List, [], _∷_, map}
+use mathlib.Core.List.{List, [], _∷_}
 use native.Mathlib.Omega.{arith}
 use lib.Dec.{leb, ltb, eqb}
 use lib.ListN.{length, getD, drop, replicate, length-map}
@@ -13,19 +13,19 @@ use Rattle.words.specs.Blocks.{unmapped}
 use Rattle.words.specs.Choice.{if_then_else_, and-true, true-and, and-false, or-cases, or-l, or-r, not-both, same-test}
 use Rattle.words.specs.Each.{each-at, all-each}
 use Rattle.words.specs.Lists.{all, upFrom}
-use Rattle.words.specs.Places.{all-getD, all-upFrom, getD-replicated}
+use Rattle.words.specs.Places.{all-getD, all-upFrom, upFrom-all, getD-replicated}
 use Rattle.book.specs.Book.{volumes, Book, cellAt, retentionOf}
 use Rattle.model.specs.Days.{keptBefore, kept}
 use Rattle.model.specs.Journal.{Backup, journal, backupsIn, backups, days}
 use Rattle.model.specs.Read.{recordsOf, image}
 use Rattle.model.specs.Audit.{cellSound, currentSound, backupSound, backupsSound}
 use Rattle.model.specs.Plain.{Image, daysOf, mapsOf}
 use Rattle.model.specs.Agree.{imagesOf}
 use Rattle.model.specs.Sound.{Days}
 use Rattle.model.specs.Replays.{mapAfter, Sounds, days-imagesOf, length-imagesOf}
 use Rattle.model.specs.ReadRule.{firstBefore, read-rule}
 use Rattle.model.specs.KeptCells.{keptAt, takes, takenAt, kept-cell}
-use Rattle.auditor.specs.KeptNumbers.{up-at, kept-number, number-kept, takes-first, first-takes}
+use Rattle.model.specs.KeptNumbers.{kept-number, number-kept, takes-first, first-takes}
 
 -- a backup that reaches the day has replaced blocks that are held still: its first records' befores are unmapped or held
 unfoldable pub takenSound : Book → Backup → Bool
@@ -178,10 +178,10 @@ module _ (x : Book) where
         let hb : k < length (backupsIn v (journal x)) = omega (arith, length-imagesOf none (backupsIn v (journal x)), w .1) in
         let row = each-at (λ v. all (backupSound x v) (upFrom 1 (length (days x v)))) 0 volumes
         (sym (all-each (λ v. all (backupSound x v) (upFrom 1 (length (days x v)))) volumes) ∙ ok) v (omega arith) hv in
-        let s = up-at (backupSound x v) 1 (length (days x v)) row (suc k) (omega arith) (omega arith) in
+        let s = upFrom-all (backupSound x v) 1 (length (days x v)) row (suc k) (omega arith) (omega arith) in
         let kept-here : keptBefore (drop (suc k) (days x v)) r (x .day) ≡ true = rw (days-images v) (w .2) in
         let cells : all (λ j. cellSound x (image x v (suc k) j)) (upFrom 0 (x .sizes .l)) ≡ true = rw kept-here at s in
-        let c = up-at (λ j. cellSound x (image x v (suc k) j)) 0 (x .sizes .l) cells l (omega arith) (omega arith) in
+        let c = upFrom-all (λ j. cellSound x (image x v (suc k) j)) 0 (x .sizes .l) cells l (omega arith) (omega arith) in
         ap (cellSound x) (eqb-true p (getD (getD (mapsOf (images v)) k none) l unmapped) (w .3) ∙ sym (image-cell v k l hv hb)) ∙ c
 
     pub kept-befores : all (takenSound x) (journal x) ≡ backupsSound x

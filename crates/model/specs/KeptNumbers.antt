@@ -1,5 +1,5 @@
 -- A kept backup that has block p at an LBN: by its number, and by the record that takes p away. Assumes nothing.
-use Prim.Native.Nat.{ℕ, zero, suc, _+_, _-_, _≤_, _<_}
+use Prim.Native.Nat.{ℕ, zero, suc, _<_}
 use mathlib.Core.Path.{_≡_, refl, sym}
 use mathlib.Core.Logic.{_≢_, _⊎_, inl, inr}
 use mathlib.Core.Bool.{Bool, true, false, _&&_}
@@ -9,26 +9,15 @@ use native.Mathlib.Omega.{arith}
 use lib.Dec.{eqb}
 use lib.ListN.{length, getD, drop}
 use borrow.Author.Tests.{eqb-true, eq-eqb}
-use Rattle.words.specs.Places.{all-place}
 use Rattle.words.specs.Blocks.{unmapped}
 use Rattle.words.specs.Choice.{if_then_else_, and-true, true-and, or-cases, or-l, or-r, not-both}
-use Rattle.words.specs.Lists.{all, upFrom, firstThat}
-use Rattle.words.specs.Runs.{length-upFrom, getD-upFrom}
+use Rattle.words.specs.Lists.{firstThat}
 use Rattle.book.specs.Book.{Rec}
 use Rattle.model.specs.Days.{keptBefore}
 use Rattle.model.specs.Read.{beforeOr}
 use Rattle.model.specs.Plain.{Image, daysOf, mapsOf}
 use Rattle.model.specs.ReadRule.{firstBefore}
 use Rattle.model.specs.KeptCells.{keptAt, takes}
-
--- ---- a test of numbers counted up, at one of them
-
-pub up-at : (f : ℕ → Bool) (i m : ℕ) → all f (upFrom i m) ≡ true → (k : ℕ) → i ≤ k → k < i + m → f k ≡ true
-up-at f i m e k h g =
-    rw (getD-upFrom i m (k - i) (omega arith), back) at (all-place f (upFrom i m) 0 (k - i) e (rw length-upFrom (omega arith)))
-  where
-    back : i + (k - i) ≡ k
-    back = omega arith
 
 -- ---- kept backups by number, and in a row
 

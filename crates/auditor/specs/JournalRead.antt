@@ -1,0 +1,75 @@
+-- The journal as the audit reads it, slot by slot. Assumes nothing.
+use Prim.Native.Nat.{ℕ, _+_, _≤_, _<_}
+use mathlib.Core.Path.{_≡_, sym, ap, _∙_}
+use mathlib.Core.Bool.{Bool, true, _&&_}
+use mathlib.Core.List.{List, _∷_}
+use native.Mathlib.Omega.{arith}
+use lib.Dec.{ltb}
+use lib.ListN.{length, drop}
+use lib.Seq.{slice}
+use borrow.Author.Tests.{lt-ltb}
+use Rattle.words.specs.Choice.{true-and}
+use Rattle.words.specs.Lists.{all}
+use Rattle.words.specs.Parts.{drop-take}
+use Rattle.words.specs.Places.{place-all, all-take, all-drop}
+use Rattle.book.specs.Book.{volumes, Sizes, Rec, Book, Sized, slotAt, retentionOf}
+use Rattle.book.specs.Form.{recOk}
+use Rattle.book.specs.Formed.{Formed}
+use Rattle.book.specs.FormParts.{BookParts}
+use Rattle.book.specs.Layout.{bookOf}
+use Rattle.book.specs.Struct.{SlotIs}
+use Rattle.book.specs.declared.slot.Slot as read
+use Rattle.model.specs.Journal.{Backup, journal}
+use Rattle.model.specs.JournalAt.{noBackup, backupAt, length-journal, journal-next, volume-at, day-at, records-at}
+use Rattle.auditor.specs.Bounds.{slot-bounds}
+
+-- a backup in form: its volume, and its records
+unfoldable pub backupIn : Sizes → Backup → Bool
+backupIn z b = ltb (b .volume) volumes && all (recOk z) (b .records)
+
+pub journal-in : (x : Book) → BookParts x → Sized x → all (backupIn (x .sizes)) (journal x) ≡ true
+unfolding backupIn
+journal-in x p s =
+    place-all (backupIn (x .sizes)) (journal x) noBackup
+    (λ q k. let h : q < length (x .slots) = omega (arith, length-journal x) in
+    let t = slotAt (x .slots) q in
+    let ok = all-take (recOk (x .sizes)) (t .number) (drop (t .first) (x .records)) (all-drop (recOk (x .sizes)) (t .first) (x .records) (p .records)) in
+    true-and (ltb (backupAt x q .volume) volumes) (all (recOk (x .sizes)) (backupAt x q .records))
+    (rw (volume-at x q) (lt-ltb (t .volume) volumes (slot-bounds x s p q h .volume)))
+    (rw (records-at x q (p .pairs) h) ok))
+
+-- ---- a slot as the code has it, read from the book
+
+abbrev pub readBackup : List Rec → read.Slot → Backup
+readBackup rs r = record { volume = r .volume; day = r .day; records = slice (r .first) (r .first + r .number) rs }
+
+pub record SlotRead (x : Book) (r : read.Slot) : Type 0 where
+  pub volume : r .volume < volumes
+  pub until : r .day + retentionOf x (r .volume) ≤ 65000
+  pub records : r .first + r .number ≤ length (x .records)
+  pub room : length (x .records) ≤ 16384
+
+module _ {b : List ℕ} (f : Formed b) (q : ℕ) (h : q < length (bookOf b .slots)) {r : read.Slot} (i : SlotIs (slotAt (bookOf b .slots) q) r) where
+  pub slot-read : SlotRead (bookOf b) r
+  slot-read =
+      let w = slot-bounds (bookOf b) (f .holds .sized) (f .parts) q h in
+      record {
+        volume = rw (i .volume) (w .volume);
+        until = rw (i .volume, i .day) (omega (arith, w .day, w .today, w .retention));
+        records = rw (i .first, i .number) (w .records);
+        room = omega (arith, f .holds .records, f .holds .j);
+      }
+
+  -- it says which records are its backup's
+  pub backup-read : backupAt (bookOf b) q ≡ readBackup (bookOf b .records) r
+  backup-read =
+      let x = bookOf b in
+      let v = volume-at x q ∙ sym (i .volume) in
+      let d = day-at x q ∙ sym (i .day) in
+      let rs : backupAt x q .records ≡ slice (r .first) (r .first + r .number) (x .records) =
+      records-at x q (f .parts .pairs) h ∙ rw (i .first, i .number) (sym (drop-take (slotAt (x .slots) q .first) (slotAt (x .slots) q .number) (x .records)))
+      in
+      λ j. record { volume = v j; day = d j; records = rs j }
+
+  pub journal-read : drop q (journal (bookOf b)) ≡ readBackup (bookOf b .records) r ∷ drop (q + 1) (journal (bookOf b))
+  journal-read = journal-next (bookOf b) q h ∙ ap (λ (c : Backup). c ∷ drop (q + 1) (journal (bookOf b))) backup-read

@@ -1,0 +1,32 @@
+// The sizes that a book may have, and how long it is then.
+ghost use mathlib.Core.Path.{_≡_};
+ghost use Rattle.book.specs.Form.{between, sizesOk};
+ghost use Rattle.book.specs.Layout.{bookSize};
+use super::place::ENTRIES_FROM;
+use super::place::ENTRY_SIZE;
+use super::place::REC_SIZE;
+use super::place::SLOT_SIZE;
+use super::place::VOLUMES;
+
+fn in_range(x: u16, high: u16) -> bool
+    ensures { λ r. ⌜ r ≡ between 1 high x ⌝ }
+{
+    (1 <= x) & (x <= high)
+}
+
+pub fn sizes_ok(n: u16, l: u16, s: u16, j: u16) -> bool
+    ensures { λ r. ⌜ r ≡ sizesOk (record { n = n; l = l; s = s; j = j }) ⌝ }
+{
+    in_range(n, 4096) & in_range(l, 1024) & in_range(s, 1024) & in_range(j, 16384)
+}
+
+// The length of a book of these sizes.
+pub fn size(n: u16, l: u16, s: u16, j: u16) -> usize
+    ensures { λ r. ⌜ r ≡ bookSize (record { n = n; l = l; s = s; j = j }) ⌝ }
+{
+    ENTRIES_FROM
+        + n as usize * ENTRY_SIZE
+        + VOLUMES * (l as usize * 2)
+        + s as usize * SLOT_SIZE
+        + j as usize * REC_SIZE
+}
