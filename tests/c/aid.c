@@ -1,4 +1,4 @@
-/* Tests of what libwriter.a and libbook.a export. */
+/* Tests of what an aid uses: libwriter.a, and the header's sizes. */
 #include "check.h"
 #include "tests.h"
 
@@ -6,6 +6,5 @@ int main(void)
 {
     test_sizes();
     test_writer();
-    test_form();
     return check_report();
 }

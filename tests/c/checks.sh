@@ -7,8 +7,8 @@ warnings="-Wall -Wextra -Werror -pedantic"
 # The sources of a program, by name.
 units_of() {
     case $1 in
-    writer_form) printf '%s\n' writer_form sizes writer form ;;
-    engine) printf '%s\n' engine cases format_audit refusals lists changes calls box ;;
+    aid) printf '%s\n' aid sizes writer ;;
+    engine) printf '%s\n' engine form cases format_audit refusals lists changes calls box ;;
     esac
     printf '%s\n' check buffer books
 }
@@ -16,7 +16,7 @@ units_of() {
 # The archives of a program; fails if one isn't there.
 archives_of() (
     case $1 in
-    writer_form) names="writer book" ;;
+    aid) names="writer" ;;
     engine) names="engine" ;;
     example) names="engine writer" ;;
     esac
@@ -49,7 +49,7 @@ runs() (
 # One way to build the programs and run them: variant NAME "UNDER" "LINKER" "COMPILER"
 variant() {
     check "C sources, $1" compiled "$1" $4
-    for program in writer_form engine; do
+    for program in aid engine; do
         if archives_of $program >/dev/null; then
             check "C program $program, $1" runs $program "$1" "$2" $3
         else
@@ -115,12 +115,12 @@ makes() {
         ARCHIVE_DIR="$(cd "$ASPEN_LIB_DIR" && pwd)"
 }
 
-# The program writer_form, with nothing of the library but what is installed.
+# A program, with nothing of the library but what is installed.
 uses_installed() (
     export PKG_CONFIG_LIBDIR="$scratch/dest/opt/aspen/lib/pkgconfig"
     export PKG_CONFIG_SYSROOT_DIR="$scratch/dest"
     flags=$(pkg-config --cflags --libs aspen) || exit 1
-    $CC -std=c99 $warnings $(units_of writer_form | sed 's|.*|c/&.c|') $flags \
+    $CC -std=c99 $warnings $(units_of "$1" | sed 's|.*|c/&.c|') $flags \
         -o "$scratch/uses_installed" && "$scratch/uses_installed"
 )
 
@@ -129,13 +129,15 @@ uninstalls() {
 }
 
 c_install() {
-    if ! archives_of writer_form >/dev/null; then
+    if ! archives_of example >/dev/null; then
         echo "not run: make install (no archive)"
         return
     fi
     check "make install" makes install
     if command -v pkg-config >/dev/null; then
-        check "program from the installed files" uses_installed
+        for program in aid engine; do
+            check "program $program from the installed files" uses_installed $program
+        done
     else
         echo "not run: program from the installed files (no pkg-config)"
     fi

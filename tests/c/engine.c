@@ -4,6 +4,7 @@
 
 int main(void)
 {
+    test_form();
     test_format();
     test_cases();
     test_audit();

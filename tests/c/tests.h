@@ -2,12 +2,12 @@
 #ifndef ASPEN_TESTS_TESTS_H
 #define ASPEN_TESTS_TESTS_H
 
-/* With libwriter.a and libbook.a. */
+/* With libwriter.a. */
 void test_sizes(void);
 void test_writer(void);
-void test_form(void);
 
 /* With libengine.a. */
+void test_form(void);
 void test_format(void);
 void test_cases(void);
 void test_audit(void);
