@@ -4,6 +4,7 @@ pub mod audit;
 pub mod backup;
 mod changing;
 pub mod collect;
+pub mod count;
 pub mod enrol;
 mod find;
 pub mod format;
