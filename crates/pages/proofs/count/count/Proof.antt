@@ -10,16 +10,16 @@ use Rattle.pages.proofs.count.count.Statement.{statement}
 use Rattle.pages.proofs.count.count.Tie as tie
 
 in-form : (c : tie.Else1) → formNumber (now (c .before .before .before .args .book)) ≡ 0
-in-form c = sym (c .before .form .ensures) ∙ c .if1 .left
+in-form c = sym (c .before .form-number .ensures) ∙ c .if1 .left
 
 holds : (c : tie.Else1) → Holds (now (c .before .before .before .args .book))
 holds c = holds-form _ (λ i. c .before .before .shared-slice-known .given i .fits) (in-form c)
 
-form-requires : tie.Need-form-requires
-form-requires c κs = search needs
+form-number-requires : tie.Need-form-number-requires
+form-number-requires c κs = search needs
 
 returns : tie.Need-returns
-returns c = counted-refused _ (c .before .form .ensures) (c .if1 .taken)
+returns c = counted-refused _ (c .before .form-number .ensures) (c .if1 .taken)
 
 count-entries-requires : tie.Need-count-entries-requires
 count-entries-requires c κs = holds c
@@ -39,4 +39,4 @@ returns-2 c =
     counted-up _ (in-form (k .before .before)) (k .blocks2 .ensures) (k .before .count-entries .ensures .0)
 
 pub count-spec : {M : Type 1} → statement M
-count-spec = tie.close (tie.spec form-requires returns count-entries-requires blocks-requires cast-held cast-waiting returns-2)
+count-spec = tie.close (tie.spec form-number-requires returns count-entries-requires blocks-requires cast-held cast-waiting returns-2)
