@@ -8,7 +8,7 @@ warnings="-Wall -Wextra -Werror -pedantic"
 units_of() {
     case $1 in
     aid) printf '%s\n' aid sizes writer ;;
-    engine) printf '%s\n' engine form cases format_audit refusals lists changes calls box ;;
+    engine) printf '%s\n' engine form cases format_audit count refusals lists changes calls box ;;
     esac
     printf '%s\n' check buffer books
 }

@@ -1,4 +1,5 @@
 // Pages that are written from a book.
+pub mod count;
 mod counts;
 mod line;
 
