@@ -34,13 +34,24 @@ same-long (x ∷ a) (y ∷ b) h = rw (same-long a b (λ e. h (ap suc e))) (last 
     last true = refl
     last false = refl
 
--- one turn of a comparison: at equal elements it goes on, at others it is decided, past the end they are the same
-module _ (a b : List ℕ) (i : ℕ) where
-  pub same-more : i < length a → i < length b → getD a i 0 ≡ getD b i 0 → same (drop i a) (drop i b) ≡ same (drop (i + 1) a) (drop (i + 1) b)
-  same-more h k e = rw (add-one i, drop-cons a i 0 h, drop-cons b i 0 k, eq-eqb (getD a i 0) (getD b i 0) e)
+-- a comparison that has passed the places below i, all alike where g is true: one turn more, and its end
+module _ (a b : List ℕ) (i : ℕ) (g : Bool) where
+  pub same-turn : i < length a → i < length b
+      → (g && same (drop i a) (drop i b)) ≡ ((g && eqb (getD a i 0) (getD b i 0)) && same (drop (i + 1) a) (drop (i + 1) b))
+  same-turn h k = rw (add-one i, drop-cons a i 0 h, drop-cons b i 0 k) (go g)
+    where
+      go : (g : Bool) → (g && (eqb (getD a i 0) (getD b i 0) && same (drop (suc i) a) (drop (suc i) b)))
+          ≡ ((g && eqb (getD a i 0) (getD b i 0)) && same (drop (suc i) a) (drop (suc i) b))
+      go true = refl
+      go false = refl
 
-  pub same-stop : i < length a → i < length b → (getD a i 0 ≡ getD b i 0 → ⊥) → same (drop i a) (drop i b) ≡ false
-  same-stop h k e = rw (drop-cons a i 0 h, drop-cons b i 0 k, ne-eqb (getD a i 0) (getD b i 0) e)
+  pub same-end : length a ≤ i → length b ≤ i → (g && same (drop i a) (drop i b)) ≡ g
+  same-end h k = rw (drop-of-length-le a {i = i} h, drop-of-length-le b {i = i} k) (go g)
+    where
+      go : (g : Bool) → (g && true) ≡ g
+      go true = refl
+      go false = refl
 
-  pub same-end : length a ≤ i → length b ≤ i → same (drop i a) (drop i b) ≡ true
-  same-end h k = rw (drop-of-length-le a {i = i} h, drop-of-length-le b {i = i} k)
+-- lists that differ at a place are not the same from there on
+pub same-stop : (a b : List ℕ) (i : ℕ) → i < length a → i < length b → (getD a i 0 ≡ getD b i 0 → ⊥) → same (drop i a) (drop i b) ≡ false
+same-stop a b i h k e = rw (drop-cons a i 0 h, drop-cons b i 0 k, ne-eqb (getD a i 0) (getD b i 0) e)

@@ -73,7 +73,7 @@ pub fn fill(b: &mut [u8], at: usize, n: usize, v: u8)
     }
 }
 
-// Two runs of bytes are the same.
+// Two runs of bytes are the same. It looks at all of them, which the compiler does many at a time.
 pub fn same_bytes(a: &[u8], b: &[u8]) -> bool
     ensures { λ r. ⌜ r ≡ same (now (a .entry)) (now (b .entry)) ⌝ }
 {
@@ -81,12 +81,11 @@ pub fn same_bytes(a: &[u8], b: &[u8]) -> bool
     if b.len() != n {
         return false;
     }
+    let mut good = true;
     let mut i = 0;
     while i < n {
-        if a[i] != b[i] {
-            return false;
-        }
+        good = good & (a[i] == b[i]);
         i += 1;
     }
-    true
+    good
 }

@@ -1,19 +1,20 @@
--- `words::same_bytes`: what is left to compare decides as the whole does.
+-- `words::same_bytes`: what is passed and what is left decide as the whole does.
 use Prim.Native.Nat.{_≤_, _-_}
 use mathlib.Core.Path.{_≡_, refl, sym, _∙_}
+use mathlib.Core.Bool.{_&&_}
 use lib.ListN.{length, drop}
 use native.Mathlib.Omega.{arith}
 use borrow.Author.Needs.{needs}
 use Rattle.words.specs.Lists.{same}
-use Rattle.words.specs.Same.{same-long, same-more, same-stop, same-end}
+use Rattle.words.specs.Same.{same-long, same-turn, same-end}
 use Rattle.words.proofs.same_bytes.Statement.{statement}
 use Rattle.words.proofs.same_bytes.Tie as tie
 
 abbrev Inv-loop : tie.InvT-loop
-Inv-loop a b n i₀ i = (n ≡ length a) × (n ≡ length b) × (i ≤ n) × (same a b ≡ same (drop i a) (drop i b))
+Inv-loop a b n good₀ i₀ good i = (n ≡ length a) × (n ≡ length b) × (i ≤ n) × (same a b ≡ (good && same (drop i a) (drop i b)))
 
 abbrev μ-loop : tie.MeasureT-loop
-μ-loop a b n i₀ i = n - i
+μ-loop a b n good₀ i₀ good i = n - i
 
 returns : tie.Need-returns Inv-loop μ-loop
 returns c = sym (same-long (c .before .args .a .now) (c .before .args .b .now) (λ e. c .if1 .taken (sym e)))
@@ -21,16 +22,11 @@ returns c = sym (same-long (c .before .args .a .now) (c .before .args .b .now) (
 loop-holds : tie.Need-loop-holds Inv-loop μ-loop
 loop-holds c = (refl, omega arith, omega arith, refl)
 
-shared-slice-read-if2 : tie.Need-shared-slice-read-if2 Inv-loop μ-loop
-shared-slice-read-if2 c = search needs
+shared-slice-read-good : tie.Need-shared-slice-read-good Inv-loop μ-loop
+shared-slice-read-good c = search needs
 
-shared-slice-read-if2-2 : tie.Need-shared-slice-read-if2-2 Inv-loop μ-loop
-shared-slice-read-if2-2 c = search needs
-
-returns-2 : tie.Need-returns-2 Inv-loop μ-loop
-returns-2 c =
-    let l = c .before .before .before .before .loop in
-    sym (l .inv .3 ∙ same-stop _ _ (l .i) (omega arith) (omega arith) (c .if2 .taken))
+shared-slice-read-good-2 : tie.Need-shared-slice-read-good-2 Inv-loop μ-loop
+shared-slice-read-good-2 c = search needs
 
 add-i : tie.Need-add-i Inv-loop μ-loop
 add-i c = search needs
@@ -40,13 +36,13 @@ loop-less c = search needs
 
 loop-again : tie.Need-loop-again Inv-loop μ-loop
 loop-again c =
-    let l = c .before .before .before .before .loop in
-    (refl, l .inv .1, omega arith, l .inv .3 ∙ same-more _ _ (l .i) (omega arith) (omega arith) (c .if2 .left))
+    let l = c .before .before .before .loop in
+    (refl, l .inv .1, omega arith, l .inv .3 ∙ same-turn _ _ (l .i) (l .good) (omega arith) (omega arith))
 
-returns-3 : tie.Need-returns-3 Inv-loop μ-loop
-returns-3 c =
+returns-2 : tie.Need-returns-2 Inv-loop μ-loop
+returns-2 c =
     let l = c .before .loop in
-    sym (l .inv .3 ∙ same-end _ _ (l .i) (omega arith) (omega arith))
+    sym (l .inv .3 ∙ same-end _ _ (l .i) (l .good) (omega arith) (omega arith))
 
 pub same-bytes-spec : {M : Type 1} → statement M
 same-bytes-spec =
@@ -56,10 +52,9 @@ same-bytes-spec =
     μ-loop
     returns
     loop-holds
-    shared-slice-read-if2
-    shared-slice-read-if2-2
-    returns-2
+    shared-slice-read-good
+    shared-slice-read-good-2
     add-i
     loop-less
     loop-again
-    returns-3)
+    returns-2)
