@@ -1,11 +1,16 @@
 # `make demo` builds and runs what there is to run; `make check` is all that the gate runs.
-.PHONY: demo check bench install uninstall clean
+.PHONY: demo check host bench install uninstall clean
 
 demo:
 	@scripts/demo
 
 check:
 	@scripts/check
+
+# The program aspenbox, in target/host.
+host:
+	@scripts/archives
+	@scripts/host
 
 # Speed, side by side with hand-written C in one run.
 bench:
