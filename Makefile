@@ -16,7 +16,7 @@ host:
 bench:
 	@scripts/bench
 
-# The C side: header, archives, pkg-config file and manual page, below DESTDIR.
+# The C side: header, archives, pkg-config file, aspenbox and the manual pages, below DESTDIR.
 PREFIX = /usr/local
 ARCHIVE_DIR = target/staticlib
 into = DESTDIR='$(DESTDIR)' PREFIX='$(PREFIX)' ARCHIVE_DIR='$(ARCHIVE_DIR)'
