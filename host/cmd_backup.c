@@ -47,7 +47,7 @@ static void save_state(const struct state *state, const struct store *store, uin
         note("%s %s and was left alone; remove it, or name another with --state", state->path,
              state->unusable);
     else if (!state_save(state, store, volume, number))
-        note("%s; the backup is done, and the next one sends every block", file_failure());
+        note("%s; the backup is done, but the next one may send every block", file_failure());
 }
 
 static void show(const struct asked *asked, const struct answer *answer, const struct image *image,

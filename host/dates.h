@@ -4,7 +4,7 @@
 
 #include <stdbool.h>
 
-enum { DATE_TEXT = 48 };
+enum { DATE_TEXT = 64 };
 
 /* The day that a text like 2026-01-31 names, as days since 0001-01-01; years are 1900 to 2999. */
 bool date_read(const char *text, long *day);

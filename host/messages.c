@@ -97,7 +97,7 @@ void notes_to_json(void)
 void flush_answer(void)
 {
     if (fflush(stdout) != 0 || ferror(stdout)) {
-        fprintf(stderr, "aspenbox: can't write the answer: %s\n", strerror(errno));
+        fprintf(stderr, "aspenbox: done, but the answer can't be printed: %s\n", strerror(errno));
         exit(STATUS_FILES);
     }
 }
