@@ -19,6 +19,7 @@ archives_of() (
     writer_form) names="writer book" ;;
     engine) names="engine" ;;
     example) names="engine writer" ;;
+    host) names="engine writer book" ;;
     esac
     for name in $names; do
         [ -f "$ASPEN_LIB_DIR/lib$name.a" ] || exit 1
@@ -138,6 +139,9 @@ c_install() {
         check "program from the installed files" uses_installed
     else
         echo "not run: program from the installed files (no pkg-config)"
+    fi
+    if archives_of host >/dev/null; then
+        check "aspenbox as installed" host_installed
     fi
     check "make uninstall" uninstalls
 }
