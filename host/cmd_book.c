@@ -99,7 +99,7 @@ static void show_collect(const struct store *store, uint16_t day, uint16_t freed
         notes_to_json();
         json_send();
     } else {
-        printf("collected as of %s: %u blocks freed\n", date, freed);
+        printf("collected as of %s; blocks freed: %u\n", date, freed);
     }
 }
 

@@ -88,9 +88,9 @@ static _Noreturn void refuse_room(uint16_t number, const struct asked *asked)
         fail_refused(STATUS_REFUSED, number,
                      "all %u backup slots are used; format a store with more slots", head.slots);
     fail_refused(STATUS_REFUSED, number,
-                 "the journal has room for %d changes and this backup has %u; format a store "
-                 "with a larger journal",
-                 head.records - head.records_used, asked->changes);
+                 "the journal has %d of its %u places left and this backup needs %u; format a "
+                 "store with a larger journal",
+                 head.records - head.records_used, head.records, asked->changes);
 }
 
 static _Noreturn void refuse_change(uint16_t number, const struct asked *asked)

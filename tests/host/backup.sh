@@ -13,8 +13,8 @@ expect 0 "backup 2 of volume 1 on 2026-01-10: 1 of 4 blocks sent, 0 new in the p
 expect 0 "sound" audit cases
 expect 0 "blocks 4" tally cases
 check "page of tally" same "$(cat "$work/out")" $'blocks 4\nheld 4\nfree 0\nwaiting 1\nreferences 6'
-expect 0 "collected as of 2026-01-19: 0 blocks freed" collect cases --day 18
-expect 0 "collected as of 2026-01-20: 1 blocks freed" collect cases --day 2026-01-20
+expect 0 "collected as of 2026-01-19; blocks freed: 0" collect cases --day 18
+expect 0 "collected as of 2026-01-20; blocks freed: 1" collect cases --day 2026-01-20
 expect 0 "0 damaged" scrub cases
 check "no temporary file is left" same "$(ls cases)" $'book\nlock\npool'
 

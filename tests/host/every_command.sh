@@ -13,7 +13,7 @@ expect 0 "kept_until" list box --json
 expect 0 "sound" audit box
 expect 0 "held 3" tally box
 expect 0 "0 damaged" scrub box
-expect 0 "1 blocks freed" collect box --day 13
+expect 0 "blocks freed: 1" collect box --day 13
 expect 3 "refused 16" restore box 0 1 out --force
 expect 3 "refused 7" backup box 0 aid --day 2
 truncate -s -1 box/book

@@ -29,7 +29,7 @@ expect 3 "refused 9: all 6 backup slots are used; format a store with more slots
 small_store journal
 expect 0 "4 of 4" backup journal 0 <(blocks ABCD) --day 1 --state first
 expect 0 "3 of 3" backup journal 0 <(blocks BCA) --day 2 --state second
-expect 3 "refused 10: the journal has room for 1 changes and this backup has 2; format a store with a larger journal" \
+expect 3 "refused 10: the journal has 1 of its 8 places left and this backup needs 2; format a store with a larger journal" \
     backup journal 1 <(blocks AB) --day 3 --state third
 check "a refused backup leaves no state file" test ! -e third
 
@@ -45,7 +45,7 @@ small_store full
 expect 0 "4 of 4 blocks sent, 4 new" backup full 0 <(blocks ABCD) --day 1 --state state
 expect 3 "refused 12: no free block; collect, or enlarge the pool" backup full 1 <(blocks E) --day 2 --state state1
 expect 0 "1 of 4 blocks sent, 0 new" backup full 0 <(blocks ABCC) --day 2 --state state
-expect 0 "1 blocks freed" collect full --day 13
+expect 0 "blocks freed: 1" collect full --day 13
 expect 0 "1 of 1 blocks sent, 1 new" backup full 1 <(blocks E) --day 13 --state state1
 
 # 13: a book in form with a count too low, which only damage can bring about.
