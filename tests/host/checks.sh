@@ -24,6 +24,7 @@ host_program() {
     fi
     check "aspenbox builds" host_builds
     host_run plain "$(cd .. && pwd)/target/host/aspenbox"
+    check "the story of make demo" ../scripts/story ../target/host/aspenbox
     # Statuses that aspenbox itself doesn't have.
     export ASAN_OPTIONS=exitcode=99 UBSAN_OPTIONS=exitcode=99
     check "aspenbox builds with sanitizers" host_builds "$scratch/aspenbox.sanitized" -g \
