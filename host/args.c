@@ -25,7 +25,7 @@ const struct option_name option_names[OPTION_COUNT] = {
     [OPTION_VERSION] = {"--version", NULL},
 };
 
-/* What a usage error ends with: where to look. */
+/* For a message that says where to look. */
 static const char *command_name(const struct request *request)
 {
     return request->command != NULL ? request->command->name : "";

@@ -176,8 +176,9 @@ bool folder_make(const char *folder)
     char *parent;
     bool good;
 
-    if (mkdir(folder, 0700) != 0)
-        return errno == EEXIST || failed("make the folder", folder);
+    if (mkdir(folder, 0700) != 0 && errno != EEXIST)
+        return failed("make the folder", folder);
+    /* Also if it was there: a call before may have been cut off between the two. */
     parent = folder_of(folder);
     good = folder_sync(parent);
     free(parent);

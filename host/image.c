@@ -64,7 +64,8 @@ void image_mark(struct image *image, const struct state *state, const struct sto
                     box_has(store, volume, lbn, print);
 
         image->marks.at[lbn] = same ? 0 : 1;
-        image->changed += same ? 0 : 1;
+        if (!same)
+            image->changed++;
     }
 }
 
