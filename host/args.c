@@ -25,12 +25,6 @@ const struct option_name option_names[OPTION_COUNT] = {
     [OPTION_VERSION] = {"--version", NULL},
 };
 
-/* For a message that says where to look. */
-static const char *command_name(const struct request *request)
-{
-    return request->command != NULL ? request->command->name : "";
-}
-
 /* The option that an argument names, which may go on with = and its value. */
 static enum option find_option(const struct request *request, const char *argument)
 {
@@ -40,8 +34,9 @@ static enum option find_option(const struct request *request, const char *argume
         if (strncmp(option_names[o].name, argument, length) == 0 &&
             option_names[o].name[length] == '\0')
             return o;
-    fail(STATUS_USAGE, "there is no option %s; see aspenbox %s --help", argument,
-         command_name(request));
+    fail(STATUS_USAGE, "there is no option %s; see aspenbox %s%s--help", argument,
+         request->command != NULL ? request->command->name : "",
+         request->command != NULL ? " " : "");
 }
 
 /* Reads the option at arguments[at]; answers where the next argument is. */

@@ -18,8 +18,7 @@ archives_of() (
     case $1 in
     writer_form) names="writer book" ;;
     engine) names="engine" ;;
-    example) names="engine writer" ;;
-    host) names="engine writer book" ;;
+    example | host) names="engine writer" ;;
     esac
     for name in $names; do
         [ -f "$ASPEN_LIB_DIR/lib$name.a" ] || exit 1

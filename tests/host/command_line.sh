@@ -3,6 +3,7 @@
 expect 2 "which command? see aspenbox --help"
 expect 2 "there is no command sing; see aspenbox --help" sing
 expect 2 "there is no option --loud; see aspenbox audit --help" audit box --loud
+expect 2 "there is no option -v; see aspenbox --help" -v
 expect 2 "there is no option --da; see" collect box --da 3
 expect 2 "audit takes no --day; see aspenbox audit --help" audit box --day 3
 expect 2 "--day is given twice" collect box --day 3 --day 4
