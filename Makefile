@@ -1,5 +1,5 @@
 # `make demo` builds and runs what there is to run; `make check` is all that the gate runs.
-.PHONY: demo check bench install uninstall clean
+.PHONY: demo check host bench install uninstall clean
 
 demo:
 	@scripts/demo
@@ -7,11 +7,16 @@ demo:
 check:
 	@scripts/check
 
+# The program aspenbox, in target/host.
+host:
+	@scripts/archives
+	@scripts/host
+
 # Speed, side by side with hand-written C in one run.
 bench:
 	@scripts/bench
 
-# The C side: header, archives, pkg-config file and manual page, below DESTDIR.
+# The C side: header, archives, pkg-config file, aspenbox and the manual pages, below DESTDIR.
 PREFIX = /usr/local
 ARCHIVE_DIR = target/staticlib
 into = DESTDIR='$(DESTDIR)' PREFIX='$(PREFIX)' ARCHIVE_DIR='$(ARCHIVE_DIR)'

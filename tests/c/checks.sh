@@ -18,7 +18,7 @@ archives_of() (
     case $1 in
     aid) names="writer" ;;
     engine) names="engine" ;;
-    example) names="engine writer" ;;
+    example | host) names="engine writer" ;;
     esac
     for name in $names; do
         [ -f "$ASPEN_LIB_DIR/lib$name.a" ] || exit 1
@@ -140,6 +140,9 @@ c_install() {
         done
     else
         echo "not run: program from the installed files (no pkg-config)"
+    fi
+    if archives_of host >/dev/null; then
+        check "aspenbox as installed" host_installed
     fi
     check "make uninstall" uninstalls
 }

@@ -1,0 +1,121 @@
+/* The commands that change the book alone: format, enrol, collect. */
+#include "commands.h"
+#include "dates.h"
+#include "json.h"
+#include "layout.h"
+#include "messages.h"
+#include "refusals.h"
+#include "store.h"
+
+#include <aspen.h>
+#include <stdio.h>
+
+static long day_zero(const struct request *request)
+{
+    const char *text = request->options[OPTION_DAY_ZERO];
+    long day;
+
+    if (text == NULL)
+        return date_today();
+    if (!date_read(text, &day))
+        fail(STATUS_USAGE, "--day-zero %s is no date like 2026-01-31, from 1900 to 2999", text);
+    return day;
+}
+
+static void show_format(const char *folder, const struct book_head *head, long zero)
+{
+    char date[DATE_TEXT];
+
+    date_write(zero, date);
+    if (!messages_json()) {
+        printf("made the store %s: %u blocks, volumes of %u blocks, %u backups, %u changes; day 0 "
+               "is %s\n",
+               folder, head->blocks, head->cells, head->slots, head->records, date);
+        return;
+    }
+    json_start();
+    json_string("store", folder);
+    json_number("blocks", head->blocks);
+    json_number("cells", head->cells);
+    json_number("slots", head->slots);
+    json_number("journal", head->records);
+    json_string("day_zero", date);
+    notes_to_json();
+    json_send();
+}
+
+int run_format(const struct request *request)
+{
+    uint16_t n = option_number(request, OPTION_BLOCKS), l = option_number(request, OPTION_CELLS);
+    uint16_t s = option_number(request, OPTION_SLOTS), j = option_number(request, OPTION_JOURNAL);
+    struct bytes book = bytes_new(aspen_book_size(n, l, s, j));
+    long zero = day_zero(request);
+    struct book_head head;
+
+    if (aspen_format(book.at, book.length, n, l, s, j) != ASPEN_OK)
+        refuse_sizes();
+    store_make(request, book, zero);
+    head = book_head(book.at);
+    show_format(request->words[0], &head, zero);
+    bytes_free(&book);
+    return STATUS_DONE;
+}
+
+int run_enrol(const struct request *request)
+{
+    uint16_t volume = read_number("VOLUME", request->words[1]);
+    uint16_t keep = option_number(request, OPTION_KEEP);
+    struct store store;
+    uint16_t number;
+
+    store_open(&store, request, LOCK_TO_WRITE);
+    number = aspen_enrol(store.book.at, store.book.length, volume, keep);
+    if (number != ASPEN_OK)
+        refuse_enrol(&store, number, volume, keep);
+    store_replace_book(&store);
+    if (messages_json()) {
+        json_start();
+        json_number("volume", volume);
+        json_number("keep", keep);
+        notes_to_json();
+        json_send();
+    } else {
+        printf("enrolled volume %u; its backups are kept %u days\n", volume, keep);
+    }
+    store_close(&store);
+    return STATUS_DONE;
+}
+
+static void show_collect(const struct store *store, uint16_t day, uint16_t freed)
+{
+    char date[DATE_TEXT];
+
+    store_date(store, day, date);
+    if (messages_json()) {
+        json_start();
+        json_number("day", day);
+        json_string("date", date);
+        json_number("freed", freed);
+        notes_to_json();
+        json_send();
+    } else {
+        printf("collected as of %s; blocks freed: %u\n", date, freed);
+    }
+}
+
+int run_collect(const struct request *request)
+{
+    struct store store;
+    struct asked asked = {.store = &store};
+    uint16_t number, freed = 0;
+
+    store_open(&store, request, LOCK_TO_WRITE);
+    asked.day = store_day(&store, request->options[OPTION_DAY]);
+    number = aspen_collect(store.book.at, store.book.length, asked.day, &freed);
+    if (number != ASPEN_OK)
+        refuse(number, &asked);
+    store_replace_book(&store);
+    show_collect(&store, asked.day, freed);
+    store_close(&store);
+    return STATUS_DONE;
+}

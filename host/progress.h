@@ -1,0 +1,12 @@
+/* How far long work has come, on one line of the terminal. */
+#ifndef ASPENBOX_PROGRESS_H
+#define ASPENBOX_PROGRESS_H
+
+#include <stddef.h>
+
+/* Shows that so much is done, if standard error is a terminal and the answer isn't JSON. */
+void progress(const char *what, size_t done, size_t total);
+/* Takes the line away. */
+void progress_end(void);
+
+#endif

@@ -1,0 +1,161 @@
+#include "refusals.h"
+
+#include "dates.h"
+#include "layout.h"
+#include "messages.h"
+
+#include <aspen.h>
+
+void refuse_store(const struct store *store, uint16_t number)
+{
+    const char *folder = store->folder;
+
+    switch (number) {
+    case ASPEN_BAD_LAYOUT:
+        fail_refused(STATUS_STORE, number,
+                     "%s/book is no book: its length or sizes are wrong; nothing was written; put "
+                     "back a copy of the store",
+                     folder);
+    case ASPEN_BAD_POOL:
+        fail_refused(STATUS_STORE, number,
+                     "%s/pool has %zu bytes where the book says %zu; nothing was written; put back "
+                     "a copy of the store",
+                     folder, store->pool.length, aspen_pool_size(book_head(store->book.at).blocks));
+    default:
+        fail_refused(STATUS_STORE, number,
+                     "%s/book is damaged; nothing was written; put back a copy of the store",
+                     folder);
+    }
+}
+
+void refuse_sizes(void)
+{
+    fail_refused(STATUS_REFUSED, ASPEN_BAD_LAYOUT,
+                 "there is no store of these sizes; give --blocks 1 to %d, --cells 1 to %d, "
+                 "--slots 1 to %d, --journal 1 to %d",
+                 ASPEN_MAX_BLOCKS, ASPEN_MAX_LBNS, ASPEN_MAX_SLOTS, ASPEN_MAX_RECORDS);
+}
+
+static _Noreturn void refuse_volume(const struct store *store, uint16_t volume)
+{
+    if (volume >= ASPEN_VOLUMES)
+        fail_refused(STATUS_REFUSED, ASPEN_BAD_VOLUME, "there is no volume %u; volumes are 0 to %d",
+                     volume, ASPEN_VOLUMES - 1);
+    fail_refused(STATUS_REFUSED, ASPEN_BAD_VOLUME,
+                 "volume %u isn't enrolled; run aspenbox enrol %s %u --keep DAYS first", volume,
+                 store->folder, volume);
+}
+
+void refuse_enrol(const struct store *store, uint16_t number, uint16_t volume, uint16_t keep)
+{
+    if (number == ASPEN_BAD_RETENTION)
+        fail_refused(STATUS_REFUSED, number, "backups can't be kept %u days; give --keep 1 to %d",
+                     keep, ASPEN_MAX_RETENTION);
+    if (number == ASPEN_BAD_VOLUME && volume < ASPEN_VOLUMES)
+        fail_refused(STATUS_REFUSED, number,
+                     "volume %u is enrolled already and keeps its backups %u days; take another",
+                     volume, book_keep(store->book.at, volume));
+    if (number == ASPEN_BAD_VOLUME)
+        refuse_volume(store, volume);
+    refuse_store(store, number);
+}
+
+static _Noreturn void refuse_day(const struct asked *asked)
+{
+    const struct store *store = asked->store;
+    uint16_t last = book_head(store->book.at).day;
+    char asked_date[DATE_TEXT], last_date[DATE_TEXT];
+
+    store_date(store, asked->day, asked_date);
+    if (asked->day > ASPEN_MAX_DAY)
+        fail_refused(STATUS_REFUSED, ASPEN_BAD_DAY,
+                     "day %u (%s) is past the last that a book can have, %d (%s)", asked->day,
+                     asked_date, ASPEN_MAX_DAY, store_date(store, ASPEN_MAX_DAY, last_date));
+    if (asked->day < last)
+        fail_refused(STATUS_REFUSED, ASPEN_BAD_DAY,
+                     "%s is before the box's day, %s; look at the clock, or give a later day",
+                     asked_date, store_date(store, last, last_date));
+    fail_refused(STATUS_REFUSED, ASPEN_BAD_DAY,
+                 "volume %u has a backup of %s already; back it up on a later day", asked->volume,
+                 asked_date);
+}
+
+static _Noreturn void refuse_room(uint16_t number, const struct asked *asked)
+{
+    struct book_head head = book_head(asked->store->book.at);
+
+    if (number == ASPEN_NO_SLOT)
+        fail_refused(STATUS_REFUSED, number,
+                     "all %u backup slots are used; format a store with more slots", head.slots);
+    fail_refused(STATUS_REFUSED, number,
+                 "the journal has %d of its %u places left and this backup needs %u; format a "
+                 "store with a larger journal",
+                 head.records - head.records_used, head.records, asked->changes);
+}
+
+static _Noreturn void refuse_change(uint16_t number, const struct asked *asked)
+{
+    const char *folder = asked->store->folder;
+
+    switch (number) {
+    case ASPEN_OTHER_BYTES:
+        fail_refused(STATUS_REFUSED, number,
+                     "a held block has the fingerprint of a new one but other bytes; run aspenbox "
+                     "scrub %s, and put back a copy of the pool if it finds damage",
+                     folder);
+    case ASPEN_NO_BLOCK:
+        fail_refused(STATUS_REFUSED, number, "no free block; collect, or enlarge the pool");
+    case ASPEN_COUNT_ZERO:
+        fail_refused(STATUS_STORE, number,
+                     "the count of a replaced block is 0, so the book is damaged; run aspenbox "
+                     "audit %s, and put back a copy of the store",
+                     folder);
+    case ASPEN_COUNT_FULL:
+        fail_refused(STATUS_REFUSED, number,
+                     "one block would stand in more than 255 cells; cut blank blocks off the "
+                     "image's end");
+    default:
+        fail_refused(STATUS_REFUSED, number, "the box doesn't take this change list");
+    }
+}
+
+static _Noreturn void refuse_read(uint16_t number, const struct asked *asked)
+{
+    const uint8_t *book = asked->store->book.at;
+    unsigned volume = asked->volume, backups = book_backups(book, asked->volume);
+    char date[DATE_TEXT];
+
+    if (number == ASPEN_NO_BACKUP && backups == 0)
+        fail_refused(STATUS_REFUSED, number, "volume %u has no backup yet", volume);
+    if (number == ASPEN_NO_BACKUP)
+        fail_refused(STATUS_REFUSED, number, "volume %u has backups 1 to %u and none of number %u",
+                     volume, backups, asked->number);
+    if (number == ASPEN_NOT_KEPT)
+        fail_refused(
+            STATUS_REFUSED, number,
+            "backup %u of volume %u was kept until %s; aspenbox list %s %u shows what "
+            "still is",
+            asked->number, volume,
+            store_date(asked->store, book_kept_until(book, asked->volume, asked->number), date),
+            asked->store->folder, volume);
+    if (number == ASPEN_BAD_LBN)
+        fail_refused(STATUS_REFUSED, number, "there is no LBN %u; LBNs are 0 to %d", asked->lbn,
+                     book_head(book).cells - 1);
+    fail_refused(STATUS_REFUSED, number, "backup %u of volume %u has no block at LBN %u",
+                 asked->number, volume, asked->lbn);
+}
+
+void refuse(uint16_t number, const struct asked *asked)
+{
+    if (number <= ASPEN_SHORT_SPARE)
+        refuse_store(asked->store, number);
+    if (number == ASPEN_BAD_VOLUME)
+        refuse_volume(asked->store, asked->volume);
+    if (number == ASPEN_BAD_DAY)
+        refuse_day(asked);
+    if (number == ASPEN_NO_SLOT || number == ASPEN_NO_RECORD)
+        refuse_room(number, asked);
+    if (number >= ASPEN_NO_BACKUP && number <= ASPEN_UNMAPPED)
+        refuse_read(number, asked);
+    refuse_change(number, asked);
+}

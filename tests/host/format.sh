@@ -1,0 +1,50 @@
+# shellcheck shell=bash disable=SC2034,SC2154
+# What format makes, and what it leaves alone.
+sizes=(--blocks 4 --cells 4 --slots 6 --journal 8)
+store=new
+expect 0 "made the store new: 4 blocks, volumes of 4 blocks, 6 backups, 8 changes; day 0 is 2026-02-28" \
+    format new "${sizes[@]}" --day-zero 2026-02-28
+check "book, pool and lock and nothing else" same "$(ls new)" $'book\nlock\npool'
+check "length of the book" same "$(wc -c <new/book)" 276
+check "length of the pool" same "$(wc -c <new/pool)" 2048
+check "lock" same "$(head -2 new/lock)" $'aspenbox 1\nday-zero 2026-02-28'
+check "folder for its owner alone" same "$(stat -c %a new)" 700
+expect 2 "has a book already" format new "${sizes[@]}"
+
+store=today
+expect 0 "day 0 is $(date -u +%F)" format today "${sizes[@]}"
+check "two stores differ in identity" test "$(tail -1 new/lock)" != "$(tail -1 today/lock)"
+
+store=bare
+mkdir bare
+expect 0 "made the store" format bare "${sizes[@]}"
+
+# A format that was cut off before its book is made again.
+rm bare/book
+expect 0 "made the store" format bare "${sizes[@]}"
+
+# A store that lost its book isn't.
+rm bare/book
+poke bare/pool 600 41
+expect 2 "has a pool with blocks in it and no book" format bare "${sizes[@]}"
+expect 5 "has no book" list bare
+rm -r bare
+mkdir bare
+echo mine >bare/lock
+expect 2 "is a file of something else" format bare "${sizes[@]}"
+
+store=none
+expect 3 "refused 1: there is no store of these sizes; give --blocks 1 to 4096" format none --blocks 4097 --cells 4 --slots 6 --journal 8
+expect 3 "refused 1" format none --blocks 4 --cells 1025 --slots 6 --journal 8
+expect 3 "refused 1" format none --blocks 4 --cells 4 --slots 0 --journal 8
+expect 3 "refused 1" format none --blocks 4 --cells 4 --slots 6 --journal 16385
+expect 2 "--blocks 65536 is no number" format none --blocks 65536 --cells 4 --slots 6 --journal 8
+expect 2 "--day-zero 2026-02-29 is no date" format none "${sizes[@]}" --day-zero 2026-02-29
+check "nothing was made" test ! -e none
+touch file
+expect 4 "Not a directory" format file "${sizes[@]}"
+expect 4 "can't make the folder" format deep/er "${sizes[@]}"
+store=largest
+expect 0 "made the store" format largest --blocks 4096 --cells 1024 --slots 1024 --journal 16384
+check "length of the largest book" same "$(wc -c <largest/book)" 204836
+rm -r largest

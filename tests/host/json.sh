@@ -1,0 +1,39 @@
+# shellcheck shell=bash disable=SC2034,SC2154
+# --json: one object on standard output for every command, and for what goes wrong.
+store=box
+expect_json 0 'o == {"store": "box", "blocks": 4, "cells": 4, "slots": 6, "journal": 8, "day_zero": "2026-01-01"}' \
+    format box --blocks 4 --cells 4 --slots 6 --journal 8 --day-zero 2026-01-01
+expect_json 0 'o == {"volume": 0, "keep": 10}' enrol box 0 --keep 10
+blocks AB >aid
+expect_json 0 'o == {"volume": 0, "number": 1, "day": 5, "date": "2026-01-06", "blocks": 2, "sent": 2, "taken": 2, "touched": 2, "state": "aid.aspen", "sent_all_since_state": "isn'\''t there"}' \
+    backup box 0 aid --day 5
+blocks AC >aid
+expect_json 0 'o == {"volume": 0, "number": 2, "day": 6, "date": "2026-01-07", "blocks": 2, "sent": 1, "taken": 1, "touched": 2, "state": "aid.aspen"}' \
+    backup box 0 aid --day 6
+expect_json 0 'o == {"day": 6, "date": "2026-01-07", "volumes": [{"volume": 0, "keep": 10, "backups": [{"number": 1, "day": 5, "date": "2026-01-06", "kept": True, "kept_until": "2026-01-17", "changed": 2}, {"number": 2, "day": 6, "date": "2026-01-07", "kept": True, "kept_until": None, "changed": 1}]}]}' \
+    list box
+expect_json 0 'bytes.fromhex(o["bytes"]) == b"B" * 512 and (o["volume"], o["number"], o["lbn"], o["block"], o["damaged"]) == (0, 1, 1, 1, False)' \
+    read box 0 1 1
+expect_json 0 'o == {"volume": 0, "number": 1, "out": "out", "blocks": 4, "mapped": 2, "damaged": []}' restore box 0 1 out
+expect_json 0 'o == {"sound": True}' audit box
+expect_json 0 'o == {"blocks": 4, "held": 3, "free": 1, "waiting": 1, "references": 2}' tally box
+expect_json 0 'o == {"damaged": [], "held": 3}' scrub box
+expect_json 0 'o == {"day": 17, "date": "2026-01-18", "freed": 1}' collect box --day 17
+expect_json 0 '[b["kept"] for b in o["volumes"][0]["backups"]] == [False, True]' list box 0
+
+poke box/pool 3 00
+expect_json 1 'o == {"damaged": [{"block": 0, "now_at": [{"volume": 0, "lbn": 0}]}], "held": 2}' scrub box
+expect_json 1 'o["damaged"] == [0]' restore box 0 2 out2
+expect_json 1 'o["damaged"] is True and len(o["notes"]) == 1' read box 0 2 0
+expect_json 0 'o["sent_all_since_state"] == "is no state file" and "left alone" in o["notes"][0]' backup box 0 <(blocks C) --day 20 --state out
+
+expect_json 3 'o["error"]["status"] == 3 and o["error"]["refused"] == 15 and "1 to 3" in o["error"]["message"]' read box 0 4 0
+expect_json 2 'o["error"]["status"] == 2 and "refused" not in o["error"]' list box x
+expect_json 2 'list(o) == ["error"]' sing
+expect_json 4 'o["error"]["status"] == 4' backup box 0 none --day 30
+expect_json 5 'o["error"]["status"] == 5' audit none
+# Names with quotes, control bytes, letters beyond ASCII and bytes that are no UTF-8.
+expect_json 5 'o["error"]["message"].startswith("a\"\\\n\u00e9\u20ac\U0001f333 is no store")' audit $'a"\\\n\u00e9\u20ac\U1f333'
+expect_json 5 'o["error"]["message"].startswith("\ufffd\ufffd\ufffd\ufffdx is no store")' audit $'\xff\xc0\xaf\xe2x'
+poke box/book 0 09
+expect_json 5 'o["error"]["refused"] == 1' audit box

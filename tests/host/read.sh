@@ -1,0 +1,49 @@
+# shellcheck shell=bash disable=SC2034,SC2154
+# What comes back is what was sent, byte for byte.
+store=box
+expect 0 "made" format box --blocks 300 --cells 64 --slots 20 --journal 400 --day-zero 2026-01-01
+expect 0 "enrolled" enrol box 3 --keep 5
+head -c 30000 /dev/urandom >image.1
+cp image.1 image
+expect 0 "59 of 59 blocks sent, 59 new" backup box 3 image --day 1
+cp image.1 image.2
+printf 'a changed word' | dd of=image.2 bs=1 seek=5000 conv=notrunc status=none
+head -c 2768 /dev/urandom >>image.2
+cp image.2 image
+expect 0 "7 of 64 blocks sent, 7 new" backup box 3 image --day 2
+expect 0 "0 of 64 blocks sent, 0 new" backup box 3 image --day 3
+for number in 1 2 3; do
+    expect 0 "restored backup $number of volume 3 to out.$number: 64 blocks" restore box 3 $number out.$number
+done
+check "backup 1, zeros after its end" cmp out.1 <(cat image.1 && head -c 2768 /dev/zero)
+check "backup 2" cmp out.2 image.2
+check "backup 3" cmp out.3 image.2
+
+expect 0 "" read box 3 2 9
+check "one block of backup 2" printed <(tail -c +4609 image.2 | head -c 512)
+expect 0 "" read box 3 1 9
+check "one block of backup 1" printed <(tail -c +4609 image.1 | head -c 512)
+
+# Where the volume goes.
+echo "something" >mine
+expect 2 "mine is there already; name another file, or replace it with --force" restore box 3 2 mine
+check "mine is as it was" same "$(cat mine)" something
+expect 0 "restored" restore box 3 2 mine --force
+check "replaced with --force" cmp mine image.2
+: >empty
+expect 0 "restored" restore box 3 2 empty
+check "an empty file is replaced" cmp empty image.2
+expect 0 "restored backup 2" restore box 3 2 -
+check "standard output" printed image.2
+expect 0 "restored" restore box 3 2 /dev/null
+expect 4 "can't create nowhere/out" restore box 3 2 nowhere/out
+expect 4 "Is a directory" restore box 3 2 box
+expect 2 "can't be standard output" restore box 3 2 - --json
+check "no temporary file is left" same "$(find . -name '*.new*')" ""
+
+# An answer that can't be printed.
+status=0
+# shellcheck disable=SC2086
+$program read box 3 2 9 >/dev/full 2>"$work/err" || status=$?
+check "status of a full output" same "$status" 4
+check "message of a full output" grep -q "answer can't be printed: No space left" "$work/err"
