@@ -1,27 +1,36 @@
-/* The form check as a C programmer would write it: one pass over each section. */
+/* The form check as a C programmer would write it: one pass over each section, left at the first fault. */
 #include "twin.h"
+#include "twin_layout.h"
 
-enum { HEADER = 20, VOLUMES = 8, ENTRY = 20, SLOT = 8, RECORD = 6, PRINT = 16, UNMAPPED = 65535 };
+#include <string.h>
 
-struct sizes {
-    size_t n, l, s, j, used_slots, used_records;
-};
-
-static unsigned u16_at(const uint8_t *b)
-{
-    return b[0] | (unsigned)b[1] << 8;
-}
-
-static int in_range(size_t v, size_t high)
-{
-    return v >= 1 && v <= high;
-}
-
+/* Each byte equals the one before it, and the first is zero. */
 static int all_zero(const uint8_t *b, size_t n)
 {
-    for (size_t i = 0; i < n; i++)
-        if (b[i] != 0)
+    return n == 0 || (b[0] == 0 && memcmp(b, b + 1, n - 1) == 0);
+}
+
+static int header_ok(const uint8_t *b, const struct layout *a)
+{
+    if (u16_at(b + AT_SLOTS_USED) > a->s || u16_at(b + AT_RECORDS_USED) > a->j || u16_at(b + AT_ZERO) != 0)
+        return 0;
+    if (u16_at(b + AT_DAY) > MAX_DAY || u16_at(b + AT_CURSOR) >= a->n)
+        return 0;
+    for (unsigned v = 0; v < VOLUMES; v++)
+        if (retention_of(b, v) > MAX_RETENTION)
             return 0;
+    return 1;
+}
+
+static int entries_ok(const uint8_t *e, size_t n)
+{
+    static const uint8_t no_print[PRINT];
+    for (size_t p = 0; p < n; p++, e += ENTRY) {
+        if (e[ENTRY_STATE] > 1 || u16_at(e + ENTRY_EXPIRY) > MAX_DAY + MAX_RETENTION)
+            return 0;
+        if (e[ENTRY_STATE] == 0 && (e[ENTRY_COUNT] != 0 || memcmp(e + ENTRY_PRINT, no_print, PRINT) != 0))
+            return 0;
+    }
     return 1;
 }
 
@@ -30,87 +39,50 @@ static int pbn_ok(unsigned p, size_t n)
     return p < n || p == UNMAPPED;
 }
 
-static int layout_ok(const uint8_t *b, size_t len, struct sizes *z)
+static int maps_ok(const uint8_t *cells, const struct layout *a)
 {
-    if (len < HEADER || u16_at(b) != 1)
-        return 0;
-    z->n = u16_at(b + 2);
-    z->l = u16_at(b + 4);
-    z->s = u16_at(b + 6);
-    z->j = u16_at(b + 8);
-    z->used_slots = u16_at(b + 10);
-    z->used_records = u16_at(b + 12);
-    if (!in_range(z->n, 4096) || !in_range(z->l, 1024) || !in_range(z->s, 1024) || !in_range(z->j, 16384))
-        return 0;
-    return len == HEADER + 2 * VOLUMES + ENTRY * z->n + 2 * VOLUMES * z->l + SLOT * z->s + RECORD * z->j;
-}
-
-static int header_ok(const uint8_t *b, const struct sizes *z)
-{
-    if (z->used_slots > z->s || z->used_records > z->j || u16_at(b + 18) != 0)
-        return 0;
-    if (u16_at(b + 14) > 60000 || u16_at(b + 16) >= z->n)
-        return 0;
-    for (size_t v = 0; v < VOLUMES; v++)
-        if (u16_at(b + HEADER + 2 * v) > 5000)
+    for (size_t i = 0; i < VOLUMES * a->l; i++)
+        if (!pbn_ok(u16_at(cells + CELL * i), a->n))
             return 0;
     return 1;
 }
 
-static int entries_ok(const uint8_t *b, size_t n)
+static int slots_ok(const uint8_t *book, const struct layout *a)
 {
-    for (size_t p = 0; p < n; p++, b += ENTRY) {
-        if (b[1] > 1 || u16_at(b + 2) > 65000)
+    unsigned last[VOLUMES] = { 0 }, previous = 0, header_day = u16_at(book + AT_DAY);
+    size_t at = 0, used = u16_at(book + AT_SLOTS_USED);
+    const uint8_t *b = book + a->slots;
+    for (size_t q = 0; q < used; q++, b += SLOT) {
+        unsigned volume = b[SLOT_VOLUME], day = u16_at(b + SLOT_DAY);
+        if (volume >= VOLUMES || retention_of(book, volume) == 0 || b[SLOT_ZERO] != 0)
             return 0;
-        if (b[1] == 0 && (b[0] != 0 || !all_zero(b + 4, PRINT)))
-            return 0;
-    }
-    return 1;
-}
-
-static int maps_ok(const uint8_t *b, const struct sizes *z)
-{
-    for (size_t i = 0; i < VOLUMES * z->l; i++)
-        if (!pbn_ok(u16_at(b + 2 * i), z->n))
-            return 0;
-    return 1;
-}
-
-static int slots_ok(const uint8_t *b, const uint8_t *book, const struct sizes *z)
-{
-    unsigned last[VOLUMES] = { 0 }, previous = 0, header_day = u16_at(book + 14);
-    size_t at = 0;
-    for (size_t q = 0; q < z->used_slots; q++, b += SLOT) {
-        unsigned volume = b[0], day = u16_at(b + 2);
-        if (volume >= VOLUMES || u16_at(book + HEADER + 2 * volume) == 0 || b[1] != 0)
-            return 0;
-        if (day > header_day || day < previous || day < last[volume] || u16_at(b + 4) != at)
+        if (day > header_day || day < previous || day < last[volume] || u16_at(b + SLOT_FIRST) != at)
             return 0;
         previous = day;
         last[volume] = day + 1;
-        at += u16_at(b + 6);
+        at += u16_at(b + SLOT_NUMBER);
     }
-    return at == z->used_records && all_zero(b, SLOT * (z->s - z->used_slots));
+    return at == u16_at(book + AT_RECORDS_USED) && all_zero(b, SLOT * (a->s - used));
 }
 
-static int records_ok(const uint8_t *b, const struct sizes *z)
+static int records_ok(const uint8_t *book, const struct layout *a)
 {
-    for (size_t q = 0; q < z->used_records; q++, b += RECORD)
-        if (u16_at(b) >= z->l || !pbn_ok(u16_at(b + 2), z->n) || u16_at(b + 4) >= z->n)
+    size_t used = u16_at(book + AT_RECORDS_USED);
+    const uint8_t *b = book + a->records;
+    for (size_t q = 0; q < used; q++, b += RECORD)
+        if (u16_at(b + RECORD_LBN) >= a->l || !pbn_ok(u16_at(b + RECORD_BEFORE), a->n) || u16_at(b + RECORD_AFTER) >= a->n)
             return 0;
-    return all_zero(b, RECORD * (z->j - z->used_records));
+    return all_zero(b, RECORD * (a->j - used));
 }
 
 uint16_t twin_form(const uint8_t *book, size_t len)
 {
-    struct sizes z;
-    const uint8_t *entries = book + HEADER + 2 * VOLUMES;
-    if (!layout_ok(book, len, &z))
+    if (len < HEADER || u16_at(book + AT_LAYOUT) != 1)
         return 1;
-    const uint8_t *maps = entries + ENTRY * z.n;
-    const uint8_t *slots = maps + 2 * VOLUMES * z.l;
-    const uint8_t *records = slots + SLOT * z.s;
-    if (!header_ok(book, &z) || !entries_ok(entries, z.n) || !maps_ok(maps, &z))
+    struct layout a = layout_in(book);
+    if (!layout_ok(&a, len))
+        return 1;
+    if (!header_ok(book, &a) || !entries_ok(book + ENTRIES, a.n) || !maps_ok(book + a.maps, &a))
         return 2;
-    return slots_ok(slots, book, &z) && records_ok(records, &z) ? 0 : 2;
+    return slots_ok(book, &a) && records_ok(book, &a) ? 0 : 2;
 }

@@ -1,0 +1,120 @@
+#include "scene.h"
+
+#include <stdio.h>
+#include <stdlib.h>
+#include <string.h>
+
+static uint8_t list[aspen_list_bound(CELLS)];
+
+bool same_scene(const struct scene *a, const struct scene *b)
+{
+    return a->call == b->call && a->prints == b->prints && a->fresh == b->fresh && a->left == b->left && a->finds == b->finds
+           && a->oldest == b->oldest && a->blocks == b->blocks && a->records == b->records && a->changes == b->changes;
+}
+
+static void set_list(struct stage *stage)
+{
+    const struct scene *scene = &stage->scene;
+    uint16_t numbers[CELLS];
+    unsigned from = scene->finds == FIRST_BLOCKS ? 0 : scene->finds == LAST_BLOCKS ? stage->held - scene->changes : ASPEN_MAX_BLOCKS;
+    for (unsigned i = 0; i < scene->changes; i++)
+        numbers[i] = (uint16_t)(from + i);
+    stage->list_len = change_list(list, scene->prints, 0, scene->changes, numbers);
+}
+
+void stage_set(struct stage *stage, const struct scene *scene)
+{
+    *stage = (struct stage){ .scene = *scene };
+    stage->held = scene->finds == NOWHERE ? scene->blocks - FREE_BLOCKS : scene->blocks;
+    struct past past = { .prints = scene->prints,
+                         .used = !scene->fresh,
+                         .left = scene->left,
+                         .blocks = scene->blocks,
+                         .held = stage->held,
+                         .records = scene->records };
+    box_make(&stage->box, &past);
+    set_list(stage);
+    stage->volume = scene->call == ENROL ? AIDS : 0;
+    stage->day = (uint16_t)(stage->box.day + (scene->call == COLLECT ? RETENTION + 1 : 1));
+    stage->number = scene->oldest ? 1 : stage->box.newest;
+}
+
+void stage_restore(struct stage *stage)
+{
+    bool takes = stage->scene.call == BACKUP && stage->scene.finds == NOWHERE;
+    box_restore(&stage->box, takes ? stage->held : stage->box.blocks);
+}
+
+uint16_t stage_call(struct stage *stage, const struct side *side)
+{
+    struct box *box = &stage->box;
+    uint16_t *answers = stage->answers;
+    switch (stage->scene.call) {
+    case FORM:
+        return side->form(box->book, box->book_len);
+    case FORMAT:
+        return side->format(box->book, box->book_len, (uint16_t)box->blocks, CELLS, SLOTS, RECORDS);
+    case ENROL:
+        return side->enrol(box->book, box->book_len, stage->volume, RETENTION);
+    case BACKUP:
+        return side->backup(box->book, box->book_len, box->pool, box->pool_len, box->spare, box->book_len, stage->volume, stage->day, list,
+                            stage->list_len, &answers[0], &answers[1], &answers[2]);
+    case COLLECT:
+        return side->collect(box->book, box->book_len, stage->day, &answers[0]);
+    case READ:
+        return side->read(box->book, box->book_len, box->pool, box->pool_len, stage->volume, stage->number, stage->lbn, &stage->at);
+    case AUDIT:
+        return side->audit(box->book, box->book_len, &answers[0]);
+    }
+    return 0;
+}
+
+void stage_move(struct stage *stage)
+{
+    const struct scene *scene = &stage->scene;
+    struct box *box = &stage->box;
+    memcpy(box->spare, box->book, box->book_len);
+    if (scene->call != BACKUP)
+        return;
+    memcpy(box->book, box->spare, box->book_len);
+    uint8_t *to = scene->finds == NOWHERE ? box->pool + aspen_pool_size(stage->held) : box->room;
+    memcpy(to, list + aspen_list_size(scene->changes > 0, 0) + ASPEN_PRINT_SIZE * scene->changes, aspen_pool_size(scene->changes));
+}
+
+static void fail(const struct stage *stage, const char *what, const struct side *side)
+{
+    static const char *const names[] = { "form", "format", "enrol", "backup", "collect", "read", "audit" };
+    const struct scene *scene = &stage->scene;
+    fprintf(stderr, "\nbench: %s with N = %u, U = %u, n = %u: %s %s\n", names[scene->call], scene->blocks, scene->records, scene->changes,
+            side->name, what);
+    exit(1);
+}
+
+static void call_accepted(struct stage *stage, const struct side *side)
+{
+    memset(stage->answers, 0, sizeof stage->answers);
+    stage->at = 0;
+    stage_restore(stage);
+    if (stage_call(stage, side) != 0)
+        fail(stage, "refuses what it should accept", side);
+}
+
+void stage_compare(struct stage *stage)
+{
+    static uint8_t book[aspen_book_size(ASPEN_MAX_BLOCKS, CELLS, SLOTS, RECORDS)], pool[aspen_pool_size(ASPEN_MAX_BLOCKS)];
+    struct box *box = &stage->box;
+    call_accepted(stage, &sides[PROVED]);
+    struct stage proved = *stage;
+    memcpy(book, box->book, box->book_len);
+    memcpy(pool, box->pool, box->pool_len);
+    for (int s = PROVED + 1; s < SIDES; s++) {
+        call_accepted(stage, &sides[s]);
+        if (memcmp(proved.answers, stage->answers, sizeof stage->answers) != 0 || proved.at != stage->at)
+            fail(stage, "answers otherwise than the proved call", &sides[s]);
+        if (memcmp(book, box->book, box->book_len) != 0)
+            fail(stage, "leaves another book than the proved call", &sides[s]);
+        if (memcmp(pool, box->pool, box->pool_len) != 0)
+            fail(stage, "leaves another pool than the proved call", &sides[s]);
+    }
+    stage_restore(stage);
+}

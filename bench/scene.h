@@ -1,0 +1,54 @@
+/* What is measured: one call on one box. */
+#ifndef ASPEN_BENCH_SCENE_H
+#define ASPEN_BENCH_SCENE_H
+
+#include "box.h"
+#include "sides.h"
+
+enum call { FORM, FORMAT, ENROL, BACKUP, COLLECT, READ, AUDIT };
+
+/* Where a backup's blocks are found. */
+enum finds { FIRST_BLOCKS, LAST_BLOCKS, NOWHERE };
+
+/* How many blocks are free for a backup that finds nothing. */
+enum { FREE_BLOCKS = CELLS };
+
+struct scene {
+    enum call call;
+    enum prints prints;
+    bool fresh;
+    bool left;
+    enum finds finds;
+    bool oldest; /* read: the volume's first backup, else its newest */
+    unsigned blocks, records, changes;
+};
+
+bool same_scene(const struct scene *a, const struct scene *b);
+
+/* A box, the arguments of the call, and what the call wrote and answered. */
+struct stage {
+    struct scene scene;
+    struct box box;
+    unsigned held;
+    uint16_t volume, day, number, lbn;
+    size_t list_len;
+    uint16_t answers[3];
+    uint32_t at;
+};
+
+void stage_set(struct stage *stage, const struct scene *scene);
+
+/* Book and pool as before the call. */
+void stage_restore(struct stage *stage);
+
+/* Answers 0 or the number of the refusal. */
+uint16_t stage_call(struct stage *stage, const struct side *side);
+
+/* memcpy of what the call has to move: a backup the book into the spare and back, and its blocks; every other call, which goes through the whole
+ * book, that book. */
+void stage_move(struct stage *stage);
+
+/* Calls each side once and compares answers, book and pool. A refusal or a difference ends the program with a message. */
+void stage_compare(struct stage *stage);
+
+#endif

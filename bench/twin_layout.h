@@ -1,0 +1,66 @@
+/* The book's layout, for the twin. */
+#ifndef ASPEN_BENCH_TWIN_LAYOUT_H
+#define ASPEN_BENCH_TWIN_LAYOUT_H
+
+#include <stddef.h>
+#include <stdint.h>
+
+enum { VOLUMES = 8, BLOCK = 512, PRINT = 16, UNMAPPED = 65535, MAX_DAY = 60000, MAX_RETENTION = 5000 };
+enum { MAX_BLOCKS = 4096, MAX_LBNS = 1024, MAX_SLOTS = 1024, MAX_RECORDS = 16384 };
+
+/* Bytes of each part. */
+enum { HEADER = 20, ENTRIES = HEADER + 2 * VOLUMES, ENTRY = 20, CELL = 2, SLOT = 8, RECORD = 6 };
+
+/* Where the header's fields stand. */
+enum { AT_LAYOUT = 0, AT_N = 2, AT_L = 4, AT_S = 6, AT_J = 8, AT_SLOTS_USED = 10, AT_RECORDS_USED = 12, AT_DAY = 14, AT_CURSOR = 16, AT_ZERO = 18 };
+
+/* Where the fields of an entry, a slot and a record stand within it. */
+enum { ENTRY_COUNT = 0, ENTRY_STATE = 1, ENTRY_EXPIRY = 2, ENTRY_PRINT = 4 };
+enum { SLOT_VOLUME = 0, SLOT_ZERO = 1, SLOT_DAY = 2, SLOT_FIRST = 4, SLOT_NUMBER = 6 };
+enum { RECORD_LBN = 0, RECORD_BEFORE = 2, RECORD_AFTER = 4 };
+
+static inline unsigned u16_at(const uint8_t *b)
+{
+    return b[0] | (unsigned)b[1] << 8;
+}
+
+static inline void put_u16(uint8_t *b, unsigned v)
+{
+    b[0] = (uint8_t)v;
+    b[1] = (uint8_t)(v >> 8);
+}
+
+/* A book's sizes, and where its sections start. */
+struct layout {
+    size_t n, l, s, j;
+    size_t maps, slots, records, length;
+};
+
+static inline struct layout layout_of(size_t n, size_t l, size_t s, size_t j)
+{
+    struct layout a = { .n = n, .l = l, .s = s, .j = j };
+    a.maps = ENTRIES + ENTRY * n;
+    a.slots = a.maps + CELL * VOLUMES * l;
+    a.records = a.slots + SLOT * s;
+    a.length = a.records + RECORD * j;
+    return a;
+}
+
+/* Of a book at least as long as a header. */
+static inline struct layout layout_in(const uint8_t *book)
+{
+    return layout_of(u16_at(book + AT_N), u16_at(book + AT_L), u16_at(book + AT_S), u16_at(book + AT_J));
+}
+
+static inline int layout_ok(const struct layout *a, size_t length)
+{
+    return a->n >= 1 && a->n <= MAX_BLOCKS && a->l >= 1 && a->l <= MAX_LBNS && a->s >= 1 && a->s <= MAX_SLOTS && a->j >= 1 && a->j <= MAX_RECORDS
+           && a->length == length;
+}
+
+static inline unsigned retention_of(const uint8_t *book, unsigned volume)
+{
+    return u16_at(book + HEADER + 2 * volume);
+}
+
+#endif
