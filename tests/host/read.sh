@@ -20,9 +20,9 @@ check "backup 2" cmp out.2 image.2
 check "backup 3" cmp out.3 image.2
 
 expect 0 "" read box 3 2 9
-check "one block of backup 2" printed <(tail -c +4609 image.2 | head -c 512)
+check "one block of backup 2" printed <(dd if=image.2 bs=512 skip=9 count=1 status=none)
 expect 0 "" read box 3 1 9
-check "one block of backup 1" printed <(tail -c +4609 image.1 | head -c 512)
+check "one block of backup 1" printed <(dd if=image.1 bs=512 skip=9 count=1 status=none)
 
 # Where the volume goes.
 echo "something" >mine
