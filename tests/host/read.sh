@@ -41,6 +41,24 @@ expect 4 "Is a directory" restore box 3 2 box
 expect 2 "can't be standard output" restore box 3 2 - --json
 check "no temporary file is left" same "$(find . -name '*.new*')" ""
 
+# A disk that takes no more: here files may not grow past 1,024 bytes.
+limited() {
+    (
+        trap '' XFSZ
+        ulimit -f 1
+        box "$@"
+        echo "$status" >"$work/status"
+    )
+    cat "$work/status"
+}
+before=$(content)
+check "status of a restore on a full disk" same "$(limited restore box 3 2 cut)" 4
+check "its message" grep -q "can't write cut.new-.*: File too large" "$work/err"
+check "no half of a file is left" same "$(find . -name 'cut*')" ""
+check "status of a call on a full disk" same "$(limited enrol box 4 --keep 5)" 4
+check "its message" grep -q "can't write box/book.new: File too large" "$work/err"
+check "the store is as it was" same "$(content)" "$before"
+
 # An answer that can't be printed.
 status=0
 # shellcheck disable=SC2086
