@@ -39,11 +39,20 @@ expect 3 "refused 1" format none --blocks 4 --cells 1025 --slots 6 --journal 8
 expect 3 "refused 1" format none --blocks 4 --cells 4 --slots 0 --journal 8
 expect 3 "refused 1" format none --blocks 4 --cells 4 --slots 6 --journal 16385
 expect 2 "--blocks 65536 is no number" format none --blocks 65536 --cells 4 --slots 6 --journal 8
-expect 2 "--day-zero 2026-02-29 is no date" format none "${sizes[@]}" --day-zero 2026-02-29
+for date in 2026-02-29 2100-02-29 2026-13-01 2026-00-01 2026-04-31 2026-01-00 1899-12-31 26-01-01 2026-1-1 2026-01-011; do
+    expect 2 "--day-zero $date is no date" format none "${sizes[@]}" --day-zero $date
+done
 check "nothing was made" test ! -e none
 touch file
 expect 4 "Not a directory" format file "${sizes[@]}"
 expect 4 "can't make the folder" format deep/er "${sizes[@]}"
+# Over the ends of February and of years, with and without a leap day.
+for pair in 2024-02-28:2024-02-29 2000-02-28:2000-02-29 2100-02-28:2100-03-01 2026-12-31:2027-01-01 2028-12-31:2029-01-01; do
+    store=${pair%:*}
+    expect 0 "day 0 is ${pair%:*}" format "$store" "${sizes[@]}" --day-zero "${pair%:*}"
+    expect 0 "as of ${pair#*:};" collect "$store" --day 1
+    expect 0 "as of ${pair#*:};" collect "$store" --day "${pair#*:}"
+done
 store=largest
 expect 0 "made the store" format largest --blocks 4096 --cells 1024 --slots 1024 --journal 16384
 check "length of the largest book" same "$(wc -c <largest/book)" 204836

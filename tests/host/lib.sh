@@ -47,7 +47,7 @@ expect() {
     if [ "$status" -ne "$wanted" ]; then
         cat "$work/out" "$work/err"
         complain "aspenbox $* ended with $status, not $wanted"
-    elif ! cat "$work/out" "$work/err" | grep -qaF -- "$text"; then
+    elif ! grep -qaF -- "$text" "$work/out" "$work/err"; then
         cat "$work/out" "$work/err"
         complain "aspenbox $* doesn't say: $text"
     elif [ "$wanted" -ge 2 ] && [ "$before" != "$(content)" ]; then

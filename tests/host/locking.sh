@@ -19,7 +19,7 @@ expect_held() {
     shift 3
     held "$kind" timeout 60 bash -c "$under" bash "$@" || echo 124 >"$work/status"
     check "status $wanted while $kind: $*" same "$(cat "$work/status")" "$wanted"
-    check "says $text while $kind: $*" grep -qaF -- "$text" <(cat "$work/out" "$work/err")
+    check "says $text while $kind: $*" grep -qaF -- "$text" "$work/out" "$work/err"
 }
 expect_held --shared 0 "restored" restore box 0 1 out
 expect_held --shared 0 "volume 0" list box --no-wait

@@ -20,9 +20,9 @@ check "backup 2" cmp out.2 image.2
 check "backup 3" cmp out.3 image.2
 
 expect 0 "" read box 3 2 9
-check "one block of backup 2" printed <(tail -c +4609 image.2 | head -c 512)
+check "one block of backup 2" printed <(dd if=image.2 bs=512 skip=9 count=1 status=none)
 expect 0 "" read box 3 1 9
-check "one block of backup 1" printed <(tail -c +4609 image.1 | head -c 512)
+check "one block of backup 1" printed <(dd if=image.1 bs=512 skip=9 count=1 status=none)
 
 # Where the volume goes.
 echo "something" >mine
@@ -40,6 +40,24 @@ expect 4 "can't create nowhere/out" restore box 3 2 nowhere/out
 expect 4 "Is a directory" restore box 3 2 box
 expect 2 "can't be standard output" restore box 3 2 - --json
 check "no temporary file is left" same "$(find . -name '*.new*')" ""
+
+# A disk that takes no more: here files may not grow past 1,024 bytes.
+limited() {
+    (
+        trap '' XFSZ
+        ulimit -f 1
+        box "$@"
+        echo "$status" >"$work/status"
+    )
+    cat "$work/status"
+}
+before=$(content)
+check "status of a restore on a full disk" same "$(limited restore box 3 2 cut)" 4
+check "its message" grep -q "can't write cut.new-.*: File too large" "$work/err"
+check "no half of a file is left" same "$(find . -name 'cut*')" ""
+check "status of a call on a full disk" same "$(limited enrol box 4 --keep 5)" 4
+check "its message" grep -q "can't write box/book.new: File too large" "$work/err"
+check "the store is as it was" same "$(content)" "$before"
 
 # An answer that can't be printed.
 status=0
