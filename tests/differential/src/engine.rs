@@ -9,7 +9,7 @@ use reference::cases;
 use reference::layout::Sizes;
 use reference::prng::Prng;
 use reference::random_books::disturb;
-use reference::random_calls::RandomCalls;
+use reference::random_calls::{RandomCalls, Shape};
 use vectors::Vector;
 
 use crate::outcome::Outcome;
@@ -28,7 +28,7 @@ pub fn compare(outcome: &mut Outcome) {
         compare_run(outcome, "run", seed, calls, CALLS);
     }
     for seed in 0..LARGEST_RUNS {
-        let calls = RandomCalls::largest(seed);
+        let calls = RandomCalls::shaped(Shape::Largest, seed);
         compare_run(outcome, "largest run", seed, calls, LARGEST_CALLS);
     }
     for vector in vectors::all() {

@@ -34,6 +34,8 @@ pub struct RandomLists {
     pub run_max: u16,
     /// How often a list has zero blocks only.
     pub zeros_once_in: u64,
+    /// How often a list has all LBNs.
+    pub whole_once_in: u64,
 }
 
 impl RandomLists {
@@ -48,6 +50,12 @@ impl RandomLists {
 
     /// First LBN and length of runs that may touch.
     fn pairs(&mut self, prng: &mut Prng) -> Vec<(u16, u16)> {
+        if prng.once_in(self.whole_once_in) {
+            return match prng.once_in(2) {
+                true => vec![(0, self.lbns)],
+                false => (0..self.lbns).map(|lbn| (lbn, 1)).collect(),
+            };
+        }
         let mut pairs = Vec::new();
         let mut end = 0;
         loop {
