@@ -1,0 +1,86 @@
+//! Runs the jobs: in threads, in one up to the first difference, or for as long as it takes.
+
+use std::process::ExitCode;
+use std::sync::atomic::{AtomicU64, Ordering};
+use std::thread;
+use std::time::{Duration, Instant};
+
+use crate::outcome::{At, Outcome};
+use crate::parts;
+
+fn threads() -> usize {
+    thread::available_parallelism().map_or(1, usize::from)
+}
+
+pub fn check() -> ExitCode {
+    let jobs = parts::check();
+    let next = AtomicU64::new(0);
+    let outcome = in_threads(|outcome| {
+        let index = next.fetch_add(1, Ordering::Relaxed) as usize;
+        let job = jobs.get(index);
+        job.inspect(|job| job.run(outcome)).is_some()
+    });
+    outcome.report()
+}
+
+pub fn first() -> ExitCode {
+    let mut outcome = Outcome::new(At::TheFirst);
+    for job in parts::check() {
+        job.run(&mut outcome);
+    }
+    println!("no difference in {} calls", outcome.calls());
+    ExitCode::SUCCESS
+}
+
+/// Lets each thread take steps until it answers that there are none left.
+fn in_threads(step: impl Fn(&mut Outcome) -> bool + Sync) -> Outcome {
+    let mut all = Outcome::new(At::EachDifference);
+    thread::scope(|scope| {
+        let work = || {
+            let mut outcome = Outcome::new(At::EachDifference);
+            while step(&mut outcome) {}
+            outcome
+        };
+        let workers: Vec<_> = (0..threads()).map(|_| scope.spawn(work)).collect();
+        for worker in workers {
+            all.merge(&worker.join().expect("a worker's outcome"));
+        }
+    });
+    all
+}
+
+pub fn soak(calls: u64) -> ExitCode {
+    let began = Instant::now();
+    let (next, done) = (AtomicU64::new(0), AtomicU64::new(0));
+    let said = AtomicU64::new(0);
+    let outcome = in_threads(|outcome| {
+        let index = next.fetch_add(1, Ordering::Relaxed);
+        let before = outcome.calls();
+        parts::soak(index).run(outcome);
+        let made = outcome.calls() - before;
+        let done = done.fetch_add(made, Ordering::Relaxed) + made;
+        let (last, now) = (said.load(Ordering::Relaxed), began.elapsed().as_secs());
+        if now >= last + INTERVAL
+            && said
+                .compare_exchange(last, now, Ordering::Relaxed, Ordering::Relaxed)
+                .is_ok()
+        {
+            progress(done, calls, began.elapsed());
+        }
+        done < calls
+    });
+    progress(outcome.calls(), calls, began.elapsed());
+    outcome.report()
+}
+
+/// Seconds between lines of progress.
+const INTERVAL: u64 = 5;
+
+fn progress(done: u64, calls: u64, time: Duration) {
+    let rate = done as f64 / time.as_secs_f64().max(0.001);
+    let left = calls.saturating_sub(done) as f64 / rate.max(1.0);
+    eprintln!(
+        "soak: {done} of {calls} calls, {} s, {rate:.0} calls a second, {left:.0} s left",
+        time.as_secs()
+    );
+}
