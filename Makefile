@@ -1,11 +1,15 @@
 # `make demo` builds and runs what there is to run; `make check` is all that the gate runs.
-.PHONY: demo check bench install uninstall clean
+.PHONY: demo check soak bench install uninstall clean
 
 demo:
 	@scripts/demo
 
 check:
 	@scripts/check
+
+# Ten million calls of the archives compared with the second implementation's.
+soak:
+	@tests/soak 10000000
 
 # Speed, side by side with hand-written C in one run.
 bench:

@@ -19,7 +19,7 @@ const USAGE: &str = "usage: differential
 differential first
     the same in one thread, up to the first difference; prints nothing else
 differential soak CALLS
-    seeded runs until this many calls are compared, with progress on standard error";
+    all of it and more, until this many calls are compared, with progress on standard error";
 
 fn main() -> ExitCode {
     let arguments: Vec<String> = env::args().skip(1).collect();

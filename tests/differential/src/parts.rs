@@ -60,18 +60,18 @@ fn mixed(parts: Vec<Vec<Job>>) -> Vec<Job> {
     placed.into_iter().map(|(_, job)| job).collect()
 }
 
-/// Job `index` of a soak that never ends: seeds that the check doesn't use.
-pub fn soak(index: u64) -> Job {
+/// Jobs that go on without end after those of the check, with other seeds.
+pub fn more(index: u64) -> Vec<Job> {
     const FROM: u64 = 1 << 32;
     let seeds = FROM + index..FROM + index + 1;
+    let many = 20 * seeds.start..20 * seeds.end;
     let quick = Shape::QUICK[(index % Shape::QUICK.len() as u64) as usize];
-    let mut jobs = match index % 100 {
+    match index % 100 {
         0 => runs::jobs(Shape::Largest, seeds),
         1..=3 => runs::jobs(Shape::LongLists, seeds),
         4..=13 => runs::jobs(Shape::AnySizes, seeds),
-        14..=23 => writer::jobs(seeds.start * 20..seeds.start * 20 + 20),
-        24..=25 => formats::jobs(seeds.start * 20..seeds.start * 20 + 20),
+        14..=23 => writer::jobs(many),
+        24..=25 => formats::jobs(many),
         _ => runs::jobs(quick, seeds),
-    };
-    jobs.remove(0)
+    }
 }

@@ -3,7 +3,7 @@
 use std::process::ExitCode;
 use std::sync::atomic::{AtomicU64, Ordering};
 use std::thread;
-use std::time::{Duration, Instant};
+use std::time::Instant;
 
 use crate::outcome::{At, Outcome};
 use crate::parts;
@@ -49,38 +49,75 @@ fn in_threads(step: impl Fn(&mut Outcome) -> bool + Sync) -> Outcome {
     all
 }
 
+/// All of the check and more, until so many calls are made.
 pub fn soak(calls: u64) -> ExitCode {
-    let began = Instant::now();
+    let jobs = parts::check();
     let (next, done) = (AtomicU64::new(0), AtomicU64::new(0));
-    let said = AtomicU64::new(0);
+    let clock = Clock::start(calls);
     let outcome = in_threads(|outcome| {
         let index = next.fetch_add(1, Ordering::Relaxed);
         let before = outcome.calls();
-        parts::soak(index).run(outcome);
+        match jobs.get(index as usize) {
+            Some(job) => job.run(outcome),
+            None => {
+                let more = parts::more(index - jobs.len() as u64);
+                more.iter().for_each(|job| job.run(outcome));
+            }
+        }
         let made = outcome.calls() - before;
         let done = done.fetch_add(made, Ordering::Relaxed) + made;
-        let (last, now) = (said.load(Ordering::Relaxed), began.elapsed().as_secs());
-        if now >= last + INTERVAL
-            && said
-                .compare_exchange(last, now, Ordering::Relaxed, Ordering::Relaxed)
-                .is_ok()
-        {
-            progress(done, calls, began.elapsed());
-        }
+        clock.tick(done);
         done < calls
     });
-    progress(outcome.calls(), calls, began.elapsed());
+    clock.say(outcome.calls());
     outcome.report()
+}
+
+/// Shows the progress of a soak on standard error.
+struct Clock {
+    calls: u64,
+    began: Instant,
+    /// The second of the last line.
+    said: AtomicU64,
 }
 
 /// Seconds between lines of progress.
 const INTERVAL: u64 = 5;
 
-fn progress(done: u64, calls: u64, time: Duration) {
-    let rate = done as f64 / time.as_secs_f64().max(0.001);
-    let left = calls.saturating_sub(done) as f64 / rate.max(1.0);
-    eprintln!(
-        "soak: {done} of {calls} calls, {} s, {rate:.0} calls a second, {left:.0} s left",
-        time.as_secs()
-    );
+impl Clock {
+    fn start(calls: u64) -> Self {
+        Clock {
+            calls,
+            began: Instant::now(),
+            said: AtomicU64::new(0),
+        }
+    }
+
+    /// A line if the last one was long ago; of several threads one says it.
+    fn tick(&self, done: u64) {
+        let (last, now) = (
+            self.said.load(Ordering::Relaxed),
+            self.began.elapsed().as_secs(),
+        );
+        if now < last + INTERVAL {
+            return;
+        }
+        let mine = self
+            .said
+            .compare_exchange(last, now, Ordering::Relaxed, Ordering::Relaxed);
+        if mine.is_ok() {
+            self.say(done);
+        }
+    }
+
+    fn say(&self, done: u64) {
+        let time = self.began.elapsed();
+        let rate = done as f64 / time.as_secs_f64().max(0.001);
+        let left = self.calls.saturating_sub(done) as f64 / rate.max(1.0);
+        eprintln!(
+            "soak: {done} of {} calls, {} s, {rate:.0} calls a second, {left:.0} s left",
+            self.calls,
+            time.as_secs()
+        );
+    }
 }
