@@ -1,9 +1,11 @@
 //! The parts of the comparison, each a list of jobs that need nothing of each other.
 
 mod books;
+mod faults;
 mod formats;
 mod lengths;
 mod runs;
+mod tested;
 mod writer;
 
 use reference::random_calls::Shape;
@@ -31,8 +33,10 @@ impl Job {
 /// The parts of `make check`, mixed so that each shows up early.
 pub fn check() -> Vec<Job> {
     let mut quick = Vec::new();
-    for shape in Shape::QUICK {
-        quick.extend(runs::jobs(shape, 0..100));
+    for seed in 0..100 {
+        for shape in Shape::QUICK {
+            quick.extend(runs::jobs(shape, seed..seed + 1));
+        }
     }
     let parts = [
         quick,
@@ -44,17 +48,19 @@ pub fn check() -> Vec<Job> {
         books::vectors(),
         books::pairs(),
         lengths::jobs(),
+        faults::jobs(),
     ];
     mixed(parts.into())
 }
 
-/// Puts the jobs in order of their place in their part, counted from 0 to 1.
+/// Puts the jobs in order of their place in their part, counted from 0 to 1: a part of many jobs
+/// starts before one of few.
 fn mixed(parts: Vec<Vec<Job>>) -> Vec<Job> {
     let mut placed = Vec::new();
     for part in parts {
-        let length = part.len();
-        let jobs = part.into_iter().enumerate();
-        placed.extend(jobs.map(|(index, job)| (index as f64 / length as f64, job)));
+        let step = 1.0 / (part.len() + 1) as f64;
+        let jobs = part.into_iter().zip(1..);
+        placed.extend(jobs.map(|(job, place)| (step * f64::from(place), job)));
     }
     placed.sort_by(|(one, _), (other, _)| one.total_cmp(other));
     placed.into_iter().map(|(_, job)| job).collect()

@@ -1,43 +1,56 @@
 //! Every call on books that no run leaves: the vectors, and each two edits of a book at once.
 
+use std::sync::LazyLock;
+
 use reference::call::{Call, Stored};
 use reference::cases;
 use reference::layout::BLOCK_BYTES;
 use reference::prng::Prng;
-use vectors::{edited, Edit};
+use vectors::{edited, Edit, Vector};
 
 use super::Job;
 use crate::outcome::Outcome;
 use crate::request::Request;
 
-fn job(part: &'static str, name: String, book: Vec<u8>) -> Job {
-    Job::new(part, move |outcome| send_all(outcome, &name, &book))
+/// The jobs of a part; each takes its share of the books, which are made when the first is asked for.
+const JOBS: usize = 50;
+
+fn share<T>(all: &[T], job: usize) -> impl Iterator<Item = &T> {
+    all.iter().skip(job).step_by(JOBS)
 }
 
 /// Each vector.
 pub fn vectors() -> Vec<Job> {
-    let vectors = vectors::all().into_iter();
-    vectors
-        .map(|vector| job("vectors", format!("vector {}", vector.name), vector.book))
-        .collect()
+    static VECTORS: LazyLock<Vec<Vector>> = LazyLock::new(vectors::all);
+    let job = |job| {
+        Job::new("vectors", move |outcome| {
+            for vector in share(&VECTORS, job) {
+                let label = || format!("vector {}", vector.name);
+                send_all(outcome, &label, &vector.book);
+            }
+        })
+    };
+    (0..JOBS).map(job).collect()
 }
 
 /// Each two edits that break form, made at once.
 pub fn pairs() -> Vec<Job> {
-    let mut edits = vectors::edits();
-    edits.retain(Edit::breaks_form);
-    let mut jobs = Vec::new();
-    for (index, second) in edits.iter().enumerate() {
-        for first in &edits[..index] {
-            let name = format!("edits {} and {}", first.name, second.name);
-            jobs.push(job(
-                "pairs of broken conditions",
-                name,
-                edited(&[first, second]),
-            ));
-        }
-    }
-    jobs
+    static EDITS: LazyLock<Vec<Edit>> = LazyLock::new(|| {
+        let mut edits = vectors::edits();
+        edits.retain(Edit::breaks_form);
+        edits
+    });
+    let job = |job| {
+        Job::new("pairs of broken conditions", move |outcome| {
+            for (index, second) in EDITS.iter().enumerate() {
+                for first in share(&EDITS[..index], job) {
+                    let label = || format!("edits {} and {}", first.name, second.name);
+                    send_all(outcome, &label, &edited(&[first, second]));
+                }
+            }
+        })
+    };
+    (0..JOBS).map(job).collect()
 }
 
 /// Calls that the book after case d accepts.
@@ -72,12 +85,11 @@ fn with_book(book: Vec<u8>) -> Stored {
     }
 }
 
-fn send_all(outcome: &mut Outcome, name: &str, book: &[u8]) {
+fn send_all(outcome: &mut Outcome, label: &dyn Fn() -> String, book: &[u8]) {
     let mut prng = Prng::seeded(0);
-    let label = || String::from(name);
     let stored = &with_book(book.to_vec());
     for call in &calls() {
-        outcome.compare(&mut prng, &label, Request::Call { stored, call });
+        outcome.compare(&mut prng, label, Request::Call { stored, call });
     }
-    outcome.compare(&mut prng, &label, Request::Form { book });
+    outcome.compare(&mut prng, label, Request::Form { book });
 }

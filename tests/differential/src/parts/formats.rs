@@ -15,7 +15,7 @@ pub fn jobs(seeds: Range<u64>) -> Vec<Job> {
 }
 
 fn size(prng: &mut Prng, end: u16) -> u16 {
-    match prng.below(24) {
+    match prng.below(12) {
         0 => prng.pick(&[0, end + 1, 65_535]),
         _ => prng.spread(1, end),
     }

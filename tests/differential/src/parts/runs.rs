@@ -10,6 +10,7 @@ use reference::prng::Prng;
 use reference::random_books::disturb;
 use reference::random_calls::{RandomCalls, Shape};
 
+use super::tested::Tested;
 use super::Job;
 use crate::outcome::Outcome;
 use crate::request::Request;
@@ -34,50 +35,29 @@ pub fn jobs(shape: Shape, seeds: Range<u64>) -> Vec<Job> {
 fn run(outcome: &mut Outcome, shape: Shape, seed: u64) {
     let mut prng = Prng::seeded(seed);
     let mut calls = RandomCalls::shaped(shape, seed);
-    let sizes = calls.sizes();
-    let book = vec![0xA5; sizes.book_bytes()];
-    let label = || format!("run {shape:?} {seed}, its format");
-    let request = Request::Format { book: &book, sizes };
-    let Some(fresh) = outcome.compare(&mut prng, &label, request) else {
-        return;
-    };
-    let mut stored = Stored {
-        book: fresh.content(0).to_vec(),
-        pool: calls.first_pool(),
-        spare: book,
-    };
+    let (sizes, pool) = (calls.sizes(), calls.first_pool());
+    let label = || format!("run {shape:?} {seed}");
+    let tested = Tested::format(outcome, &mut prng, &label, sizes, pool);
+    let Some(mut tested) = tested else { return };
     let mut plain = Plain::new(sizes);
     for index in 0..shape.calls() {
         let label = || format!("run {shape:?} {seed}, call {index}");
         let call = calls.next_call();
         if prng.once_in(2) {
-            send_disturbed(outcome, &mut prng, &label, &stored, &call);
+            send_disturbed(outcome, &mut prng, &label, &tested.0, &call);
         }
-        let request = Request::Call {
-            stored: &stored,
-            call: &call,
-        };
-        let Some(seen) = outcome.compare(&mut prng, &label, request) else {
+        let Some(seen) = tested.call(outcome, &mut prng, &label, &call) else {
             return;
         };
-        stored = after(stored, &seen);
         let answer = plain.call(&call);
+        let Stored { book, pool, .. } = &tested.0;
         let label = || format!("{}, plain store", label());
-        outcome.check(&label, answers_agree(&answer, &seen, &stored.pool));
+        outcome.check(&label, answers_agree(&answer, &seen, pool));
         if matches!(answer, Answer::Freed(_)) || index + 1 == shape.calls() {
-            outcome.check(&label, agreement::check(&stored.book, &stored.pool, &plain));
+            outcome.check(&label, agreement::check(book, pool, &plain));
         }
         calls.learn(&call, &answer);
     }
-}
-
-/// The box as the archive left it.
-fn after(mut stored: Stored, seen: &Seen) -> Stored {
-    let lent = [&mut stored.book, &mut stored.pool, &mut stored.spare];
-    for (part, (_, buffer)) in lent.into_iter().zip(&seen.buffers) {
-        part.copy_from_slice(buffer.content());
-    }
-    stored
 }
 
 /// The archive answered as the plain store did.
@@ -120,19 +100,24 @@ fn send_disturbed(
     outcome.compare(prng, &label, Request::Form { book });
 }
 
-/// A copy with another book, and now and then another length of a buffer.
+/// A copy with another book, and now and then other lengths of the buffers.
 fn disturbed(prng: &mut Prng, stored: &Stored) -> Stored {
     let mut disturbed = stored.clone();
     disturb(prng, &mut disturbed.book);
-    match prng.below(12) {
-        0 => disturbed.pool.truncate(prng.index(stored.pool.len())),
-        1 => disturbed.pool.push(0),
-        2 => disturbed.spare.truncate(prng.index(stored.spare.len())),
-        3 => disturbed.spare.truncate(stored.spare.len() - 1),
-        4 => disturbed.spare.extend([7; 9]),
-        5 => disturbed.book.truncate(prng.index(stored.book.len())),
-        6 => disturbed.book.push(0),
-        _ => {}
+    if prng.once_in(10) {
+        resize(prng, &mut disturbed.book);
+    }
+    if prng.once_in(8) {
+        resize(prng, &mut disturbed.pool);
+    }
+    if prng.once_in(5) {
+        resize(prng, &mut disturbed.spare);
     }
     disturbed
+}
+
+fn resize(prng: &mut Prng, buffer: &mut Vec<u8>) {
+    let length = buffer.len();
+    let lengths = [prng.index(length), length - 1, length + 1, length + 9];
+    buffer.resize(prng.pick(&lengths), 7);
 }

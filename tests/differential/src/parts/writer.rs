@@ -5,15 +5,16 @@ mod inputs;
 
 use std::ops::Range;
 
-use reference::call::{Call, Stored};
+use reference::call::Call;
 use reference::change_list::{self, list_bytes};
 use reference::layout::Sizes;
 use reference::prng::Prng;
 
+use super::tested::Tested;
 use super::Job;
 use crate::outcome::Outcome;
 use crate::request::{Request, WriteList};
-use crate::seen::equal;
+use crate::seen::{equal, Seen};
 
 pub fn jobs(seeds: Range<u64>) -> Vec<Job> {
     let job = |seed| Job::new("the aid's writer", move |outcome| write(outcome, seed));
@@ -68,52 +69,46 @@ fn restore(
         slots: 1,
         records: input.lbns,
     };
+    let label = || format!("{}, restored", label());
     let pool = vec![0; sizes.pool_bytes()];
-    let mut stored = Stored::new(sizes, pool).expect("sizes in range");
-    stored.call(&Call::Enrol {
+    let Some(mut tested) = Tested::format(outcome, prng, &label, sizes, pool) else {
+        return;
+    };
+    for call in restoring_calls(input, list) {
+        let Some(seen) = tested.call(outcome, prng, &label, &call) else {
+            return;
+        };
+        outcome.check(&label, equal("the number of refusal", seen.number, 0));
+        if let Call::Read { lbn, .. } = call {
+            let restored = block_read(&seen, &tested.0.pool);
+            let image = &input.image[512 * usize::from(lbn)..][..512];
+            outcome.check(&label, equal("the restored block", restored, Some(image)));
+        }
+    }
+}
+
+/// Enrol, backup and a read of each marked LBN.
+fn restoring_calls(input: &WriteList, list: &[u8]) -> Vec<Call> {
+    let enrol = Call::Enrol {
         volume: 0,
         retention: 1,
-    });
-    let call = Call::Backup {
+    };
+    let backup = Call::Backup {
         volume: 0,
         day: 1,
         list: list.to_vec(),
     };
-    let label = || format!("{}, restored", label());
-    let request = Request::Call {
-        stored: &stored,
-        call: &call,
-    };
-    let Some(seen) = outcome.compare(prng, &label, request) else {
-        return;
-    };
-    outcome.check(
-        &label,
-        equal("the backup's number of refusal", seen.number, 0),
-    );
-    stored.book.copy_from_slice(seen.content(0));
-    stored.pool.copy_from_slice(seen.content(1));
-    for (lbn, _) in input
-        .marks
-        .iter()
-        .enumerate()
-        .filter(|(_, &mark)| mark == 1)
-    {
-        let call = Call::Read {
-            volume: 0,
-            number: 1,
-            lbn: lbn as u16,
-        };
-        let request = Request::Call {
-            stored: &stored,
-            call: &call,
-        };
-        let Some(seen) = outcome.compare(prng, &label, request) else {
-            return;
-        };
-        let place = seen.answers[0].1.map(|at| at as usize);
-        let block = place.and_then(|at| stored.pool.get(at..at + 512));
-        let image = Some(&input.image[512 * lbn..][..512]);
-        outcome.check(&label, equal("the restored block", block, image));
-    }
+    let marked = (0..input.lbns).filter(|&lbn| input.marks[usize::from(lbn)] == 1);
+    let reads = marked.map(|lbn| Call::Read {
+        volume: 0,
+        number: 1,
+        lbn,
+    });
+    [enrol, backup].into_iter().chain(reads).collect()
+}
+
+/// The block that an accepted read gives.
+fn block_read<'a>(seen: &Seen, pool: &'a [u8]) -> Option<&'a [u8]> {
+    let at = seen.answers[0].1? as usize;
+    pool.get(at..at + 512)
 }

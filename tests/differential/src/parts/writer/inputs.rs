@@ -89,10 +89,13 @@ impl WriteList {
     }
 }
 
-/// Marks that are all 0, all 1, every second, dense, sparse or in long runs.
+/// Marks that are all 0, all 1, every second one, dense, sparse or in long runs.
 fn random_marks(prng: &mut Prng, number: usize) -> Vec<u8> {
-    if prng.once_in(6) {
-        return (0..number).map(|lbn| (lbn % 2) as u8).collect();
+    match prng.below(12) {
+        0 => return vec![0; number],
+        1 => return vec![1; number],
+        2 => return (0..number).map(|lbn| (lbn % 2) as u8).collect(),
+        _ => {}
     }
     let (first, change_once_in) = (prng.once_in(2), prng.pick(&[1, 2, 4, 12, 5_000]));
     let mut mark = first;
