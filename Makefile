@@ -1,5 +1,5 @@
 # `make demo` builds and runs what there is to run; `make check` is all that the gate runs.
-.PHONY: demo check soak bench install uninstall clean
+.PHONY: demo check soak mutants bench install uninstall clean
 
 demo:
 	@scripts/demo
@@ -10,6 +10,10 @@ check:
 # Ten million calls of the archives compared with the second implementation's.
 soak:
 	@tests/soak 10000000
+
+# The second implementation broken on purpose, to see that the comparison notices.
+mutants:
+	@tests/mutants/run
 
 # Speed, side by side with hand-written C in one run.
 bench:
