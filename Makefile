@@ -1,5 +1,5 @@
 # `make demo` builds and runs what there is to run; `make check` is all that the gate runs.
-.PHONY: demo check host bench install uninstall clean
+.PHONY: demo check host soak mutants bench install uninstall clean
 
 demo:
 	@scripts/demo
@@ -11,6 +11,14 @@ check:
 host:
 	@scripts/archives
 	@scripts/host
+
+# Ten million calls of the archives compared with the second implementation's.
+soak:
+	@tests/soak 10000000
+
+# The second implementation broken on purpose, to see that the comparison notices.
+mutants:
+	@tests/mutants/run
 
 # Speed, side by side with hand-written C in one run.
 bench:

@@ -1,8 +1,8 @@
-# shellcheck shell=sh disable=SC2046,SC2086,SC2154
-# The checks of the C side. ../run reads this file, and has `check`, `scratch` and ASPEN_LIB_DIR. A
+# shellcheck shell=bash disable=SC2154
+# The checks of the C side. ../run reads this file, and has `check`, `scratch` and `archives`. A
 # function with its body in parentheses keeps its variables to itself.
 : "${CC:=gcc}" "${CXX:=g++}"
-warnings="-Wall -Wextra -Werror -pedantic"
+warnings=(-Wall -Wextra -Werror -pedantic)
 
 # The sources of a program, by name.
 units_of() {
@@ -13,26 +13,14 @@ units_of() {
     printf '%s\n' check buffer books
 }
 
-# The archives of a program; fails if one isn't there.
-archives_of() (
-    case $1 in
-    aid) names="writer" ;;
-    engine) names="engine" ;;
-    example | host) names="engine writer" ;;
-    esac
-    for name in $names; do
-        [ -f "$ASPEN_LIB_DIR/lib$name.a" ] || exit 1
-        echo "$ASPEN_LIB_DIR/lib$name.a"
-    done
-)
-
 # Compiles the sources of all programs: compiled VARIANT COMPILER..
 compiled() (
     objects=$scratch/$1
     shift
     mkdir -p "$objects" || exit 1
     for source in c/*.c; do
-        "$@" $warnings -I../include -c "$source" -o "$objects/$(basename "$source" .c).o" || exit 1
+        "$@" "${warnings[@]}" -I../include -c "$source" \
+            -o "$objects/$(basename "$source" .c).o" || exit 1
     done
 )
 
@@ -42,49 +30,46 @@ runs() (
     objects=$scratch/$2
     under=$3
     shift 3
-    "$@" $(units_of "$program" | sed "s|.*|$objects/&.o|") $(archives_of "$program") \
-        -o "$objects/$program" && $under "$objects/$program"
+    mapfile -t units < <(units_of "$program" | sed "s|.*|$objects/&.o|")
+    # shellcheck disable=SC2086
+    "$@" "${units[@]}" "${archives[@]}" -o "$objects/$program" && $under "$objects/$program"
 )
 
 # One way to build the programs and run them: variant NAME "UNDER" "LINKER" "COMPILER"
 variant() {
+    local program
+    # shellcheck disable=SC2086
     check "C sources, $1" compiled "$1" $4
     for program in aid engine; do
-        if archives_of $program >/dev/null; then
-            check "C program $program, $1" runs $program "$1" "$2" $3
-        else
-            echo "not run: C program $program, $1 (no archive)"
-        fi
+        # shellcheck disable=SC2086
+        check "C program $program, $1" runs $program "$1" "$2" $3
     done
 }
 
 # The guards see writes outside the buffers. Without them valgrind sees the reads too.
 c_programs() {
+    local sanitize="-fsanitize=address,undefined -fno-sanitize-recover=all"
+    local under="valgrind --quiet --error-exitcode=1 --leak-check=full"
+    check "header as C99" "$CC" -std=c99 "${warnings[@]}" -fsyntax-only -x c ../include/aspen.h
+    check "header as C++11" "$CXX" -std=c++11 "${warnings[@]}" -fsyntax-only -x c++ ../include/aspen.h
     variant c99 "" "$CC" "$CC -std=c99"
     variant c++11 "" "$CXX" "$CXX -std=c++11 -x c++"
-    sanitize="-fsanitize=address,undefined -fno-sanitize-recover=all"
     variant sanitized "" "$CC $sanitize" "$CC -std=c99 -g $sanitize"
     if command -v valgrind >/dev/null; then
-        under="valgrind --quiet --error-exitcode=1 --leak-check=full"
         variant valgrind "$under" "$CC" "$CC -std=c99 -gdwarf-4 -DGUARD=0"
     else
         echo "not run: C programs under valgrind (not installed)"
     fi
 }
 
-c_header() {
-    check "header as C99" $CC -std=c99 $warnings -fsyntax-only -x c ../include/aspen.h
-    check "header as C++11" $CXX -std=c++11 $warnings -fsyntax-only -x c++ ../include/aspen.h
-}
-
 # The program in the manual page.
 example_compiles() {
     sed -e '1,/^\.SH EXAMPLE/d' -e '/^\./d' -e 's/\\e/\\/g' ../man/aspen.3 >"$scratch/example.c"
-    $CC -std=c99 $warnings -I../include -c "$scratch/example.c" -o "$scratch/example.o"
+    "$CC" -std=c99 "${warnings[@]}" -I../include -c "$scratch/example.c" -o "$scratch/example.o"
 }
 
 example_runs() {
-    $CC "$scratch/example.o" $(archives_of example) -o "$scratch/example" &&
+    "$CC" "$scratch/example.o" "${archives[@]}" -o "$scratch/example" &&
         [ "$("$scratch/example")" = "backup 1: good morning" ]
 }
 
@@ -97,11 +82,7 @@ renders() (
 c_manual() {
     check "manual page agrees with the header" c/manual ../include/aspen.h ../man/aspen.3
     check "manual page's example compiles" example_compiles
-    if archives_of example >/dev/null; then
-        check "manual page's example runs" example_runs
-    else
-        echo "not run: manual page's example (no archive)"
-    fi
+    check "manual page's example runs" example_runs
     if command -v groff >/dev/null; then
         check "manual page renders" renders
     else
@@ -112,7 +93,7 @@ c_manual() {
 # make GOAL for a folder of its own
 makes() {
     make --no-print-directory -C .. "$1" DESTDIR="$scratch/dest" PREFIX=/opt/aspen \
-        ARCHIVE_DIR="$(cd "$ASPEN_LIB_DIR" && pwd)"
+        ARCHIVE_DIR="$ASPEN_LIB_DIR"
 }
 
 # A program, with nothing of the library but what is installed.
@@ -120,8 +101,19 @@ uses_installed() (
     export PKG_CONFIG_LIBDIR="$scratch/dest/opt/aspen/lib/pkgconfig"
     export PKG_CONFIG_SYSROOT_DIR="$scratch/dest"
     flags=$(pkg-config --cflags --libs aspen) || exit 1
-    $CC -std=c99 $warnings $(units_of "$1" | sed 's|.*|c/&.c|') $flags \
-        -o "$scratch/uses_installed" && "$scratch/uses_installed"
+    mapfile -t units < <(units_of "$1" | sed 's|.*|c/&.c|')
+    # shellcheck disable=SC2086
+    "$CC" -std=c99 "${warnings[@]}" "${units[@]}" $flags -o "$scratch/uses_installed" &&
+        "$scratch/uses_installed"
+)
+
+# Everything that the README says is installed is there.
+is_installed() (
+    cd "$scratch/dest/opt/aspen" || exit 1
+    for name in "${archive_names[@]}"; do
+        [ -f "lib/aspen/lib$name.a" ] || exit 1
+    done
+    [ -f include/aspen.h ] && [ -f share/man/man3/aspen.3 ]
 )
 
 uninstalls() {
@@ -129,20 +121,16 @@ uninstalls() {
 }
 
 c_install() {
-    if ! archives_of example >/dev/null; then
-        echo "not run: make install (no archive)"
-        return
-    fi
+    local program
     check "make install" makes install
+    check "files installed" is_installed
     if command -v pkg-config >/dev/null; then
         for program in aid engine; do
             check "program $program from the installed files" uses_installed $program
         done
     else
-        echo "not run: program from the installed files (no pkg-config)"
+        echo "not run: programs from the installed files (no pkg-config)"
     fi
-    if archives_of host >/dev/null; then
-        check "aspenbox as installed" host_installed
-    fi
+    check "aspenbox as installed" host_installed
     check "make uninstall" uninstalls
 }

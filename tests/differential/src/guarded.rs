@@ -1,4 +1,4 @@
-//! Memory that is lent to the archive's functions, with guards on both sides.
+//! Memory that is lent to a call, with guards on both sides.
 
 use reference::prng::Prng;
 
@@ -18,21 +18,20 @@ fn guard_byte(at: usize) -> u8 {
 impl Guarded {
     pub fn new(prng: &mut Prng, content: &[u8]) -> Self {
         let start = GUARD + prng.index(8);
-        let mut memory: Vec<u8> = (0..start + content.len() + GUARD).map(guard_byte).collect();
-        memory[start..start + content.len()].copy_from_slice(content);
+        let length = content.len();
+        let mut memory = Vec::with_capacity(start + length + GUARD);
+        memory.extend((0..start).map(guard_byte));
+        memory.extend_from_slice(content);
+        memory.extend((start + length..start + length + GUARD).map(guard_byte));
         Guarded {
             memory,
             start,
-            length: content.len(),
+            length,
         }
     }
 
     pub fn content(&self) -> &[u8] {
         &self.memory[self.start..self.start + self.length]
-    }
-
-    pub fn pointer(&self) -> *const u8 {
-        self.content().as_ptr()
     }
 
     pub fn mut_pointer(&mut self) -> *mut u8 {
@@ -43,33 +42,12 @@ impl Guarded {
         self.length
     }
 
-    /// The guards are whole and the content is as expected.
-    pub fn check(&self, what: &str, expected: &[u8]) -> Result<(), String> {
-        self.check_guards(what)?;
-        assert_eq!(self.length, expected.len());
-        let content = self.content().iter().zip(expected);
-        let differs = content
-            .into_iter()
-            .position(|(ours, theirs)| ours != theirs);
-        match differs {
-            Some(at) => Err(format!("{what} differs at byte {at}")),
-            None => Ok(()),
-        }
-    }
-
-    pub fn check_guards(&self, what: &str) -> Result<(), String> {
+    /// Where a guard byte was written, counted from the buffer's start.
+    pub fn broken_at(&self) -> Option<isize> {
         let end = self.start + self.length;
-        let outside = (0..self.start).chain(end..self.memory.len());
-        match outside
-            .into_iter()
-            .find(|&at| self.memory[at] != guard_byte(at))
-        {
-            Some(at) => {
-                let offset = at as isize - self.start as isize;
-                Err(format!("byte {offset} outside {what} was written"))
-            }
-            None => Ok(()),
-        }
+        let mut outside = (0..self.start).chain(end..self.memory.len());
+        let broken = outside.find(|&at| self.memory[at] != guard_byte(at))?;
+        Some(broken as isize - self.start as isize)
     }
 }
 
@@ -79,9 +57,21 @@ pub struct Answered<T> {
     untouched: T,
 }
 
-impl<T: Copy + PartialEq + std::fmt::Debug> Answered<T> {
+impl Answered<u16> {
+    pub fn new() -> Self {
+        Answered::over(0xBEEF)
+    }
+}
+
+impl Answered<u32> {
+    pub fn wide() -> Self {
+        Answered::over(0xDEAD_BEEF)
+    }
+}
+
+impl<T: Copy + PartialEq + Into<u32>> Answered<T> {
     /// `untouched` is a value that no answer has.
-    pub fn new(untouched: T) -> Self {
+    fn over(untouched: T) -> Self {
         Answered {
             cells: [untouched; 3],
             untouched,
@@ -92,16 +82,12 @@ impl<T: Copy + PartialEq + std::fmt::Debug> Answered<T> {
         &mut self.cells[1]
     }
 
-    /// The answer is as expected, or wasn't written if none is.
-    pub fn check(&self, what: &str, expected: Option<T>) -> Result<(), String> {
-        let untouched = self.untouched;
-        let cells = [untouched, expected.unwrap_or(untouched), untouched];
-        if self.cells == cells {
-            Ok(())
-        } else {
-            Err(format!("{what} is {:?}, expected {cells:?}", self.cells))
+    /// The answer, or none if it wasn't written; fails if a number beside it was.
+    pub fn value(&self) -> Result<Option<u32>, String> {
+        let [before, value, after] = self.cells;
+        if before != self.untouched || after != self.untouched {
+            return Err("a number beside an answer was written".into());
         }
+        Ok((value != self.untouched).then(|| value.into()))
     }
 }
-
-pub const UNTOUCHED_U32: u32 = 0xDEAD_BEEF;

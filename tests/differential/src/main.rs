@@ -1,29 +1,41 @@
-//! Compares the archives' C functions with the reference over seeded calls. Which archives
-//! is said by the features `writer` and `engine`.
+//! Compares the archives' C functions with the reference's. See `usage`.
 
-#[cfg(feature = "engine")]
-mod engine;
-#[cfg(any(feature = "writer", feature = "engine"))]
+mod coverage;
 mod guarded;
-#[cfg(any(feature = "writer", feature = "engine"))]
+mod interface;
+mod lent;
 mod outcome;
-#[cfg(feature = "writer")]
-mod writer;
+mod parts;
+mod request;
+mod run;
+mod seen;
+mod shapes;
 
+use std::env;
 use std::process::ExitCode;
 
-#[cfg(any(feature = "writer", feature = "engine"))]
+const USAGE: &str = "usage: differential
+    compares all that `make check` compares, and prints the coverage
+differential first
+    the same in one thread, up to the first difference; prints nothing else
+differential soak CALLS
+    all of it and more, until this many calls are compared, with progress on standard error";
+
 fn main() -> ExitCode {
-    let mut outcome = outcome::Outcome::default();
-    #[cfg(feature = "writer")]
-    writer::compare(&mut outcome);
-    #[cfg(feature = "engine")]
-    engine::compare(&mut outcome);
-    outcome.report()
+    let arguments: Vec<String> = env::args().skip(1).collect();
+    let words: Vec<&str> = arguments.iter().map(String::as_str).collect();
+    match words[..] {
+        [] => run::check(),
+        ["first"] => run::first(),
+        ["soak", calls] => match calls.parse() {
+            Ok(calls) => run::soak(calls),
+            Err(_) => usage(),
+        },
+        _ => usage(),
+    }
 }
 
-#[cfg(not(any(feature = "writer", feature = "engine")))]
-fn main() -> ExitCode {
-    eprintln!("differential: no archive to compare; build with --features writer or engine");
+fn usage() -> ExitCode {
+    eprintln!("{USAGE}");
     ExitCode::from(2)
 }

@@ -1,6 +1,7 @@
 //! The backup box written a second time, from document 01 alone: the model that the
 //! differential tests compare with.
 
+pub mod agreement;
 pub mod call;
 pub mod cases;
 pub mod change_list;

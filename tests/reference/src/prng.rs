@@ -30,6 +30,19 @@ impl Prng {
         low + self.below(span) as u16
     }
 
+    /// A number from `low` to `high`, small ones as likely as large: each end, or below a power
+    /// of two.
+    pub fn spread(&mut self, low: u16, high: u16) -> u16 {
+        match self.below(8) {
+            0 => low,
+            1 => high,
+            _ => {
+                let bound = 1 << self.below(16);
+                self.between(low, bound.clamp(low, high))
+            }
+        }
+    }
+
     /// True once in `times` on average.
     pub fn once_in(&mut self, times: u64) -> bool {
         self.below(times) == 0

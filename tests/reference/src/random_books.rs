@@ -22,7 +22,7 @@ pub fn disturb(prng: &mut Prng, bytes: &mut [u8]) {
 }
 
 fn disturb_field(prng: &mut Prng, book: &mut Book<&mut [u8]>) {
-    match prng.below(10) {
+    match prng.below(11) {
         0 => disturb_header(prng, book),
         1 => {
             let days = prng.pick(&[0, 1, 3, 5_000, 5_001]);
@@ -32,6 +32,7 @@ fn disturb_field(prng: &mut Prng, book: &mut Book<&mut [u8]>) {
         3 => disturb_slot(prng, book),
         4 => disturb_record(prng, book),
         5 | 6 => free_waiting(prng, book),
+        7 => disturb_mapped(prng, book),
         _ => disturb_entry(prng, book),
     }
 }
@@ -103,6 +104,21 @@ fn free_waiting(prng: &mut Prng, book: &mut Book<&mut [u8]>) {
     let waiting: Vec<Pbn> = book.pbns().filter(waits).collect();
     if !waiting.is_empty() {
         book.edit_entry(prng.pick(&waiting), Entry::set_free);
+    }
+}
+
+/// Gives a block that a map names a count at one end.
+fn disturb_mapped(prng: &mut Prng, book: &mut Book<&mut [u8]>) {
+    let maps = (0..VOLUMES).flat_map(|volume| book.map(volume));
+    let named: Vec<Pbn> = maps.filter(|&cell| cell != UNMAPPED).collect();
+    if named.is_empty() {
+        return;
+    }
+    let pbn = prng.pick(&named);
+    // An earlier change may have put a cell past the pool.
+    if pbn.0 < book.sizes().blocks {
+        let count = prng.pick(&[0, u8::MAX]);
+        book.edit_entry(pbn, |entry| entry.count = count);
     }
 }
 

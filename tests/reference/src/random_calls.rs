@@ -1,22 +1,13 @@
 //! Seeded runs of calls on one fresh book: mostly sensible, now and then refused.
 
+mod shape;
+
+pub use shape::Shape;
+
 use crate::call::{Answer, Call, Stored};
-use crate::layout::{Sizes, BLOCKS_RANGE, LBNS_RANGE, RECORDS_RANGE, SLOTS_RANGE};
+use crate::layout::{Sizes, DAY_MAX, RETENTION_RANGE};
 use crate::prng::Prng;
 use crate::random_lists::RandomLists;
-
-/// The box as a seeded run of this many calls leaves it.
-pub fn after_run(seed: u64, number: usize) -> Stored {
-    let mut calls = RandomCalls::seeded(seed);
-    let pool = calls.first_pool();
-    let mut stored = Stored::new(calls.sizes(), pool).expect("sizes in range");
-    for _ in 0..number {
-        let call = calls.next_call();
-        let answer = stored.call(&call);
-        calls.learn(&call, &answer);
-    }
-    stored
-}
 
 pub struct RandomCalls {
     prng: Prng,
@@ -31,60 +22,23 @@ pub struct RandomCalls {
 }
 
 impl RandomCalls {
-    /// A run of one of three manners: small, roomy or crowded.
+    /// A run of one of the quick shapes.
     pub fn seeded(seed: u64) -> Self {
+        let shapes = Shape::QUICK;
+        Self::shaped(shapes[(seed % shapes.len() as u64) as usize], seed)
+    }
+
+    pub fn shaped(shape: Shape, seed: u64) -> Self {
         let mut prng = Prng::seeded(seed);
-        let crowded = seed % 3 == 2;
-        let (blocks, lbns, slots, records, run_max) = match seed % 3 {
-            0 => (12, 8, 60, 250, 3),
-            1 => (40, 16, 200, 1_000, 4),
-            _ => (24, 64, 200, 6_000, 64),
-        };
-        let sizes = Sizes {
-            blocks: prng.between(1, blocks),
-            lbns: prng.between(1.max(lbns / 2), lbns),
-            slots: prng.between(1.max(slots / 6), slots),
-            records: prng.between(1.max(records / 6), records),
-        };
-        let letters = prng.between(1, 1 + sizes.blocks / 2);
-        let volumes = prng.between(if crowded { 6 } else { 1 }, 8);
-        let lists = RandomLists {
-            lbns: sizes.lbns,
-            letters,
-            first_letter: 0,
-            run_max,
-            zeros_once_in: if crowded { 2 } else { 4 },
-        };
-        Self::with(prng, sizes, volumes, lists)
-    }
-
-    /// A run on a book of the largest sizes.
-    pub fn largest(seed: u64) -> Self {
-        let sizes = Sizes {
-            blocks: *BLOCKS_RANGE.end(),
-            lbns: *LBNS_RANGE.end(),
-            slots: *SLOTS_RANGE.end(),
-            records: *RECORDS_RANGE.end(),
-        };
-        let lists = RandomLists {
-            lbns: sizes.lbns,
-            letters: 3_000,
-            first_letter: 0,
-            run_max: 400,
-            zeros_once_in: 4,
-        };
-        Self::with(Prng::seeded(seed), sizes, 8, lists)
-    }
-
-    fn with(mut prng: Prng, sizes: Sizes, volumes: u16, lists: RandomLists) -> Self {
+        let sizes = shape.sizes(&mut prng);
         let late = prng.once_in(8);
         RandomCalls {
             sizes,
-            lists,
-            retention_max: if late { 5_000 } else { prng.between(1, 12) },
-            volumes,
+            lists: shape.lists(&mut prng, sizes),
+            retention_max: prng.pick(&[1, 2, 3, 6, 12, 100, 1_000, *RETENTION_RANGE.end()]),
+            volumes: shape.volumes(&mut prng),
             enrolled: 0,
-            day: if late { 59_900 } else { 0 },
+            day: if late { DAY_MAX - 100 } else { 0 },
             backups: [0; 8],
             prng,
         }
@@ -99,6 +53,18 @@ impl RandomCalls {
         let mut pool = vec![0; self.sizes.pool_bytes()];
         self.prng.fill(&mut pool);
         pool
+    }
+
+    /// The box as this many calls leave it.
+    pub fn run(&mut self, number: usize) -> Stored {
+        let pool = self.first_pool();
+        let mut stored = Stored::new(self.sizes, pool).expect("sizes in range");
+        for _ in 0..number {
+            let call = self.next_call();
+            let answer = stored.call(&call);
+            self.learn(&call, &answer);
+        }
+        stored
     }
 
     pub fn next_call(&mut self) -> Call {
@@ -145,17 +111,17 @@ impl RandomCalls {
         self.prng.between(0, self.volumes - 1)
     }
 
-    /// Mostly the same day or one soon after.
+    /// Mostly the same day or one soon after; now and then past a retention, or back.
     fn day(&mut self) -> u16 {
         if self.prng.once_in(30) {
             let before = self.day.saturating_sub(1);
             return self.prng.pick(&[0, before, 60_001, 65_535]);
         }
-        let step = match self.prng.below(10) {
-            0 => self.prng.between(0, 3 * self.retention_max.min(30)),
+        let step = match self.prng.below(6) {
+            0 => self.prng.between(0, 2 * self.retention_max),
             _ => self.prng.between(0, 2),
         };
-        self.day = (self.day + step).min(60_000);
+        self.day = self.day.saturating_add(step).min(DAY_MAX);
         self.day
     }
 

@@ -34,13 +34,18 @@ pub struct RandomLists {
     pub run_max: u16,
     /// How often a list has zero blocks only.
     pub zeros_once_in: u64,
+    /// How often a list has all LBNs.
+    pub whole_once_in: u64,
 }
 
 impl RandomLists {
     pub fn next_list(&mut self, prng: &mut Prng) -> Vec<u8> {
-        let pairs = self.pairs(prng);
+        let mut pairs = self.pairs(prng);
+        if prng.once_in(30) {
+            self.spoil_pairs(prng, &mut pairs);
+        }
         let mut list = self.list(prng, &pairs);
-        if prng.once_in(20) {
+        if prng.once_in(30) {
             self.spoil(prng, &mut list);
         }
         list
@@ -48,6 +53,12 @@ impl RandomLists {
 
     /// First LBN and length of runs that may touch.
     fn pairs(&mut self, prng: &mut Prng) -> Vec<(u16, u16)> {
+        if prng.once_in(self.whole_once_in) {
+            return match prng.once_in(2) {
+                true => vec![(0, self.lbns)],
+                false => (0..self.lbns).map(|lbn| (lbn, 1)).collect(),
+            };
+        }
         let mut pairs = Vec::new();
         let mut end = 0;
         loop {
@@ -82,7 +93,22 @@ impl RandomLists {
         self.first_letter + prng.between(0, self.letters - 1)
     }
 
-    /// Breaks the list in one of the ways that refusal 8 names.
+    /// Breaks one of the pairs; the fingerprints and blocks will be as many as they say.
+    fn spoil_pairs(&self, prng: &mut Prng, pairs: &mut Vec<(u16, u16)>) {
+        if pairs.is_empty() {
+            pairs.push((self.lbns - 1, 1));
+        }
+        let index = prng.index(pairs.len());
+        let (first, length) = &mut pairs[index];
+        match prng.below(4) {
+            0 => *length = 0,
+            1 => *length = self.lbns + 1 - *first,
+            2 => *first = first.saturating_sub(1),
+            _ => *length += 1,
+        }
+    }
+
+    /// Breaks the bytes in one of the ways that refusal 8 names.
     fn spoil(&mut self, prng: &mut Prng, list: &mut Vec<u8>) {
         let field = match prng.below(6) {
             0 => return list.truncate(prng.index(list.len())),

@@ -4,6 +4,7 @@
 mod audit;
 mod backup;
 
+pub use audit::Fault;
 pub use backup::backup;
 
 use crate::form;
@@ -92,7 +93,14 @@ pub fn locate(
 /// Whether the book is sound.
 pub fn audit(book: &[u8]) -> Result<bool, Refusal> {
     let book = form::check(book)?;
-    Ok(audit::is_sound(&book))
+    Ok(!Fault::ALL.iter().any(|fault| fault.is_in(&book)))
+}
+
+/// All that audit finds wrong.
+pub fn faults(book: &[u8]) -> Result<Vec<Fault>, Refusal> {
+    let book = form::check(book)?;
+    let faults = Fault::ALL.into_iter();
+    Ok(faults.filter(|fault| fault.is_in(&book)).collect())
 }
 
 fn volume_number(volume: u16) -> Result<u8, Refusal> {

@@ -6,7 +6,7 @@ use reference::form;
 use reference::layout::{Book, Entry, Header, Lbn, Pbn, Record, HELD, UNMAPPED, VOLUMES};
 use reference::prng::Prng;
 use reference::random_books::disturb;
-use reference::random_calls::after_run;
+use reference::random_calls::{RandomCalls, Shape};
 use reference::store;
 
 type View<'a> = Book<&'a [u8]>;
@@ -99,7 +99,8 @@ fn audit_is_its_conditions() {
     let mut sound = 0;
     let mut alone = [0; 4];
     for seed in 0..1_200 {
-        let mut stored = after_run(3 * seed, 20 + prng.index(60));
+        let mut calls = RandomCalls::shaped(Shape::Small, seed);
+        let mut stored = calls.run(20 + prng.index(60));
         assert_eq!(stored.call(&Call::Audit), Answer::Sound(true));
         for _ in 0..4 {
             let mut book = stored.book.clone();

@@ -2,12 +2,12 @@
 
 use std::collections::BTreeSet;
 
+use reference::agreement;
 use reference::call::{Answer, Call, Stored};
-use reference::form;
 use reference::history::History;
-use reference::layout::{Fingerprint, Pbn, HELD, VOLUMES};
+use reference::layout::VOLUMES;
 use reference::plain::Plain;
-use reference::random_calls::RandomCalls;
+use reference::random_calls::{RandomCalls, Shape};
 use reference::store;
 
 const RUNS: u64 = 300;
@@ -44,30 +44,9 @@ impl Seen {
     }
 }
 
-type Held<'a> = Vec<(Pbn, Fingerprint, &'a [u8])>;
-
-fn held_in_box(stored: &Stored) -> Held<'_> {
-    let book = form::check(&stored.book).expect("in form");
-    let entries = book.pbns().map(|pbn| (pbn, book.entry(pbn)));
-    entries
-        .filter(|(_, entry)| entry.state == HELD)
-        .map(|(pbn, entry)| (pbn, entry.fingerprint, &stored.pool[pbn.pool_range()]))
-        .collect()
-}
-
-fn held_in_plain(plain: &Plain) -> Held<'_> {
-    plain
-        .held()
-        .map(|(pbn, content)| (pbn, content.fingerprint, &content.bytes[..]))
-        .collect()
-}
-
 fn stores_agree(stored: &Stored, plain: &Plain) {
-    assert_eq!(held_in_box(stored), held_in_plain(plain));
-    let book = form::check(&stored.book).expect("in form");
-    for volume in 0..VOLUMES {
-        assert_eq!(book.map(volume), plain.current_map(volume));
-    }
+    let agreement = agreement::check(&stored.book, &stored.pool, plain);
+    assert_eq!(agreement, Ok(()));
     assert_eq!(store::audit(&stored.book), Ok(true));
 }
 
@@ -155,7 +134,7 @@ fn box_plain_store_and_history_agree() {
 fn they_agree_on_the_largest_book() {
     let mut seen = Seen::default();
     for seed in 0..2 {
-        let calls = RandomCalls::largest(seed);
+        let calls = RandomCalls::shaped(Shape::Largest, seed);
         run(&format!("largest, seed {seed}"), calls, 60, &mut seen);
     }
     assert!(seen.taken > 1_000, "{}", seen.taken);

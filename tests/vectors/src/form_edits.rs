@@ -4,21 +4,21 @@
 use reference::layout::{Header, Lbn, Pbn, Slot, FREE, HELD, UNUSED_RECORD};
 
 use crate::vector::Meant::{Refused2, Totals};
-use crate::vector::{EditedBook, Meant, Vector};
+use crate::vector::{Edit, EditedBook, Meant};
 
-pub fn vectors() -> Vec<Vector> {
-    let mut vectors = vec![Vector::edited("after-d", Totals, |_| {})];
-    vectors.extend(header_values());
-    vectors.extend(full_books());
-    vectors.extend(retentions());
-    vectors.extend(entries());
-    vectors.extend(cells());
-    vectors.extend(records());
-    vectors.extend(unused_records());
-    vectors
+pub fn edits() -> Vec<Edit> {
+    let mut edits = vec![Edit::new("after-d", Totals, move |_| {})];
+    edits.extend(header_values());
+    edits.extend(full_books());
+    edits.extend(retentions());
+    edits.extend(entries());
+    edits.extend(cells());
+    edits.extend(records());
+    edits.extend(unused_records());
+    edits
 }
 
-fn header_values() -> Vec<Vector> {
+fn header_values() -> Vec<Edit> {
     let values = [
         (Header::Day, 60_000, Totals),
         (Header::Day, 60_001, Refused2),
@@ -32,11 +32,11 @@ fn header_values() -> Vec<Vector> {
         (Header::SlotsUsed, 65_535, Refused2),
         (Header::RecordsUsed, 65_535, Refused2),
     ];
-    let vector = |(field, value, meant)| {
+    let edit = |(field, value, meant)| {
         let name = format!("header-{field:?}-{value}").to_lowercase();
-        Vector::edited(&name, meant, |book| book.set_header(field, value))
+        Edit::new(name, meant, move |book| book.set_header(field, value))
     };
-    values.into_iter().map(vector).collect()
+    values.into_iter().map(edit).collect()
 }
 
 /// All slots used, the last two by backups without changes.
@@ -82,26 +82,26 @@ fn use_records(book: &mut EditedBook, used: u16) {
     book.set_header(Header::RecordsUsed, used);
 }
 
-fn full_books() -> Vec<Vector> {
+fn full_books() -> Vec<Edit> {
     vec![
-        Vector::edited("slots-used-all", Totals, use_all_slots),
-        Vector::edited("slots-used-one-above", Refused2, |book| {
+        Edit::new("slots-used-all", Totals, use_all_slots),
+        Edit::new("slots-used-one-above", Refused2, move |book| {
             use_all_slots(book);
             book.set_header(Header::SlotsUsed, 7);
         }),
-        Vector::edited("slots-used-one-above-alike", Refused2, use_record_as_slot),
-        Vector::edited("slots-used-all-alike", Totals, |book| {
+        Edit::new("slots-used-one-above-alike", Refused2, use_record_as_slot),
+        Edit::new("slots-used-all-alike", Totals, move |book| {
             use_record_as_slot(book);
             book.set_header(Header::SlotsUsed, 6);
         }),
-        Vector::edited("records-used-all", Totals, |book| use_records(book, 8)),
-        Vector::edited("records-used-one-above", Refused2, |book| {
+        Edit::new("records-used-all", Totals, move |book| use_records(book, 8)),
+        Edit::new("records-used-one-above", Refused2, move |book| {
             use_records(book, 9);
         }),
     ]
 }
 
-fn retentions() -> Vec<Vector> {
+fn retentions() -> Vec<Edit> {
     let values = [
         (0, 0, Refused2),
         (0, 1, Totals),
@@ -113,42 +113,42 @@ fn retentions() -> Vec<Vector> {
         (7, 5_000, Totals),
         (7, 5_001, Refused2),
     ];
-    let vector = |(volume, days, meant)| {
+    let edit = |(volume, days, meant)| {
         let name = format!("retention-of-{volume}-{days}");
-        Vector::edited(&name, meant, |book| book.set_retention(volume, days))
+        Edit::new(name, meant, move |book| book.set_retention(volume, days))
     };
-    values.into_iter().map(vector).collect()
+    values.into_iter().map(edit).collect()
 }
 
-fn entries() -> Vec<Vector> {
-    let mut vectors = Vec::new();
+fn entries() -> Vec<Edit> {
+    let mut edits = Vec::new();
     for pbn in [0, 3] {
         for (expiry, meant) in [(0, Totals), (65_000, Totals), (65_001, Refused2)] {
             let name = format!("expiry-of-{pbn}-{expiry}");
-            vectors.push(Vector::edited(&name, meant, |book| {
+            edits.push(Edit::new(name, meant, move |book| {
                 book.edit_entry(Pbn(pbn), |entry| entry.expiry = expiry);
             }));
         }
         for state in [2, 255] {
             let name = format!("state-of-{pbn}-{state}");
-            vectors.push(Vector::edited(&name, Refused2, |book| {
+            edits.push(Edit::new(name, Refused2, move |book| {
                 book.edit_entry(Pbn(pbn), |entry| entry.state = state);
             }));
         }
     }
     for byte in [0, 7, 15] {
         let name = format!("free-with-fingerprint-byte-{byte}");
-        vectors.push(Vector::edited(&name, Refused2, |book| {
+        edits.push(Edit::new(name, Refused2, move |book| {
             book.edit_entry(Pbn(3), |entry| entry.fingerprint[byte] = 1);
         }));
     }
-    vectors.extend(entry_states());
-    vectors
+    edits.extend(entry_states());
+    edits
 }
 
-fn entry_states() -> Vec<Vector> {
+fn entry_states() -> Vec<Edit> {
     let edited = |name, meant, pbn, count, state, byte: u8| {
-        Vector::edited(name, meant, |book| {
+        Edit::new(name, meant, move |book| {
             book.edit_entry(Pbn(pbn), |entry| {
                 entry.count = count;
                 entry.state = state;
@@ -178,58 +178,58 @@ const PBNS: [(u16, Meant); 5] = [
     (65_535, Totals),
 ];
 
-fn cells() -> Vec<Vector> {
-    let mut vectors = Vec::new();
+fn cells() -> Vec<Edit> {
+    let mut edits = Vec::new();
     for (volume, lbn) in [(0, 0), (0, 3), (7, 0), (7, 3)] {
         for (pbn, meant) in PBNS {
             let name = format!("cell-{volume}-{lbn}-is-{pbn}");
-            vectors.push(Vector::edited(&name, meant, |book| {
+            edits.push(Edit::new(name, meant, move |book| {
                 book.set_cell(volume, Lbn(lbn), Pbn(pbn));
             }));
         }
     }
-    vectors
+    edits
 }
 
-fn records() -> Vec<Vector> {
-    let mut vectors = Vec::new();
+fn records() -> Vec<Edit> {
+    let mut edits = Vec::new();
     for index in [0, 4] {
         for (pbn, meant) in PBNS {
             let name = format!("record-{index}-before-{pbn}");
-            vectors.push(Vector::edited(&name, meant, |book| {
+            edits.push(Edit::new(name, meant, move |book| {
                 book.edit_record(index, |record| record.before = Pbn(pbn));
             }));
             let meant = if pbn == 65_535 { Refused2 } else { meant };
             let name = format!("record-{index}-after-{pbn}");
-            vectors.push(Vector::edited(&name, meant, |book| {
+            edits.push(Edit::new(name, meant, move |book| {
                 book.edit_record(index, |record| record.after = Pbn(pbn));
             }));
         }
         for (lbn, meant) in [(0, Totals), (3, Totals), (4, Refused2), (65_535, Refused2)] {
             let name = format!("record-{index}-lbn-{lbn}");
-            vectors.push(Vector::edited(&name, meant, |book| {
+            edits.push(Edit::new(name, meant, move |book| {
                 book.edit_record(index, |record| record.lbn = Lbn(lbn));
             }));
         }
     }
-    vectors
+    edits
 }
 
-fn unused_records() -> Vec<Vector> {
-    let mut vectors = Vec::new();
+fn unused_records() -> Vec<Edit> {
+    let mut edits = Vec::new();
     for index in [5, 7] {
         for value in [1, 256, 65_535] {
             let name = |field| format!("unused-record-{index}-{field}-{value}");
-            vectors.push(Vector::edited(&name("lbn"), Refused2, |book| {
+            edits.push(Edit::new(name("lbn"), Refused2, move |book| {
                 book.edit_record(index, |record| record.lbn = Lbn(value));
             }));
-            vectors.push(Vector::edited(&name("before"), Refused2, |book| {
+            edits.push(Edit::new(name("before"), Refused2, move |book| {
                 book.edit_record(index, |record| record.before = Pbn(value));
             }));
-            vectors.push(Vector::edited(&name("after"), Refused2, |book| {
+            edits.push(Edit::new(name("after"), Refused2, move |book| {
                 book.edit_record(index, |record| record.after = Pbn(value));
             }));
         }
     }
-    vectors
+    edits
 }

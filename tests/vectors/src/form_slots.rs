@@ -1,38 +1,36 @@
 //! Backup slots: each condition of form broken alone, and both ends of each range.
 
-use reference::cases::two_records_in_a_slot;
-use reference::layout::{Book, Entry, Header, Pbn, Slot, UNUSED_RECORD, UNUSED_SLOT};
+use reference::layout::{Header, Slot, UNUSED_RECORD, UNUSED_SLOT};
 
 use crate::vector::Meant::{Refused2, Totals};
-use crate::vector::{EditedBook, Meant, Vector};
+use crate::vector::{Edit, EditedBook, Meant};
 
-pub fn vectors() -> Vec<Vector> {
-    let mut vectors = volumes();
-    vectors.extend(days());
-    vectors.extend(pairs());
-    vectors.extend(second_bytes());
-    vectors.extend(unused());
-    vectors.extend(without_slots());
-    vectors.extend(with_two_records_of_an_lbn());
-    vectors
+pub fn edits() -> Vec<Edit> {
+    let mut edits = volumes();
+    edits.extend(days());
+    edits.extend(pairs());
+    edits.extend(second_bytes());
+    edits.extend(unused());
+    edits.extend(without_slots());
+    edits
 }
 
-fn volumes() -> Vec<Vector> {
-    let mut vectors = Vec::new();
+fn volumes() -> Vec<Edit> {
+    let mut edits = Vec::new();
     for index in [0, 3] {
         for volume in [2, 7, 8, 128, 255] {
             let name = format!("slot-{index}-of-volume-{volume}");
-            vectors.push(Vector::edited(&name, Refused2, |book| {
+            edits.push(Edit::new(name, Refused2, move |book| {
                 book.edit_slot(index, |slot| slot.volume = volume);
             }));
         }
         let name = format!("slot-{index}-of-volume-7-enrolled");
-        vectors.push(Vector::edited(&name, Totals, |book| {
+        edits.push(Edit::new(name, Totals, move |book| {
             book.set_retention(7, 1);
             book.edit_slot(index, |slot| slot.volume = 7);
         }));
     }
-    vectors
+    edits
 }
 
 /// The days of the four used slots, of volumes 0, 1, 0, 1, and the header's day.
@@ -51,16 +49,16 @@ const DAYS: [(&str, [u16; 4], u16, Meant); 12] = [
     ("days-above-60000", [5, 6, 8, 60_001], 60_000, Refused2),
 ];
 
-fn days() -> Vec<Vector> {
-    let vector = |(name, days, header, meant): (&str, [u16; 4], u16, Meant)| {
-        Vector::edited(name, meant, |book| {
+fn days() -> Vec<Edit> {
+    let edit = |(name, days, header, meant): (&str, [u16; 4], u16, Meant)| {
+        Edit::new(name, meant, move |book| {
             for (index, day) in days.into_iter().enumerate() {
                 book.edit_slot(index, |slot| slot.day = day);
             }
             book.set_header(Header::Day, header);
         })
     };
-    DAYS.into_iter().map(vector).collect()
+    DAYS.into_iter().map(edit).collect()
 }
 
 type Pair = (u16, u16);
@@ -106,9 +104,9 @@ const PAIRS: [(&str, [Pair; 4], Meant); 13] = [
     ),
 ];
 
-fn pairs() -> Vec<Vector> {
-    let vector = |(name, pairs, meant): (&str, [Pair; 4], Meant)| {
-        Vector::edited(name, meant, |book| {
+fn pairs() -> Vec<Edit> {
+    let edit = |(name, pairs, meant): (&str, [Pair; 4], Meant)| {
+        Edit::new(name, meant, move |book| {
             for (index, (first, number)) in pairs.into_iter().enumerate() {
                 book.edit_slot(index, |slot| {
                     slot.first = first;
@@ -117,50 +115,50 @@ fn pairs() -> Vec<Vector> {
             }
         })
     };
-    let mut vectors: Vec<Vector> = PAIRS.into_iter().map(vector).collect();
-    vectors.push(Vector::edited("pairs-end-wrapped", Refused2, |book| {
+    let mut edits: Vec<Edit> = PAIRS.into_iter().map(edit).collect();
+    edits.push(Edit::new("pairs-end-wrapped", Refused2, move |book| {
         book.edit_slot(2, |slot| slot.number = 65_535);
         book.edit_slot(3, |slot| (slot.first, slot.number) = (2, 3));
     }));
     for (used, name) in [(4, "pairs-end-after-used"), (6, "pairs-end-before-used")] {
-        vectors.push(Vector::edited(name, Refused2, |book| {
+        edits.push(Edit::new(name, Refused2, move |book| {
             book.set_record(4, UNUSED_RECORD);
             book.set_header(Header::RecordsUsed, used);
         }));
     }
-    vectors
+    edits
 }
 
-fn second_bytes() -> Vec<Vector> {
-    let vector = |index| {
+fn second_bytes() -> Vec<Edit> {
+    let edit = |index| {
         let name = format!("slot-{index}-second-byte");
-        Vector::edited(&name, Refused2, |book| {
+        Edit::new(name, Refused2, move |book| {
             book.edit_slot(index, |slot| slot.zero = 1);
         })
     };
-    (0..6).map(vector).collect()
+    (0..6).map(edit).collect()
 }
 
 type SlotEdit = (&'static str, fn(&mut Slot));
 
-fn unused() -> Vec<Vector> {
-    let edits: [SlotEdit; 5] = [
+fn unused() -> Vec<Edit> {
+    let fields: [SlotEdit; 5] = [
         ("volume", |slot| slot.volume = 1),
         ("day", |slot| slot.day = 9),
         ("day-high", |slot| slot.day = 256),
         ("first", |slot| slot.first = 5),
         ("number", |slot| slot.number = 1),
     ];
-    let mut vectors = Vec::new();
+    let mut edits = Vec::new();
     for index in [4, 5] {
-        for (field, edit) in edits {
+        for (field, edit) in fields {
             let name = format!("unused-slot-{index}-{field}");
-            vectors.push(Vector::edited(&name, Refused2, |book| {
+            edits.push(Edit::new(name, Refused2, move |book| {
                 book.edit_slot(index, edit);
             }));
         }
     }
-    vectors
+    edits
 }
 
 fn clear_slots(book: &mut EditedBook) {
@@ -176,20 +174,20 @@ fn clear_records(book: &mut EditedBook) {
     }
 }
 
-fn without_slots() -> Vec<Vector> {
+fn without_slots() -> Vec<Edit> {
     vec![
-        Vector::edited("no-slots-no-records", Totals, |book| {
+        Edit::new("no-slots-no-records", Totals, move |book| {
             clear_slots(book);
             clear_records(book);
             book.set_header(Header::RecordsUsed, 0);
         }),
-        Vector::edited("no-slots-but-records", Refused2, clear_slots),
-        Vector::edited("no-slots-but-a-record-used", Refused2, |book| {
+        Edit::new("no-slots-but-records", Refused2, clear_slots),
+        Edit::new("no-slots-but-a-record-used", Refused2, move |book| {
             clear_slots(book);
             clear_records(book);
             book.set_header(Header::RecordsUsed, 1);
         }),
-        Vector::edited("slots-without-records", Totals, |book| {
+        Edit::new("slots-without-records", Totals, move |book| {
             clear_records(book);
             book.set_header(Header::RecordsUsed, 0);
             for index in 0..4 {
@@ -197,19 +195,4 @@ fn without_slots() -> Vec<Vector> {
             }
         }),
     ]
-}
-
-/// One LBN with two records in one slot, as it is and with each block that waits freed.
-fn with_two_records_of_an_lbn() -> Vec<Vector> {
-    let mut vectors = Vec::new();
-    for freed in [None, Some(0), Some(2)] {
-        let mut book = two_records_in_a_slot().book;
-        let mut name = String::from("two-records-of-an-lbn");
-        if let Some(pbn) = freed {
-            Book::over(&mut book[..]).edit_entry(Pbn(pbn), Entry::set_free);
-            name.push_str(&format!("-{pbn}-freed"));
-        }
-        vectors.push(Vector::new(name, book, Totals));
-    }
-    vectors
 }

@@ -3,16 +3,21 @@
 use reference::cases;
 use reference::layout::{self, Book, Header, Sizes};
 
-use crate::vector::{Meant, Vector};
+use crate::vector::{Edit, Meant, Vector};
+
+/// Those of the length after case d.
+pub fn edits() -> Vec<Edit> {
+    let mut edits = layout_numbers();
+    for (name, field, values) in SIZE_FIELDS {
+        edits.extend(values.map(|value| size_in_place(name, field, value)));
+    }
+    edits
+}
 
 pub fn vectors() -> Vec<Vector> {
     let mut vectors = lengths();
-    vectors.extend(layout_numbers());
     for (name, field, values) in SIZE_FIELDS {
-        for value in values {
-            vectors.push(size_alone(name, field, value));
-            vectors.push(size_in_place(name, field, value));
-        }
+        vectors.extend(values.map(|value| size_alone(name, field, value)));
     }
     vectors.push(wrapped_length());
     vectors
@@ -45,25 +50,13 @@ fn lengths() -> Vec<Vector> {
     vectors
 }
 
-fn layout_numbers() -> Vec<Vector> {
-    let mut vectors: Vec<Vector> = [0, 2, 256, 257, 65_535]
-        .into_iter()
-        .map(|layout| {
-            let name = format!("layout-{layout}");
-            Vector::edited(&name, Meant::Refused1, |book| {
-                book.set_header(Header::Layout, layout);
-            })
+fn layout_numbers() -> Vec<Edit> {
+    let edit = |layout| {
+        Edit::new(format!("layout-{layout}"), Meant::Refused1, move |book| {
+            book.set_header(Header::Layout, layout);
         })
-        .collect();
-    vectors.push(Vector::edited(
-        "layout-2-and-out-of-form",
-        Meant::Refused1,
-        |book| {
-            book.set_header(Header::Layout, 2);
-            book.set_header(Header::Zero, 1);
-        },
-    ));
-    vectors
+    };
+    [0, 2, 256, 257, 65_535].into_iter().map(edit).collect()
 }
 
 /// A fresh book of the wrong size, its length that of the sizes it names.
@@ -81,9 +74,9 @@ fn size_alone(name: &str, field: Header, value: u16) -> Vector {
 }
 
 /// The book after case d with the size changed and its length kept.
-fn size_in_place(name: &str, field: Header, value: u16) -> Vector {
+fn size_in_place(name: &str, field: Header, value: u16) -> Edit {
     let name = format!("{name}-{value}-in-place");
-    Vector::edited(&name, Meant::Refused1, |book| {
+    Edit::new(name, Meant::Refused1, move |book| {
         book.set_header(field, value);
     })
 }

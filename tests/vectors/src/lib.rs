@@ -1,6 +1,7 @@
-//! Books and other inputs that show each condition of form, the ends of each range and what
-//! runs of calls leave.
+//! Books and other inputs that show each condition of form and of audit, the ends of each
+//! range and what runs of calls leave.
 
+mod audit_edits;
 mod form_edits;
 mod form_slots;
 mod layout_edits;
@@ -8,12 +9,21 @@ mod runs;
 mod sized;
 mod vector;
 
-pub use vector::Vector;
+pub use vector::{edited, Edit, Vector};
+
+/// Changes of the book after case d.
+pub fn edits() -> Vec<Edit> {
+    let mut edits = layout_edits::edits();
+    edits.extend(form_edits::edits());
+    edits.extend(form_slots::edits());
+    edits.extend(audit_edits::edits().into_iter().map(|(edit, _)| edit));
+    edits
+}
 
 pub fn all() -> Vec<Vector> {
-    let mut vectors = layout_edits::vectors();
-    vectors.extend(form_edits::vectors());
-    vectors.extend(form_slots::vectors());
+    let mut vectors: Vec<Vector> = edits().iter().map(Edit::vector).collect();
+    vectors.extend(layout_edits::vectors());
+    vectors.extend(audit_edits::vectors());
     vectors.extend(sized::vectors());
     vectors.extend(runs::vectors());
     vectors

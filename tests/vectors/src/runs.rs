@@ -2,7 +2,7 @@
 
 use reference::prng::Prng;
 use reference::random_books::disturb;
-use reference::random_calls::after_run;
+use reference::random_calls::RandomCalls;
 
 use crate::vector::{Meant, Vector};
 
@@ -15,7 +15,7 @@ pub fn vectors() -> Vec<Vector> {
 }
 
 fn run(seed: u64) -> Vec<Vector> {
-    let stored = after_run(seed, CALLS);
+    let stored = RandomCalls::seeded(seed).run(CALLS);
     let mut prng = Prng::seeded(seed);
     let mut vectors = Vec::new();
     for number in 0..DISTURBED {

@@ -7,7 +7,7 @@ use reference::tally;
 pub type EditedBook<'a> = Book<&'a mut [u8]>;
 
 /// What the page must begin with, said apart from the code that works out the page.
-#[derive(Clone, Copy)]
+#[derive(Clone, Copy, PartialEq, Eq)]
 pub enum Meant {
     Totals,
     Refused1,
@@ -27,13 +27,6 @@ impl Vector {
         Vector { name, book, meant }
     }
 
-    /// The book after case d with an edit.
-    pub fn edited(name: &str, meant: Meant, edit: impl FnOnce(&mut EditedBook)) -> Self {
-        let mut book = cases::after_d().book;
-        edit(&mut Book::over(&mut book[..]));
-        Vector::new(name, book, meant)
-    }
-
     /// What tally must print; it must be of the kind meant.
     pub fn page(&self) -> Vec<u8> {
         let page = tally::page(&self.book);
@@ -46,4 +39,46 @@ impl Vector {
         assert!(page.starts_with(begins), "{}", self.name);
         page
     }
+}
+
+type Change = dyn Fn(&mut EditedBook) + Send + Sync;
+
+/// A change of the book after case d.
+pub struct Edit {
+    pub name: String,
+    meant: Meant,
+    change: Box<Change>,
+}
+
+impl Edit {
+    pub fn new(
+        name: impl Into<String>,
+        meant: Meant,
+        change: impl Fn(&mut EditedBook) + Send + Sync + 'static,
+    ) -> Self {
+        Edit {
+            name: name.into(),
+            meant,
+            change: Box::new(change),
+        }
+    }
+
+    /// Whether the book is no longer in form.
+    pub fn breaks_form(&self) -> bool {
+        matches!(self.meant, Meant::Refused1 | Meant::Refused2)
+    }
+
+    pub fn vector(&self) -> Vector {
+        Vector::new(self.name.clone(), edited(&[self]), self.meant)
+    }
+}
+
+/// The book after case d with these edits, one after the other.
+pub fn edited(edits: &[&Edit]) -> Vec<u8> {
+    let mut book = cases::after_d().book;
+    let mut view = Book::over(&mut book[..]);
+    for edit in edits {
+        (edit.change)(&mut view);
+    }
+    book
 }

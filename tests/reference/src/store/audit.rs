@@ -5,12 +5,37 @@ use std::collections::HashSet;
 use super::is_kept;
 use crate::layout::{Book, Header, Pbn, FREE, HELD, UNMAPPED, VOLUMES};
 
-pub(super) fn is_sound(book: &Book<&[u8]>) -> bool {
-    maps_are_replayed(book)
-        && counts_are_cells(book)
-        && expiries_are_largest(book)
-        && held_fingerprints_differ(book)
-        && (0..VOLUMES).all(|volume| named_blocks_are_held(book, volume))
+/// What may be wrong with a book in form.
+#[derive(Clone, Copy, Debug, PartialEq, Eq, PartialOrd, Ord)]
+pub enum Fault {
+    /// The maps aren't the records replayed, or a before isn't the cell that it replaces.
+    Replay,
+    Count,
+    Expiry,
+    /// Two held blocks have one fingerprint.
+    Fingerprint,
+    /// A current map or a kept backup names a free block.
+    FreeButNamed,
+}
+
+impl Fault {
+    pub const ALL: [Fault; 5] = [
+        Fault::Replay,
+        Fault::Count,
+        Fault::Expiry,
+        Fault::Fingerprint,
+        Fault::FreeButNamed,
+    ];
+
+    pub(super) fn is_in(self, book: &Book<&[u8]>) -> bool {
+        !match self {
+            Fault::Replay => maps_are_replayed(book),
+            Fault::Count => counts_are_cells(book),
+            Fault::Expiry => expiries_are_largest(book),
+            Fault::Fingerprint => held_fingerprints_differ(book),
+            Fault::FreeButNamed => (0..VOLUMES).all(|volume| named_blocks_are_held(book, volume)),
+        }
+    }
 }
 
 /// The maps are the records replayed in order, each before the cell that it replaces.

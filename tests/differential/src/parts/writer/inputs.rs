@@ -1,16 +1,9 @@
-//! Random calls of the writer: mostly sound, some with wrong inputs, outputs of any length.
+//! Random inputs of the writer: mostly sound, some wrong, outputs of any length.
 
 use reference::change_list::{list_bytes, write};
 use reference::prng::Prng;
-use reference::refusal::Refusal;
 
-pub struct Case {
-    pub lbns: u16,
-    pub marks: Vec<u8>,
-    pub fingerprints: Vec<u8>,
-    pub image: Vec<u8>,
-    pub output: Vec<u8>,
-}
+use crate::request::WriteList;
 
 fn random_bytes(prng: &mut Prng, length: usize) -> Vec<u8> {
     let mut bytes = vec![0; length];
@@ -18,7 +11,7 @@ fn random_bytes(prng: &mut Prng, length: usize) -> Vec<u8> {
     bytes
 }
 
-impl Case {
+impl WriteList {
     pub fn random(prng: &mut Prng) -> Self {
         let lbns = match prng.below(100) {
             0 => prng.pick(&[1_023, 1_024]),
@@ -28,31 +21,33 @@ impl Case {
             _ => prng.between(1, 40),
         };
         let number = usize::from(lbns);
-        let mut case = Case {
+        let mut input = WriteList {
             lbns,
             marks: random_marks(prng, number),
-            fingerprints: random_bytes(prng, 16 * number),
+            prints: random_bytes(prng, 16 * number),
             image: random_bytes(prng, 512 * number),
             output: Vec::new(),
         };
         if prng.once_in(6) {
-            case.spoil(prng);
+            input.spoil(prng);
         }
-        let room = case.room(prng);
-        case.output = random_bytes(prng, room);
-        case
+        let room = input.room(prng);
+        input.output = random_bytes(prng, room);
+        input
     }
 
-    /// What the reference answers, writing to `output`.
-    pub fn expected(&self, output: &mut [u8]) -> Result<u32, Refusal> {
-        let Case {
-            lbns,
-            marks,
-            fingerprints,
-            image,
-            ..
-        } = self;
-        write(*lbns, marks, fingerprints, image, output)
+    /// How long its list is; 2 where there is none.
+    fn exact(&self) -> usize {
+        let marks = self.marks.len();
+        let mut output = vec![0; list_bytes(marks, marks)];
+        let written = write(
+            self.lbns,
+            &self.marks,
+            &self.prints,
+            &self.image,
+            &mut output,
+        );
+        written.unwrap_or(2) as usize
     }
 
     /// A bad mark, a wrong length or another number of blocks.
@@ -68,7 +63,7 @@ impl Case {
                 return;
             }
             3 => &mut self.marks,
-            4 | 5 => &mut self.fingerprints,
+            4 | 5 => &mut self.prints,
             _ => &mut self.image,
         };
         match prng.below(5) {
@@ -82,8 +77,7 @@ impl Case {
 
     /// An output's length: too short, exact or longer.
     fn room(&self, prng: &mut Prng) -> usize {
-        let most = list_bytes(self.marks.len(), self.marks.len());
-        let exact = self.expected(&mut vec![0; most]).unwrap_or(2) as usize;
+        let exact = self.exact();
         match prng.below(10) {
             0 => prng.index(exact),
             1 => exact - 1,
@@ -95,8 +89,14 @@ impl Case {
     }
 }
 
-/// Marks that are all 0, all 1, dense, sparse or in long runs.
+/// Marks that are all 0, all 1, every second one, dense, sparse or in long runs.
 fn random_marks(prng: &mut Prng, number: usize) -> Vec<u8> {
+    match prng.below(12) {
+        0 => return vec![0; number],
+        1 => return vec![1; number],
+        2 => return (0..number).map(|lbn| (lbn % 2) as u8).collect(),
+        _ => {}
+    }
     let (first, change_once_in) = (prng.once_in(2), prng.pick(&[1, 2, 4, 12, 5_000]));
     let mut mark = first;
     (0..number)

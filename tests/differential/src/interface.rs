@@ -1,0 +1,121 @@
+//! The functions of `include/aspen.h` on both sides: the archives', and the reference's.
+
+use reference_c::{
+    reference_audit, reference_backup, reference_collect, reference_enrol, reference_form,
+    reference_format, reference_read, reference_write_list,
+};
+
+type Format = unsafe extern "C" fn(*mut u8, usize, u16, u16, u16, u16) -> u16;
+type Enrol = unsafe extern "C" fn(*mut u8, usize, u16, u16) -> u16;
+type Backup = unsafe extern "C" fn(
+    book: *mut u8,
+    book_len: usize,
+    pool: *mut u8,
+    pool_len: usize,
+    spare: *mut u8,
+    spare_len: usize,
+    volume: u16,
+    day: u16,
+    list: *const u8,
+    list_len: usize,
+    number: *mut u16,
+    taken: *mut u16,
+    touched: *mut u16,
+) -> u16;
+type Collect = unsafe extern "C" fn(*mut u8, usize, u16, *mut u16) -> u16;
+type Read =
+    unsafe extern "C" fn(*const u8, usize, *const u8, usize, u16, u16, u16, *mut u32) -> u16;
+type Audit = unsafe extern "C" fn(*const u8, usize, *mut u16) -> u16;
+type Form = unsafe extern "C" fn(*const u8, usize) -> u16;
+type WriteList = unsafe extern "C" fn(
+    l: u16,
+    marks: *const u8,
+    marks_len: usize,
+    prints: *const u8,
+    prints_len: usize,
+    image: *const u8,
+    image_len: usize,
+    list: *mut u8,
+    list_len: usize,
+    written: *mut u32,
+) -> u16;
+
+pub struct Interface {
+    pub format: Format,
+    pub enrol: Enrol,
+    pub backup: Backup,
+    pub collect: Collect,
+    pub read: Read,
+    pub audit: Audit,
+    pub form: Form,
+    pub write_list: WriteList,
+}
+
+mod archive {
+    unsafe extern "C" {
+        pub fn aspen_format(book: *mut u8, len: usize, n: u16, l: u16, s: u16, j: u16) -> u16;
+        pub fn aspen_enrol(book: *mut u8, len: usize, volume: u16, retention: u16) -> u16;
+        pub fn aspen_backup(
+            book: *mut u8,
+            book_len: usize,
+            pool: *mut u8,
+            pool_len: usize,
+            spare: *mut u8,
+            spare_len: usize,
+            volume: u16,
+            day: u16,
+            list: *const u8,
+            list_len: usize,
+            number: *mut u16,
+            taken: *mut u16,
+            touched: *mut u16,
+        ) -> u16;
+        pub fn aspen_collect(book: *mut u8, len: usize, day: u16, freed: *mut u16) -> u16;
+        pub fn aspen_read(
+            book: *const u8,
+            book_len: usize,
+            pool: *const u8,
+            pool_len: usize,
+            volume: u16,
+            number: u16,
+            lbn: u16,
+            at: *mut u32,
+        ) -> u16;
+        pub fn aspen_audit(book: *const u8, len: usize, sound: *mut u16) -> u16;
+        pub fn aspen_form(book: *const u8, len: usize) -> u16;
+        pub fn aspen_write_list(
+            l: u16,
+            marks: *const u8,
+            marks_len: usize,
+            prints: *const u8,
+            prints_len: usize,
+            image: *const u8,
+            image_len: usize,
+            list: *mut u8,
+            list_len: usize,
+            written: *mut u32,
+        ) -> u16;
+    }
+}
+
+pub const ARCHIVE: Interface = Interface {
+    format: archive::aspen_format,
+    enrol: archive::aspen_enrol,
+    backup: archive::aspen_backup,
+    collect: archive::aspen_collect,
+    read: archive::aspen_read,
+    audit: archive::aspen_audit,
+    form: archive::aspen_form,
+    write_list: archive::aspen_write_list,
+};
+
+pub const REFERENCE: Interface = Interface {
+    format: reference_format,
+    enrol: reference_enrol,
+    backup: reference_backup,
+    collect: reference_collect,
+    read: reference_read,
+    audit: reference_audit,
+    form: reference_form,
+    write_list: reference_write_list,
+};

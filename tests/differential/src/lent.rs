@@ -1,0 +1,121 @@
+//! What one call is lent: guarded copies of its buffers, and numbers for its answers.
+
+use reference::call::Call;
+use reference::layout::Sizes;
+use reference::prng::Prng;
+
+use crate::guarded::{Answered, Guarded};
+use crate::interface::Interface;
+use crate::seen::Seen;
+
+/// The answers of four bytes.
+pub const PLACE: &str = "the block's place";
+pub const LENGTH: &str = "the list's length";
+
+pub struct Lent {
+    buffers: Vec<(&'static str, Guarded)>,
+    narrow: [Answered<u16>; 3],
+    wide: Answered<u32>,
+}
+
+impl Lent {
+    pub fn new(prng: &mut Prng, buffers: &[(&'static str, &[u8])]) -> Self {
+        let buffers = buffers.iter();
+        Lent {
+            buffers: buffers
+                .map(|(name, content)| (*name, Guarded::new(prng, content)))
+                .collect(),
+            narrow: std::array::from_fn(|_| Answered::new()),
+            wide: Answered::wide(),
+        }
+    }
+
+    fn part(&mut self, index: usize) -> (*mut u8, usize) {
+        let buffer = &mut self.buffers[index].1;
+        (buffer.mut_pointer(), buffer.length())
+    }
+
+    fn answer(&mut self, index: usize) -> *mut u16 {
+        self.narrow[index].mut_pointer()
+    }
+
+    pub fn format(&mut self, side: &Interface, sizes: Sizes) -> u16 {
+        let (book, length) = self.part(0);
+        let (n, l) = (sizes.blocks, sizes.lbns);
+        // SAFETY: the buffer is as long as said.
+        unsafe { (side.format)(book, length, n, l, sizes.slots, sizes.records) }
+    }
+
+    pub fn form(&mut self, side: &Interface) -> u16 {
+        let (book, length) = self.part(0);
+        // SAFETY: the buffer is as long as said.
+        unsafe { (side.form)(book, length) }
+    }
+
+    pub fn call(&mut self, side: &Interface, call: &Call) -> u16 {
+        let (book, length) = self.part(0);
+        // SAFETY: the buffer is as long as said, and the answer is a lent number.
+        unsafe {
+            match *call {
+                Call::Enrol { volume, retention } => (side.enrol)(book, length, volume, retention),
+                Call::Backup { volume, day, .. } => self.backup(side, volume, day),
+                Call::Collect { day } => (side.collect)(book, length, day, self.answer(0)),
+                Call::Read {
+                    volume,
+                    number,
+                    lbn,
+                } => self.read(side, volume, number, lbn),
+                Call::Audit => (side.audit)(book, length, self.answer(0)),
+            }
+        }
+    }
+
+    fn backup(&mut self, side: &Interface, volume: u16, day: u16) -> u16 {
+        let [book, pool, spare, list] = std::array::from_fn(|index| self.part(index));
+        let [number, taken, touched] = std::array::from_fn(|index| self.answer(index));
+        // SAFETY: the buffers are apart and as long as said, and the answers are lent numbers.
+        unsafe {
+            (side.backup)(
+                book.0, book.1, pool.0, pool.1, spare.0, spare.1, volume, day, list.0, list.1,
+                number, taken, touched,
+            )
+        }
+    }
+
+    fn read(&mut self, side: &Interface, volume: u16, number: u16, lbn: u16) -> u16 {
+        let [book, pool] = std::array::from_fn(|index| self.part(index));
+        let at = self.wide.mut_pointer();
+        // SAFETY: the buffers are apart and as long as said, and `at` is a lent number.
+        unsafe { (side.read)(book.0, book.1, pool.0, pool.1, volume, number, lbn, at) }
+    }
+
+    pub fn write_list(&mut self, side: &Interface, lbns: u16) -> u16 {
+        let [marks, prints, image, list] = std::array::from_fn(|index| self.part(index));
+        let written = self.wide.mut_pointer();
+        // SAFETY: the buffers are apart and as long as said, and `written` is a lent number.
+        unsafe {
+            (side.write_list)(
+                lbns, marks.0, marks.1, prints.0, prints.1, image.0, image.1, list.0, list.1,
+                written,
+            )
+        }
+    }
+
+    /// What the caller sees; fails if a number beside an answer was written.
+    pub fn seen(self, number: u16, answers: &[&'static str]) -> Result<Seen, String> {
+        let wide = self.wide.value()?;
+        let mut values = Vec::new();
+        for (name, narrow) in answers.iter().zip(&self.narrow) {
+            let value = match *name {
+                PLACE | LENGTH => wide,
+                _ => narrow.value()?,
+            };
+            values.push((*name, value));
+        }
+        Ok(Seen {
+            number,
+            answers: values,
+            buffers: self.buffers,
+        })
+    }
+}

@@ -1,0 +1,95 @@
+//! Every call on books that no run leaves: the vectors, and each two edits of a book at once.
+
+use std::sync::LazyLock;
+
+use reference::call::{Call, Stored};
+use reference::cases;
+use reference::layout::BLOCK_BYTES;
+use reference::prng::Prng;
+use vectors::{edited, Edit, Vector};
+
+use super::Job;
+use crate::outcome::Outcome;
+use crate::request::Request;
+
+/// The jobs of a part; each takes its share of the books, which are made when the first is asked for.
+const JOBS: usize = 50;
+
+fn share<T>(all: &[T], job: usize) -> impl Iterator<Item = &T> {
+    all.iter().skip(job).step_by(JOBS)
+}
+
+/// Each vector.
+pub fn vectors() -> Vec<Job> {
+    static VECTORS: LazyLock<Vec<Vector>> = LazyLock::new(vectors::all);
+    let job = |job| {
+        Job::new("vectors", move |outcome| {
+            for vector in share(&VECTORS, job) {
+                let label = || format!("vector {}", vector.name);
+                send_all(outcome, &label, &vector.book);
+            }
+        })
+    };
+    (0..JOBS).map(job).collect()
+}
+
+/// Each two edits that break form, made at once.
+pub fn pairs() -> Vec<Job> {
+    static EDITS: LazyLock<Vec<Edit>> = LazyLock::new(|| {
+        let mut edits = vectors::edits();
+        edits.retain(Edit::breaks_form);
+        edits
+    });
+    let job = |job| {
+        Job::new("pairs of broken conditions", move |outcome| {
+            for (index, second) in EDITS.iter().enumerate() {
+                for first in share(&EDITS[..index], job) {
+                    let label = || format!("edits {} and {}", first.name, second.name);
+                    send_all(outcome, &label, &edited(&[first, second]));
+                }
+            }
+        })
+    };
+    (0..JOBS).map(job).collect()
+}
+
+/// Calls that the book after case d accepts.
+fn calls() -> Vec<Call> {
+    let mut calls = vec![
+        Call::Enrol {
+            volume: 2,
+            retention: 5,
+        },
+        cases::backup(0, 60_000, &[]),
+        cases::backup(0, 60_000, &[(0, "X")]),
+        Call::Collect { day: 60_000 },
+        Call::Audit,
+    ];
+    calls.extend((1..3).map(|number| Call::Read {
+        volume: 0,
+        number,
+        lbn: 0,
+    }));
+    calls
+}
+
+/// The box of a book, with a pool and a spare of the lengths that it asks for.
+fn with_book(book: Vec<u8>) -> Stored {
+    let blocks = book
+        .get(2..4)
+        .map_or(0, |two| u16::from_le_bytes([two[0], two[1]]));
+    Stored {
+        pool: vec![0; BLOCK_BYTES * usize::from(blocks)],
+        spare: book.clone(),
+        book,
+    }
+}
+
+fn send_all(outcome: &mut Outcome, label: &dyn Fn() -> String, book: &[u8]) {
+    let mut prng = Prng::seeded(0);
+    let stored = &with_book(book.to_vec());
+    for call in &calls() {
+        outcome.compare(&mut prng, label, Request::Call { stored, call });
+    }
+    outcome.compare(&mut prng, label, Request::Form { book });
+}

@@ -1,0 +1,140 @@
+//! The order of the checks: each call with every set of faults at once is refused by the lowest.
+
+use reference::call::{Call, Stored};
+use reference::cases;
+use reference::layout::{Book, Header, Pbn};
+use reference::prng::Prng;
+use reference::store;
+
+use super::Job;
+use crate::outcome::Outcome;
+use crate::request::Request;
+use crate::seen::equal;
+
+/// The numbers that each call is tried with; the faults of a set go together.
+const BACKUP: &[u16] = &[1, 2, 3, 4, 5, 7, 8, 9, 10, 11, 13, 14];
+const READ: &[u16] = &[1, 2, 3, 5, 15, 16, 17, 18];
+const ENROL: &[u16] = &[1, 2, 5, 6];
+const COLLECT: &[u16] = &[1, 2, 7];
+
+type Make = fn(&Faults) -> Call;
+
+pub fn jobs() -> Vec<Job> {
+    let calls: [(&[u16], Make); 4] = [
+        (BACKUP, Faults::backup),
+        (READ, Faults::read),
+        (ENROL, Faults::enrol),
+        (COLLECT, Faults::collect),
+    ];
+    let job = |(numbers, make)| Job::new("sets of faults", move |o| send_sets(o, numbers, make));
+    calls.into_iter().map(job).collect()
+}
+
+fn send_sets(outcome: &mut Outcome, numbers: &[u16], make: Make) {
+    let mut prng = Prng::seeded(0);
+    for set in 0..1u32 << numbers.len() {
+        let chosen = numbers.iter().enumerate();
+        let chosen = chosen.filter(|(bit, _)| set >> bit & 1 == 1);
+        let faults = Faults(chosen.map(|(_, number)| *number).collect());
+        let (stored, call) = (&faults.stored(), &make(&faults));
+        let label = || format!("faults {:?}", faults.0);
+        let Some(seen) = outcome.compare(&mut prng, &label, Request::Call { stored, call }) else {
+            return;
+        };
+        let lowest = faults.0.first().copied().unwrap_or(0);
+        outcome.check(&label, equal("the lowest number", seen.number, lowest));
+    }
+}
+
+/// Numbers in order, each for a fault in the arguments of a call on the box after case d.
+struct Faults(Vec<u16>);
+
+impl Faults {
+    fn has(&self, number: u16) -> bool {
+        self.0.contains(&number)
+    }
+
+    fn either<T>(&self, number: u16, faulty: T, sound: T) -> T {
+        match self.has(number) {
+            true => faulty,
+            false => sound,
+        }
+    }
+
+    fn stored(&self) -> Stored {
+        let mut stored = cases::after_d();
+        if self.has(9) {
+            use_all_slots(&mut stored);
+        }
+        let mut book = Book::over(&mut stored.book[..]);
+        if self.has(11) {
+            stored.pool[Pbn(2).pool_range()].fill(0);
+        }
+        if self.has(13) {
+            book.edit_entry(Pbn(1), |entry| entry.count = 0);
+        }
+        if self.has(14) {
+            book.edit_entry(Pbn(2), |entry| entry.count = 255);
+        }
+        if self.has(16) {
+            book.set_header(Header::Day, 13);
+        }
+        if self.has(2) {
+            book.set_header(Header::Zero, 1);
+        }
+        if self.has(1) {
+            book.set_header(Header::Layout, 0);
+        }
+        if self.has(3) {
+            stored.pool.pop();
+        }
+        if self.has(4) {
+            stored.spare.pop();
+        }
+        stored
+    }
+
+    /// C is block 2, and volume 1 has block 1 at LBN 3.
+    fn backup(&self) -> Call {
+        let mut list = cases::list(self.either(10, &[(0, "CCCC")], &[(3, "C")]));
+        if self.has(8) {
+            list.push(0);
+        }
+        Call::Backup {
+            volume: self.either(5, 8, 1),
+            day: self.either(7, 60_001, 11),
+            list,
+        }
+    }
+
+    /// Volume 1's backup 1 is kept to day 12, and its newest one has a block at LBN 3 alone.
+    fn read(&self) -> Call {
+        Call::Read {
+            volume: self.either(5, 2, 1),
+            number: self.either(15, 0, self.either(16, 1, 2)),
+            lbn: self.either(17, 4, self.either(18, 0, 3)),
+        }
+    }
+
+    fn enrol(&self) -> Call {
+        Call::Enrol {
+            volume: self.either(5, 1, 2),
+            retention: self.either(6, 0, 5),
+        }
+    }
+
+    fn collect(&self) -> Call {
+        Call::Collect {
+            day: self.either(7, 8, 20),
+        }
+    }
+}
+
+/// Uses the slots that are left by backups without changes.
+fn use_all_slots(stored: &mut Stored) {
+    for (volume, day) in [(0, 9), (1, 10)] {
+        let Stored { book, pool, spare } = stored;
+        let result = store::backup(book, pool, spare, volume, day, &[0, 0]);
+        result.expect("two slots are free");
+    }
+}

@@ -1,0 +1,104 @@
+//! Each buffer of each call with lengths around the right one.
+
+use reference::call::{Call, Stored};
+use reference::cases;
+use reference::prng::Prng;
+
+use super::Job;
+use crate::outcome::Outcome;
+use crate::request::{Request, WriteList};
+
+const PART: &str = "wrong lengths";
+
+/// Lengths beside the right one, and far from it.
+fn lengths(right: usize) -> Vec<usize> {
+    let near = [right - 1, right, right + 1, right + 512];
+    let far = [0, 1, 2, 19, 20, right / 2, 2 * right];
+    near.into_iter().chain(far).collect()
+}
+
+pub fn jobs() -> Vec<Job> {
+    let box_jobs = (0..4).map(|buffer| Job::new(PART, move |o| send_box(o, buffer)));
+    let writer_jobs = (0..4).map(|buffer| Job::new(PART, move |o| send_writer(o, buffer)));
+    box_jobs.chain(writer_jobs).collect()
+}
+
+fn resized(bytes: &[u8], length: usize) -> Vec<u8> {
+    let mut bytes = bytes.to_vec();
+    bytes.resize(length, 0);
+    bytes
+}
+
+/// Calls on the box after case d, with book, pool, spare or list resized.
+fn send_box(outcome: &mut Outcome, buffer: usize) {
+    let mut prng = Prng::seeded(0);
+    let box_after_d = cases::after_d();
+    let list = cases::list(&[(0, "X"), (2, "A")]);
+    let buffers = [
+        &box_after_d.book,
+        &box_after_d.pool,
+        &box_after_d.spare,
+        &list,
+    ];
+    for length in lengths(buffers[buffer].len()) {
+        let mut sent = buffers.map(Vec::clone);
+        sent[buffer] = resized(buffers[buffer], length);
+        let [book, pool, spare, list] = sent;
+        let label = || format!("lengths, buffer {buffer} of {length} bytes");
+        outcome.compare(&mut prng, &label, Request::Form { book: &book });
+        let request = Request::Format {
+            book: &book,
+            sizes: cases::SIZES,
+        };
+        outcome.compare(&mut prng, &label, request);
+        let stored = &Stored { book, pool, spare };
+        for call in &calls(list) {
+            outcome.compare(&mut prng, &label, Request::Call { stored, call });
+        }
+    }
+}
+
+/// Each call, as the box after case d accepts it.
+fn calls(list: Vec<u8>) -> [Call; 5] {
+    [
+        Call::Enrol {
+            volume: 7,
+            retention: 1,
+        },
+        Call::Backup {
+            volume: 1,
+            day: 10,
+            list,
+        },
+        Call::Collect { day: 19 },
+        Call::Read {
+            volume: 0,
+            number: 1,
+            lbn: 0,
+        },
+        Call::Audit,
+    ]
+}
+
+/// The aid's writer with marks, fingerprints, image or output resized.
+fn send_writer(outcome: &mut Outcome, buffer: usize) {
+    let mut prng = Prng::seeded(0);
+    let marks = vec![1, 0, 1, 1, 0];
+    let (prints, image) = (vec![7; 16 * 5], vec![8; 512 * 5]);
+    let output = vec![9; reference::change_list::list_bytes(2, 3)];
+    let buffers = [&marks, &prints, &image, &output];
+    for length in lengths(buffers[buffer].len()) {
+        let mut sent = buffers.map(Vec::clone);
+        sent[buffer] = resized(buffers[buffer], length);
+        let [marks, prints, image, output] = sent;
+        let input = WriteList {
+            lbns: 5,
+            marks,
+            prints,
+            image,
+            output,
+        };
+        let label = || format!("lengths, the writer's buffer {buffer} of {length} bytes");
+        outcome.compare(&mut prng, &label, Request::WriteList(&input));
+    }
+}

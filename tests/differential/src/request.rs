@@ -1,0 +1,105 @@
+//! A call with all that is handed over, and the sending of it to one side.
+
+use reference::call::{Call, Stored};
+use reference::layout::Sizes;
+use reference::prng::Prng;
+
+use crate::interface::Interface;
+use crate::lent::{Lent, LENGTH, PLACE};
+use crate::seen::{Seen, SPARE};
+
+/// The inputs of the aid's writer.
+pub struct WriteList {
+    pub lbns: u16,
+    pub marks: Vec<u8>,
+    pub prints: Vec<u8>,
+    pub image: Vec<u8>,
+    pub output: Vec<u8>,
+}
+
+#[derive(Clone, Copy)]
+pub enum Request<'a> {
+    Format { book: &'a [u8], sizes: Sizes },
+    Form { book: &'a [u8] },
+    Call { stored: &'a Stored, call: &'a Call },
+    WriteList(&'a WriteList),
+}
+
+/// The names of the calls, in the order of the coverage table.
+pub const NAMES: [&str; 8] = [
+    "format",
+    "enrol",
+    "backup",
+    "collect",
+    "read",
+    "audit",
+    "form",
+    "write_list",
+];
+
+type Sent<'a> = Vec<(&'static str, &'a [u8])>;
+
+impl<'a> Request<'a> {
+    pub fn name(&self) -> &'static str {
+        match self {
+            Request::Format { .. } => "format",
+            Request::Form { .. } => "form",
+            Request::Call { call, .. } => match call {
+                Call::Enrol { .. } => "enrol",
+                Call::Backup { .. } => "backup",
+                Call::Collect { .. } => "collect",
+                Call::Read { .. } => "read",
+                Call::Audit => "audit",
+            },
+            Request::WriteList(_) => "write_list",
+        }
+    }
+
+    /// The buffers that the call takes, in order.
+    pub fn buffers(&self) -> Sent<'a> {
+        match *self {
+            Request::Format { book, .. } | Request::Form { book } => vec![("the book", book)],
+            Request::Call { stored, call } => {
+                let mut buffers: Sent = vec![("the book", &stored.book)];
+                if matches!(call, Call::Read { .. } | Call::Backup { .. }) {
+                    buffers.push(("the pool", &stored.pool));
+                }
+                if let Call::Backup { list, .. } = call {
+                    buffers.push((SPARE, &stored.spare));
+                    buffers.push(("the list", list));
+                }
+                buffers
+            }
+            Request::WriteList(input) => vec![
+                ("the marks", &input.marks),
+                ("the fingerprints", &input.prints),
+                ("the image", &input.image),
+                ("the output", &input.output),
+            ],
+        }
+    }
+
+    /// Lends copies of the buffers to one side's function.
+    pub fn send(&self, prng: &mut Prng, side: &Interface) -> Result<Seen, String> {
+        let mut lent = Lent::new(prng, &self.buffers());
+        let number = match *self {
+            Request::Format { sizes, .. } => lent.format(side, sizes),
+            Request::Form { .. } => lent.form(side),
+            Request::Call { call, .. } => lent.call(side, call),
+            Request::WriteList(input) => lent.write_list(side, input.lbns),
+        };
+        lent.seen(number, self.answers())
+    }
+
+    /// What the call answers, in order.
+    fn answers(&self) -> &'static [&'static str] {
+        match self.name() {
+            "backup" => &["the backup's number", "taken", "touched"],
+            "collect" => &["freed"],
+            "audit" => &["the audit's answer"],
+            "read" => &[PLACE],
+            "write_list" => &[LENGTH],
+            _ => &[],
+        }
+    }
+}

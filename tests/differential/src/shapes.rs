@@ -1,0 +1,93 @@
+//! What the calls that were compared came upon, each with a count: a shape that never came is a
+//! hole in the tests.
+
+mod backup;
+mod buffers;
+mod others;
+mod writer;
+
+use std::collections::BTreeMap;
+
+use reference::call::Call;
+
+use crate::request::Request;
+use crate::seen::Seen;
+
+/// The shapes that a call may have, each with whether it has it.
+type Shape = (&'static str, bool);
+
+#[derive(Default)]
+pub struct Shapes(BTreeMap<(&'static str, &'static str), u64>);
+
+impl Shapes {
+    fn count(&mut self, call: &'static str, shapes: impl IntoIterator<Item = Shape>) {
+        for (name, has) in shapes {
+            *self.0.entry((call, name)).or_default() += u64::from(has);
+        }
+    }
+
+    /// Counts the shapes of a call that both sides agreed on.
+    pub fn note(&mut self, request: &Request, seen: &Seen) {
+        match *request {
+            Request::Format { sizes, .. } if seen.number == 0 => {
+                self.count("format", others::format(sizes));
+            }
+            Request::WriteList(input) => {
+                self.count("write_list", writer::Written::new(input, seen).shapes());
+            }
+            Request::Call { stored, call } => {
+                let buffers = buffers::Buffers::new(stored, call);
+                self.count("buffers", buffers.shapes(seen.number));
+                // Past these numbers book, buffers and volume are as the call asks.
+                match seen.number {
+                    1..=4 => {}
+                    5 if !matches!(call, Call::Enrol { .. }) => {}
+                    _ => self.note_call(&stored.book, &stored.pool, call, seen),
+                }
+            }
+            _ => {}
+        }
+    }
+
+    fn note_call(&mut self, book: &[u8], pool: &[u8], call: &Call, seen: &Seen) {
+        match call {
+            Call::Backup { volume, day, list } => {
+                let backup = backup::Backup::new(book, (*volume, *day), list, seen);
+                self.count("backup", backup.accepted_shapes());
+                self.count("backup", backup.refused_shapes(pool));
+            }
+            Call::Collect { day } => {
+                self.count("collect", others::Collect::new(book, *day, seen).shapes());
+            }
+            Call::Read {
+                volume,
+                number,
+                lbn,
+            } => {
+                let read = others::Read::new(book, *volume, *number, *lbn);
+                self.count("read", read.shapes(seen.number));
+            }
+            Call::Enrol { volume, retention } => {
+                self.count("enrol", others::enrol(*volume, *retention, seen.number));
+            }
+            Call::Audit => self.count("audit", others::audit(book)),
+        }
+    }
+
+    pub fn merge(&mut self, other: &Shapes) {
+        for (shape, times) in &other.0 {
+            *self.0.entry(*shape).or_default() += times;
+        }
+    }
+
+    /// Prints how often each came; gives those that never did.
+    pub fn report(&self) -> Vec<String> {
+        for ((call, name), times) in &self.0 {
+            println!("{times:>9}  {call}: {name}");
+        }
+        let missing = self.0.iter().filter(|(_, times)| **times == 0);
+        missing
+            .map(|((call, name), _)| format!("{call}: {name}"))
+            .collect()
+    }
+}

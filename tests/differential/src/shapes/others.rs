@@ -1,0 +1,146 @@
+//! Shapes of the other calls of the box.
+
+use reference::layout::{Book, Header, Lbn, Sizes, Slot, DAY_MAX, HELD};
+use reference::store::{self, Fault};
+
+use super::Shape;
+use crate::seen::Seen;
+
+pub struct Collect {
+    day: u16,
+    day_before: u16,
+    number: u16,
+    freed: usize,
+    /// The expiries of held blocks with count 0.
+    waiting: Vec<u16>,
+}
+
+impl Collect {
+    pub fn new(book: &[u8], day: u16, seen: &Seen) -> Self {
+        let view = Book::over(book);
+        let entries = view.pbns().map(|pbn| view.entry(pbn));
+        let waiting = entries.filter(|entry| entry.state == HELD && entry.count == 0);
+        Collect {
+            day,
+            day_before: view.header(Header::Day),
+            number: seen.number,
+            freed: seen.answers[0].1.unwrap_or(0) as usize,
+            waiting: waiting.map(|entry| entry.expiry).collect(),
+        }
+    }
+
+    pub fn shapes(&self) -> [Shape; 10] {
+        let (accepted, refused) = (self.number == 0, self.number == 7);
+        let (day, before, freed) = (self.day, self.day_before, self.freed);
+        let waiting = self.waiting.len();
+        let expired_on = |day: Option<u16>| day.is_some_and(|day| self.waiting.contains(&day));
+        let on_its_day = accepted && expired_on(Some(day));
+        let day_after = accepted && expired_on(day.checked_sub(1));
+        [
+            ("frees one", freed == 1),
+            ("frees several", freed > 1),
+            ("frees some and leaves some", freed > 0 && freed < waiting),
+            (
+                "frees none of those that wait",
+                accepted && freed == 0 && waiting > 0,
+            ),
+            ("a block waits on its day of expiry", on_its_day),
+            ("a block is freed on the day after", day_after),
+            ("the day stays", accepted && day == before),
+            ("the day goes on", accepted && day > before),
+            (
+                "refused for a day before the book's",
+                refused && day < before,
+            ),
+            ("refused for a day above 60,000", refused && day > DAY_MAX),
+        ]
+    }
+}
+
+pub struct Read {
+    newest: bool,
+    /// Whether a later backup has a record of the LBN.
+    by_record: bool,
+    /// How many days are left until the backup isn't kept.
+    days_left: Option<i32>,
+}
+
+impl Read {
+    pub fn new(book: &[u8], volume: u16, number: u16, lbn: u16) -> Self {
+        let view = Book::over(book);
+        let slots = view.used_slots_of(volume as u8);
+        let later = slots.get(usize::from(number)..).unwrap_or(&[]);
+        let mut records = later.iter().flat_map(Slot::records);
+        let days_left = later.first().map(|next| {
+            let last = i32::from(next.day) + i32::from(view.retention(volume as u8));
+            last - i32::from(view.header(Header::Day))
+        });
+        Read {
+            newest: usize::from(number) == slots.len(),
+            by_record: records.any(|index| view.record(index).lbn == Lbn(lbn)),
+            days_left,
+        }
+    }
+
+    pub fn shapes(&self, refusal: u16) -> [Shape; 7] {
+        let (found, by_record) = (refusal == 0, self.by_record);
+        let older_by_map = found && !self.newest && !by_record;
+        let day_after = refusal == 16 && self.days_left == Some(-1);
+        [
+            ("the newest backup", found && self.newest),
+            ("an older one, by a record", found && by_record),
+            ("an older one, by the map", older_by_map),
+            ("on the last day kept", found && self.days_left == Some(0)),
+            ("refused on the day after", day_after),
+            ("unmapped by a record", refusal == 18 && by_record),
+            ("unmapped by the map", refusal == 18 && !by_record),
+        ]
+    }
+}
+
+pub fn enrol(volume: u16, days: u16, number: u16) -> [Shape; 8] {
+    let accepted = number == 0;
+    [
+        ("1 day", accepted && days == 1),
+        ("2 to 99 days", accepted && (2..100).contains(&days)),
+        (
+            "100 to 4,999 days",
+            accepted && (100..5_000).contains(&days),
+        ),
+        ("5,000 days", accepted && days == 5_000),
+        ("0 days", number == 6 && days == 0),
+        ("5,001 days", number == 6 && days == 5_001),
+        ("volume 8", number == 5 && volume == 8),
+        ("a volume that is enrolled", number == 5 && volume < 8),
+    ]
+}
+
+pub fn audit(book: &[u8]) -> [Shape; 7] {
+    let faults = store::faults(book).expect("a book in form");
+    let alone = |fault| faults == [fault];
+    [
+        ("yes", faults.is_empty()),
+        ("no, by the replay alone", alone(Fault::Replay)),
+        ("no, by a count alone", alone(Fault::Count)),
+        ("no, by an expiry alone", alone(Fault::Expiry)),
+        ("no, by a fingerprint alone", alone(Fault::Fingerprint)),
+        ("no, by a freed block alone", alone(Fault::FreeButNamed)),
+        ("no, by several", faults.len() > 1),
+    ]
+}
+
+pub fn format(sizes: Sizes) -> [Shape; 10] {
+    let bytes = sizes.book_bytes();
+    [
+        ("1 block", sizes.blocks == 1),
+        ("4,096 blocks", sizes.blocks == 4_096),
+        ("1 LBN", sizes.lbns == 1),
+        ("1,024 LBNs", sizes.lbns == 1_024),
+        ("1 slot", sizes.slots == 1),
+        ("1,024 slots", sizes.slots == 1_024),
+        ("1 record", sizes.records == 1),
+        ("16,384 records", sizes.records == 16_384),
+        ("all of them smallest", bytes == 86),
+        ("all of them largest", bytes == 204_836),
+    ]
+}
