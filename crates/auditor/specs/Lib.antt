@@ -11,5 +11,5 @@ pub mod KeptNumbers
 pub mod KeptBefores
 pub mod MapsReplayed
 pub mod AuditParts
-pub mod PrintsApart
+pub mod LowestHeld
 pub mod AuditAnswers

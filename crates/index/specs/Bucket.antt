@@ -63,21 +63,24 @@ module _ (h : ℕ) (e : Entry) where
       let w = and-true (e .held) (eqb (bucketOf (e .print)) h) k in
       (w .0, eqb-true (bucketOf (e .print)) h (w .1))
 
--- a held block with fingerprint f is in the bucket of f, so no block outside has it
-pub out-print : (f : List ℕ) (e : Entry) → inBucket (bucketOf f) e ≡ false → hasPrint f e ≡ false
-unfolding hasPrint
-out-print f e k = surely-not (e .held && same (e .print) f) (λ y. not-both (inBucket (bucketOf f) e) (inside y) k)
-  where
-    inside : (e .held && same (e .print) f) ≡ true → inBucket (bucketOf f) e ≡ true
-    inside y =
-        let w = and-true (e .held) (same (e .print) f) y in
-        held-in (bucketOf f) e (w .0) (ap bucketOf (same-equal (e .print) f (w .1)))
-
 module _ (f : List ℕ) (e : Entry) where
   pub held-print : e .held ≡ true → same (e .print) f ≡ true → hasPrint f e ≡ true
   unfolding hasPrint
   held-print k l = true-and (e .held) (same (e .print) f) k l
 
+  pub print-held : hasPrint f e ≡ true → (e .held ≡ true) × (e .print ≡ f)
+  unfolding hasPrint
+  print-held k =
+      let w = and-true (e .held) (same (e .print) f) k in
+      (w .0, same-equal (e .print) f (w .1))
+
   pub other-print : same (e .print) f ≡ false → hasPrint f e ≡ false
   unfolding hasPrint
   other-print k = rw k (and-false (e .held))
+
+-- a held block with fingerprint f is in the bucket of f, so no block outside has it
+pub out-print : (f : List ℕ) (e : Entry) → inBucket (bucketOf f) e ≡ false → hasPrint f e ≡ false
+out-print f e k = surely-not (hasPrint f e) (λ y. not-both (inBucket (bucketOf f) e) (inside (print-held f e y)) k)
+  where
+    inside : (e .held ≡ true) × (e .print ≡ f) → inBucket (bucketOf f) e ≡ true
+    inside w = held-in (bucketOf f) e (w .0) (ap bucketOf (w .1))
