@@ -164,6 +164,17 @@ uint16_t aspen_audit(const uint8_t *book, size_t book_len, uint16_t *sound);
 uint16_t aspen_form(const uint8_t *book, size_t book_len);
 
 /*
+ * Counts the blocks of the book.
+ *
+ * Answers: *blocks, how many the pool has; *held, how many of them are held; *waiting, how many
+ * of those have count 0, so that they wait for a collection; *references, the sum of the counts.
+ *
+ * Returns ASPEN_OK, ASPEN_BAD_LAYOUT or ASPEN_BAD_FORM.
+ */
+uint16_t aspen_count(const uint8_t *book, size_t book_len, uint16_t *blocks, uint16_t *held,
+                     uint16_t *waiting, uint32_t *references);
+
+/*
  * Writes the change list of the marked blocks of a volume of l blocks, for aspen_backup.
  *   marks   l bytes, 1 for a block that changed and 0 for one that didn't
  *   prints  l fingerprints of ASPEN_PRINT_SIZE bytes

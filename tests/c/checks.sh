@@ -8,7 +8,7 @@ warnings="-Wall -Wextra -Werror -pedantic"
 units_of() {
     case $1 in
     writer_form) printf '%s\n' writer_form sizes writer form ;;
-    engine) printf '%s\n' engine cases format_audit refusals lists changes calls box ;;
+    engine) printf '%s\n' engine cases format_audit count refusals lists changes calls box ;;
     esac
     printf '%s\n' check buffer books
 }

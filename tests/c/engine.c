@@ -7,6 +7,7 @@ int main(void)
     test_format();
     test_cases();
     test_audit();
+    test_count();
     test_refusals();
     test_lists();
     test_changes();

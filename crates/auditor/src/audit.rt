@@ -9,6 +9,7 @@ use super::audit_expiries::expiries_sound;
 use super::audit_kept::backups_held;
 use super::audit_maps::maps_sound;
 use super::audit_prints::prints_sound;
+use form::form_number;
 
 // The tests in the order of document 01. That no current map names a free block follows from form and the counts.
 fn is_sound(book: &[u8]) -> bool
@@ -34,7 +35,7 @@ fn is_sound(book: &[u8]) -> bool
 pub fn answer(book: &[u8], sound: &mut u16) -> u16
     ensures { λ r. ⌜ Audited (now (book .entry)) (now (sound .entry)) r (now (sound .exit)) ⌝ }
 {
-    let refusal = book::form(book);
+    let refusal = form_number(book);
     if refusal != 0 {
         return refusal;
     }

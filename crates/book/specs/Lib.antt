@@ -15,11 +15,8 @@ pub mod Sizing
 pub mod Write
 pub mod Fresh
 pub mod Shaped
-pub mod Days
 pub mod FormNumber
 pub mod FormParts
-pub mod Checks
-pub mod Slots
-pub mod Passes
 pub mod Conditions
 pub mod InForm
+pub mod Formed

@@ -5,6 +5,7 @@ use mathlib.Core.Bool.{true}
 use mathlib.Core.List.{List}
 use lib.Dec.{ltb, eqb}
 use borrow.Author.Tests.{lt-ltb, le-ltb, eq-eqb, ne-eqb}
+use Rattle.words.specs.Accepted.{unless-refused}
 use Rattle.words.specs.Choice.{or-r}
 use Rattle.words.specs.Outcome.{refused, accepted, andThen}
 use Rattle.book.specs.Book.{Book, retentionOf}
@@ -16,7 +17,6 @@ use Rattle.model.specs.Days.{badRetention}
 use Rattle.model.specs.Enrol.{enrolNumber, enrol}
 use Rattle.model.specs.OnBytes.{enrolBytes}
 use Rattle.engine.specs.Contracts.{Enrolled}
-use Rattle.engine.specs.Refusing.{unless-refused}
 
 -- ---- numbers 5 and 6
 

@@ -1,81 +1,5 @@
 // Backup: a change list becomes a backup of a volume.
-ghost use mathlib.Core.Path.{_≡_};
-ghost use Prim.Native.Nat.{_<_};
-ghost use lib.ListN.{length};
-ghost use Rattle.book.specs.Book.{volumes};
-ghost use Rattle.book.specs.Layout.{bookOf, Holds, Is};
-ghost use Rattle.engine.specs.Allowing.{allowedNumber};
-ghost use Rattle.engine.specs.Contracts.{BackedUp};
-ghost use Rattle.engine.specs.Closing.{closedBook, WorkedBy};
-ghost use Rattle.engine.specs.Formed.{Formed};
-ghost use Rattle.engine.specs.Stepping.{stepNumber};
-ghost use Rattle.engine.specs.Working.{Job};
-use super::allowing::Allowed;
-use super::allowing::allow;
-use super::changing::run_changes;
-use super::moving::Step;
-use super::storing::copy;
-use super::storing::store_all;
-use book::header;
-use book::slot;
-use list::Shape;
-
-// The number of a backup that isn't allowed.
-fn allowed_number(allowed: Allowed) -> u16
-    ensures { λ r. ⌜ r ≡ allowedNumber allowed ⌝ }
-{
-    match allowed {
-        Allowed::Go(_) => 0,
-        Allowed::Refused(k) => k,
-    }
-}
-
-// The number of changes that stopped.
-fn step_number(step: Step) -> u16
-    ensures { λ r. ⌜ r ≡ stepNumber step ⌝ }
-{
-    match step {
-        Step::Next(_) => 0,
-        Step::Stop(k) => k,
-    }
-}
-
-// The slot of the backup is added, and its day becomes the book's.
-fn close(work: &mut [u8], v: u16, day: u16, first: u16, number: u16)
-    requires { ⌜ Holds (now work) ⌝ }
-    requires { ⌜ (length (bookOf (now work) .slots) < bookOf (now work) .sizes .s) × (v < volumes) ⌝ }
-    ensures { λ _. ⌜ Is (now (work .exit)) (closedBook v day first number (bookOf (now (work .entry)))) ⌝ }
-{
-    slot::append_slot(work, v, day, first, number);
-    header::set_day(work, day);
-}
-
-// Both passes. The working copy starts as the book and ends as the book after the backup; the pool changes once no change can be refused.
-fn work_through(
-    book: &[u8],
-    pool: &mut [u8],
-    work: &mut [u8],
-    list: &[u8],
-    shape: Shape,
-    v: u16,
-    day: u16,
-    until: u16,
-) -> Step
-    requires { ⌜ Formed (now book) × (now work ≡ now book) ⌝ }
-    requires { ⌜ Job (bookOf (now book)) (now pool) (now list) shape × (v < volumes) ⌝ }
-    requires { ⌜ length (bookOf (now book) .slots) < bookOf (now book) .sizes .s ⌝ }
-    ensures { λ r. ⌜ WorkedBy (bookOf (now (book .entry))) (now (pool .entry)) (now (list .entry)) v day until r (now (pool .exit)) (now (work .exit)) ⌝ }
-{
-    let mut by = [0u16; 4096];
-    let step = run_changes(book, pool, work, list, shape, &mut by, v, until);
-    let Step::Next(t) = step else {
-        return step;
-    };
-    store_all(book, work, pool, list, shape, &by);
-    let first = header::used_records(book);
-    close(work, v, day, first, shape.changes);
-    Step::Next(t)
-}
+ghost use Rattle.intake.specs.Contracts.{BackedUp};
 
 #[no_mangle]
 pub extern "C" fn aspen_backup(
@@ -94,20 +18,5 @@ pub extern "C" fn aspen_backup(
         r (now (book .exit)) (now (pool .exit))
         (record { number = now (number .exit); taken = now (taken .exit); touched = now (touched .exit) }) ⌝ }
 {
-    let allowed = allow(book, pool, spare.len(), volume, day, list);
-    let Allowed::Go(plan) = allowed else {
-        return allowed_number(allowed);
-    };
-    let len = book.len();
-    let work = &mut spare[..len];
-    copy(work, book);
-    let step = work_through(book, pool, work, list, plan.shape, volume, day, plan.until);
-    let Step::Next(t) = step else {
-        return step_number(step);
-    };
-    copy(book, work);
-    *number = plan.number;
-    *taken = t.taken;
-    *touched = t.touched;
-    0
+    intake::backup::backup(book, pool, spare, volume, day, list, number, taken, touched)
 }

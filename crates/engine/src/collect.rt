@@ -1,76 +1,9 @@
 // Collect: blocks that nothing needs become free.
-ghost use mathlib.Core.Path.{_≡_};
-ghost use mathlib.Core.List.{map};
-ghost use Prim.Native.Nat.{_<_};
-ghost use Rattle.words.specs.Lists.{countOf};
-ghost use Rattle.book.specs.Book.{entryAt};
-ghost use Rattle.book.specs.Layout.{bookOf, Holds, Is};
-ghost use Rattle.book.specs.Next.{withEntry, withEntries};
-ghost use Rattle.model.specs.Collect.{isOver, entryAfter};
-ghost use Rattle.engine.specs.Contracts.{Swept};
-use book::entry;
-use book::form;
-use book::header;
-use words::PBN;
-
-// The block is held, no map names it, and its last day is past.
-fn is_over(book: &[u8], p: PBN, day: u16) -> bool
-    requires { ⌜ Holds (now book) ⌝ }
-    requires { ⌜ p .0 < bookOf (now book) .sizes .n ⌝ }
-    ensures { λ r. ⌜ r ≡ isOver day (entryAt (bookOf (now (book .entry)) .entries) (p .0)) ⌝ }
-{
-    entry::is_held(book, p) & (entry::count(book, p) == 0) & (entry::expiry(book, p) < day)
-}
-
-// Frees the block if it is over, and says whether it did.
-fn free_over(book: &mut [u8], p: PBN, day: u16) -> bool
-    requires { ⌜ Holds (now book) ⌝ }
-    requires { ⌜ p .0 < bookOf (now book) .sizes .n ⌝ }
-    ensures { λ r. ⌜ r ≡ isOver day (entryAt (bookOf (now (book .entry)) .entries) (p .0)) ⌝ }
-    ensures { λ _. ⌜ Is (now (book .exit)) (withEntry (entryAfter day) (p .0) (bookOf (now (book .entry)))) ⌝ }
-{
-    if !is_over(book, p, day) {
-        return false;
-    }
-    entry::free(book, p);
-    true
-}
-
-// One pass over the blocks; the answer is how many became free.
-fn sweep(book: &mut [u8], day: u16) -> u16
-    requires { ⌜ Holds (now book) ⌝ }
-    ensures { λ r. ⌜ r ≡ countOf (isOver day) (bookOf (now (book .entry)) .entries) ⌝ }
-    ensures { λ _. ⌜ Is (now (book .exit)) (withEntries (map (entryAfter day) (bookOf (now (book .entry)) .entries)) (bookOf (now (book .entry)))) ⌝ }
-{
-    let n = header::blocks(book);
-    let mut freed: u16 = 0;
-    let mut p: u16 = 0;
-    while p < n {
-        if free_over(book, PBN(p), day) {
-            freed += 1;
-        }
-        p += 1;
-    }
-    freed
-}
+ghost use Rattle.collector.specs.Contracts.{Swept};
 
 #[no_mangle]
 pub extern "C" fn aspen_collect(book: &mut [u8], day: u16, freed: &mut u16) -> u16
     ensures { λ r. ⌜ Swept (now (book .entry)) day (now (freed .entry)) r (now (book .exit)) (now (freed .exit)) ⌝ }
 {
-    let in_form = form(book);
-    if in_form != 0 {
-        return in_form;
-    }
-    if day > 60000 {
-        return 7;
-    }
-    let today = header::day(book);
-    if day < today {
-        return 7;
-    }
-    let count = sweep(book, day);
-    header::set_day(book, day);
-    *freed = count;
-    0
+    collector::collect::collect(book, day, freed)
 }

@@ -3,8 +3,8 @@ ghost use mathlib.Core.Path.{_≡_};
 ghost use Rattle.book.specs.Layout.{bookOf, Holds};
 ghost use Rattle.model.specs.Enrol.{enrolNumber};
 ghost use Rattle.engine.specs.Contracts.{Enrolled};
-use book::form;
 use book::header;
+use form::form_number;
 
 // Numbers 5 and 6, or 0.
 fn enrol_number(book: &[u8], volume: u16, retention: u16) -> u16
@@ -30,7 +30,7 @@ fn enrol_number(book: &[u8], volume: u16, retention: u16) -> u16
 pub extern "C" fn aspen_enrol(book: &mut [u8], volume: u16, retention: u16) -> u16
     ensures { λ r. ⌜ Enrolled (now (book .entry)) volume retention r (now (book .exit)) ⌝ }
 {
-    let in_form = form(book);
+    let in_form = form_number(book);
     if in_form != 0 {
         return in_form;
     }

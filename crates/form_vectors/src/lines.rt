@@ -1,5 +1,6 @@
 // Lines of the output, for the book after case d and for books made from it.
 use crate::books;
+use form::form_number;
 use libc::STDOUT_FILENO;
 
 fn show(name: &[u8], number: u16) {
@@ -13,7 +14,7 @@ fn show(name: &[u8], number: u16) {
 pub fn line(name: &[u8], b: &[u8; 204900], n: usize) {
     let s: &[u8] = b;
     if n <= s.len() {
-        show(name, book::form(&s[..n]));
+        show(name, form_number(&s[..n]));
     }
 }
 

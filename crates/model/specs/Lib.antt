@@ -80,3 +80,4 @@ pub mod BackupFit
 pub mod OnBytesFit
 pub mod Standing
 pub mod Proved
+pub mod JournalAt

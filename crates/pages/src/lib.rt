@@ -1,4 +1,5 @@
 // Pages that are written from a book.
+pub mod count;
 mod counts;
 mod line;
 
@@ -10,6 +11,7 @@ ghost use Rattle.pages.specs.Tally.{tallyNumber, tallyPage};
 ghost use Rattle.pages.specs.Pages.{countsPage};
 use counts::Counts;
 use counts::count_entries;
+use form::form_number;
 use line::put_line;
 
 const LONGEST: usize = 65536;
@@ -21,7 +23,7 @@ fn refusal(input: &[u8]) -> u32
     if input.len() > LONGEST {
         return 1;
     }
-    book::form(input) as u32
+    form_number(input) as u32
 }
 
 // The five lines of a book of n blocks, to the front of the page. It answers their length.

@@ -1,4 +1,4 @@
--- What it says that an outcome is accepted. Assumes nothing.
+-- What it says that an outcome is accepted, or refused. Assumes nothing.
 use Prim.Native.Nat.{ℕ, zero, suc}
 use mathlib.Core.Path.{_≡_, refl}
 use native.Mathlib.Omega.{arith}
@@ -11,6 +11,10 @@ module _ {A : Type 0} where
   pub unless-accepted : (k : ℕ) (o : Outcome A) (a : A) → unless k o ≡ accepted a → (k ≡ 0) × (o ≡ accepted a)
   unless-accepted zero o a e = (refl, e)
   unless-accepted (suc k) o a e = absurd (refused-not (suc k) a e)
+
+  pub unless-refused : (k : ℕ) (o : Outcome A) → (k ≡ 0 → ⊥) → unless k o ≡ refused k
+  unless-refused zero o h = absurd (h refl)
+  unless-refused (suc k) o h = refl
 
   pub then-accepted : {B : Type 0} (o : Outcome A) (f : A → Outcome B) (b : B) → andThen o f ≡ accepted b
       → (a : A) × (o ≡ accepted a) × (f a ≡ accepted b)

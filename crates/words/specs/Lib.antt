@@ -25,3 +25,4 @@ pub mod Turns
 pub mod Flat
 pub mod Prefixes
 pub mod Stored
+pub mod Lending

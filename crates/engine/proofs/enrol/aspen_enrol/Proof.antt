@@ -13,7 +13,7 @@ use Rattle.engine.proofs.enrol.aspen_enrol.Tie as tie
 
 -- what the check of form says
 formed : (c : tie.Else1) → formNumber (now (c .before .before .before .before .args .book)) ≡ 0
-formed c = sym (c .before .form .ensures) ∙ c .if1 .left
+formed c = sym (c .before .form-number .ensures) ∙ c .if1 .left
 
 holds : (c : tie.Else1) → Holds (now (c .before .before .before .before .args .book))
 holds c = holds-form _ (λ i. c .before .before .before .slice-known .given i .fits) (formed c)
@@ -24,14 +24,14 @@ allowed : (c : tie.Else2) → enrolNumber (bookOf (now (c .before .before .befor
     ≡ 0
 allowed c = sym (c .before .enrol-number .ensures) ∙ c .if2 .left
 
-form-requires : tie.Need-form-requires
-form-requires c κs = search needs
+form-number-requires : tie.Need-form-number-requires
+form-number-requires c κs = search needs
 
 same-length : tie.Need-same-length
 same-length c = search needs
 
 returns : tie.Need-returns
-returns c = enrol-misformed _ _ _ _ (c .before .form .ensures) (c .if1 .taken)
+returns c = enrol-misformed _ _ _ _ (c .before .form-number .ensures) (c .if1 .taken)
 
 enrol-number-requires : tie.Need-enrol-number-requires
 enrol-number-requires c κs = holds (c .before)
@@ -57,7 +57,7 @@ pub aspen-enrol-spec : {M : Type 1} → statement M
 aspen-enrol-spec =
     tie.close
     (tie.spec
-    form-requires
+    form-number-requires
     same-length
     returns
     enrol-number-requires

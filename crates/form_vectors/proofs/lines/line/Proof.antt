@@ -6,11 +6,11 @@ use borrow.Author.Needs.{needs}
 use Rattle.form_vectors.proofs.lines.line.Statement.{statement}
 use Rattle.form_vectors.proofs.lines.line.Tie as tie
 
-slice-aggregate-form : tie.Need-slice-aggregate-form
-slice-aggregate-form c = sym (length-take-le _ _ (omega arith))
+slice-aggregate-form-number : tie.Need-slice-aggregate-form-number
+slice-aggregate-form-number c = sym (length-take-le _ _ (omega arith))
 
-form-requires : tie.Need-form-requires
-form-requires c κs = search needs
+form-number-requires : tie.Need-form-number-requires
+form-number-requires c κs = search needs
 
 show-requires : tie.Need-show-requires
 show-requires c κs = search needs
@@ -22,4 +22,4 @@ returns-2 : tie.Need-returns-2
 returns-2 c = search needs
 
 pub line-spec : {M : Type 1} → statement M
-line-spec = tie.close (tie.spec slice-aggregate-form form-requires show-requires returns returns-2)
+line-spec = tie.close (tie.spec slice-aggregate-form-number form-number-requires show-requires returns returns-2)

@@ -1,0 +1,34 @@
+-- `collector::collect::free_over` meets its contract: what is not over stays as it is, and what is over becomes free.
+use mathlib.Core.Path.{sym}
+use borrow.Author.Needs.{needs}
+use Rattle.words.specs.Choice.{failed, passed}
+use Rattle.collector.specs.Sweep.{free-kept, free-freed}
+use Rattle.collector.proofs.collect.free_over.Statement.{statement}
+use Rattle.collector.proofs.collect.free_over.Tie as tie
+
+is-over-requires : tie.Need-is-over-requires
+is-over-requires c κs = search needs
+
+same-length : tie.Need-same-length
+same-length c = search needs
+
+returns : tie.Need-returns
+returns c =
+    let e = failed (c .before .is-over .ensures) (c .if1 .taken) in
+    (sym e, free-kept _ _ _ (c .before .before .before .before .pre .0) e)
+
+free-requires : tie.Need-free-requires
+free-requires c κs = search needs
+
+same-length-2 : tie.Need-same-length-2
+same-length-2 c = search needs
+
+returns-2 : tie.Need-returns-2
+returns-2 c =
+    let d = c .before .before .before .before in
+    let e = passed (d .before .is-over .ensures) (d .if1 .left) in
+    (sym e, free-freed _ _ _ e (c .before .before .free .ensures))
+
+pub free-over-spec : {M : Type 1} → statement M
+free-over-spec =
+    tie.close (tie.spec is-over-requires same-length returns free-requires same-length-2 returns-2)

@@ -1,0 +1,4 @@
+pub mod Contracts
+pub mod Passing
+pub mod Sweep
+pub mod CollectExits

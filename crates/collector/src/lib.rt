@@ -1,0 +1,2 @@
+// Collect: blocks that nothing needs become free.
+pub mod collect;

@@ -1,9 +1,0 @@
--- The engine's enums, by the definitions that they stand for. Assumes nothing.
-use Prim.Native.Nat.{ℕ}
-use mathlib.Core.Option.{Option, none, some}
-use Rattle.engine.specs.declared.find.Found.{Found}
-use Rattle.engine.specs.declared.find.Found.the-variants.{At, Nothing}
-
-abbrev pub foundOf : Option ℕ → Found
-foundOf none = Nothing
-foundOf (some p) = At (record { 0 = p })

@@ -1,0 +1,97 @@
+-- `form::in_form::form_number` meets its contract: each way out decides the sections' tests, which are those of the definition.
+use mathlib.Core.Path.{_≡_, sym}
+use mathlib.Core.Bool.{true}
+use borrow.Author.Needs.{needs}
+use denote.Ref.{now}
+use Rattle.words.specs.Choice.{failed, passed}
+use Rattle.book.specs.Form.{layoutOk}
+use Rattle.book.specs.FormNumber.{number-1, layout-facts}
+use Rattle.form.specs.Checks.{headOk, head-facts}
+use Rattle.form.specs.Passes.{blocksOk, slotsOk, out-of-form, in-form}
+use Rattle.form.proofs.in_form.form_number.Statement.{statement}
+use Rattle.form.proofs.in_form.form_number.Tie as tie
+
+-- what each test passed says
+laid : (c : tie.Else1) → layoutOk (now (c .before .before .before .args .book)) ≡ true
+laid c = passed (c .before .layout-ok .ensures) (c .if1 .left)
+
+head : (c : tie.Else2) → headOk (now (c .before .before .before .before .before .args .book)) ≡ true
+head c = passed (c .before .head-ok .ensures) (c .if2 .left)
+
+blocks : (c : tie.Else3) → blocksOk (now (c .before .before .before .before .before .before .before .args .book)) ≡ true
+blocks c = passed (c .before .blocks-ok .ensures) (c .if3 .left)
+
+slots : (c : tie.Else4) → slotsOk (now (c .before .before .before .before .before .before .before .before .before .args .book)) ≡ true
+slots c = passed (c .before .slots-ok .ensures) (c .if4 .left)
+
+layout-ok-requires : tie.Need-layout-ok-requires
+layout-ok-requires c κs = search needs
+
+returns : tie.Need-returns
+returns c = sym (number-1 _ (failed (c .before .layout-ok .ensures) (c .if1 .taken)))
+
+head-ok-requires : tie.Need-head-ok-requires
+head-ok-requires c κs = layout-facts _ (laid c) .header
+
+returns-2 : tie.Need-returns-2
+returns-2 c =
+    let l = laid (c .before .before) in
+    out-of-form _ (layout-facts _ l .len) l (rw (failed (c .before .head-ok .ensures) (c .if2 .taken)))
+
+blocks-ok-requires : tie.Need-blocks-ok-requires
+blocks-ok-requires c κs = layout-facts _ (laid (c .before .before))
+
+returns-3 : tie.Need-returns-3
+returns-3 c =
+    let h = c .before .before in
+    let l = laid (h .before .before) in
+    out-of-form _ (layout-facts _ l .len) l (rw (head h, failed (c .before .blocks-ok .ensures) (c .if3 .taken)))
+
+slots-ok-requires : tie.Need-slots-ok-requires
+slots-ok-requires c κs =
+    let h = c .before .before in
+    (layout-facts _ (laid (h .before .before)), head-facts _ (head h))
+
+returns-4 : tie.Need-returns-4
+returns-4 c =
+    let k = c .before .before in
+    let h = k .before .before in
+    let l = laid (h .before .before) in
+    out-of-form _ (layout-facts _ l .len) l (rw (head h, blocks k, failed (c .before .slots-ok .ensures) (c .if4 .taken)))
+
+journal-ok-requires : tie.Need-journal-ok-requires
+journal-ok-requires c κs =
+    let h = c .before .before .before .before in
+    (layout-facts _ (laid (h .before .before)), head-facts _ (head h))
+
+returns-5 : tie.Need-returns-5
+returns-5 c =
+    let s = c .before .before in
+    let k = s .before .before in
+    let h = k .before .before in
+    let l = laid (h .before .before) in
+    out-of-form _ (layout-facts _ l .len) l (rw (head h, blocks k, slots s) (failed (c .before .journal-ok .ensures) (c .if5 .taken)))
+
+returns-6 : tie.Need-returns-6
+returns-6 c =
+    let s = c .before .before in
+    let k = s .before .before in
+    let h = k .before .before in
+    let l = laid (h .before .before) in
+    in-form _ (layout-facts _ l .len) l (rw (head h, blocks k, slots s) (passed (c .before .journal-ok .ensures) (c .if5 .left)))
+
+pub form-number-spec : {M : Type 1} → statement M
+form-number-spec =
+    tie.close
+    (tie.spec
+    layout-ok-requires
+    returns
+    head-ok-requires
+    returns-2
+    blocks-ok-requires
+    returns-3
+    slots-ok-requires
+    returns-4
+    journal-ok-requires
+    returns-5
+    returns-6)

@@ -1,0 +1,66 @@
+-- `form::in_form::maps_ok` meets its contract: `good` is the test of the cells passed.
+use Prim.Native.Nat.{_≤_, _-_}
+use mathlib.Core.Path.{_≡_, sym, ap, _∙_}
+use native.Mathlib.Omega.{arith}
+use Rattle.words.specs.Each.{each-none, each-grow}
+use Rattle.book.specs.Form.{pbnOk}
+use Rattle.form.specs.Checks.{mapsOk}
+use Rattle.form.proofs.in_form.maps_ok.Statement.{statement}
+use Rattle.form.proofs.in_form.maps_ok.Tie as tie
+
+abbrev Inv-loop : tie.InvT-loop
+Inv-loop b from cells n good₀ c₀ good c = (c ≤ cells) × (good ≡ mapsOk b from c n)
+
+abbrev μ-loop : tie.MeasureT-loop
+μ-loop b from cells n good₀ c₀ good c = cells - c
+
+loop-holds : tie.Need-loop-holds Inv-loop μ-loop
+unfolding mapsOk
+loop-holds c = (omega arith, sym (each-none _ _ _ (omega arith)))
+
+mul-u16-at : tie.Need-mul-u16-at Inv-loop μ-loop
+mul-u16-at c = omega arith
+
+add-u16-at : tie.Need-add-u16-at Inv-loop μ-loop
+add-u16-at c = omega arith
+
+u16-at-requires : tie.Need-u16-at-requires Inv-loop μ-loop
+u16-at-requires c κs = omega arith
+
+pbn-ok-requires : tie.Need-pbn-ok-requires Inv-loop μ-loop
+pbn-ok-requires c κs = tt
+
+add-c : tie.Need-add-c Inv-loop μ-loop
+add-c c = omega arith
+
+loop-less : tie.Need-loop-less Inv-loop μ-loop
+loop-less c = omega arith
+
+loop-again : tie.Need-loop-again Inv-loop μ-loop
+unfolding mapsOk
+loop-again c =
+    let l = c .before .before .before .loop in
+    let a = c .before .before .before .before .before .args in
+    (omega arith, each-grow _ _ _ (omega arith) (l .inv .1) (c .pbn-ok .ensures ∙ ap (pbnOk (a .n)) (c .before .u16-at .ensures)))
+
+returns : tie.Need-returns Inv-loop μ-loop
+returns c =
+    let a = c .before .before .before .args in
+    let e : c .before .loop .c ≡ a .cells = omega arith in
+    rw e at (c .before .loop .inv .1)
+
+pub maps-ok-spec : {M : Type 1} → statement M
+maps-ok-spec =
+    tie.close
+    (tie.spec
+    Inv-loop
+    μ-loop
+    loop-holds
+    mul-u16-at
+    add-u16-at
+    u16-at-requires
+    pbn-ok-requires
+    add-c
+    loop-less
+    loop-again
+    returns)

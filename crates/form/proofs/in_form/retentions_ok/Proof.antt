@@ -1,0 +1,62 @@
+-- `form::in_form::retentions_ok` meets its contract: `good` is the test of the retentions passed.
+use Prim.Native.Nat.{ℕ, _≤_, _-_}
+use mathlib.Core.Path.{_≡_, sym, ap}
+use native.Mathlib.Omega.{arith}
+use lib.Dec.{leb}
+use Rattle.words.specs.Each.{each, each-none, each-grow}
+use Rattle.words.specs.Numbers.{num}
+use Rattle.book.specs.Layout.{retentionPlace}
+use Rattle.book.specs.Form.{retentionOk}
+use Rattle.form.specs.Checks.{retentionsOk}
+use Rattle.form.proofs.in_form.retentions_ok.Statement.{statement}
+use Rattle.form.proofs.in_form.retentions_ok.Tie as tie
+
+abbrev Inv-loop : tie.InvT-loop
+Inv-loop b good₀ v₀ good v = (v ≤ 8) × (good ≡ each (λ v. retentionOk (num b (retentionPlace v))) 0 v)
+
+abbrev μ-loop : tie.MeasureT-loop
+μ-loop b good₀ v₀ good v = 8 - v
+
+loop-holds : tie.Need-loop-holds Inv-loop μ-loop
+loop-holds c = (omega arith, sym (each-none _ _ _ (omega arith)))
+
+mul-u16-at : tie.Need-mul-u16-at Inv-loop μ-loop
+mul-u16-at c = omega arith
+
+add-u16-at : tie.Need-add-u16-at Inv-loop μ-loop
+add-u16-at c = omega arith
+
+u16-at-requires : tie.Need-u16-at-requires Inv-loop μ-loop
+u16-at-requires c κs = omega arith
+
+add-v : tie.Need-add-v Inv-loop μ-loop
+add-v c = omega arith
+
+loop-less : tie.Need-loop-less Inv-loop μ-loop
+loop-less c = omega arith
+
+loop-again : tie.Need-loop-again Inv-loop μ-loop
+unfolding retentionOk
+loop-again c =
+    (omega arith, each-grow _ _ _ (omega arith) (c .before .before .loop .inv .1) (ap (λ (r : ℕ). leb r 5000) (c .u16-at .ensures)))
+
+returns : tie.Need-returns Inv-loop μ-loop
+unfolding retentionsOk
+returns c =
+    let e : c .before .loop .v ≡ 8 = omega arith in
+    rw e at (c .before .loop .inv .1)
+
+pub retentions-ok-spec : {M : Type 1} → statement M
+retentions-ok-spec =
+    tie.close
+    (tie.spec
+    Inv-loop
+    μ-loop
+    loop-holds
+    mul-u16-at
+    add-u16-at
+    u16-at-requires
+    add-v
+    loop-less
+    loop-again
+    returns)

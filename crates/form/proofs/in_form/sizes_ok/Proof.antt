@@ -1,0 +1,31 @@
+-- `form::in_form::sizes_ok` meets its contract: the code computes the definition.
+use borrow.Author.Needs.{needs}
+use Rattle.book.specs.Form.{sizesOk}
+use Rattle.form.proofs.in_form.sizes_ok.Statement.{statement}
+use Rattle.form.proofs.in_form.sizes_ok.Tie as tie
+
+in-range-requires : tie.Need-in-range-requires
+in-range-requires c κs = search needs
+
+in-range-requires-2 : tie.Need-in-range-requires-2
+in-range-requires-2 c κs = search needs
+
+in-range-requires-3 : tie.Need-in-range-requires-3
+in-range-requires-3 c κs = search needs
+
+in-range-requires-4 : tie.Need-in-range-requires-4
+in-range-requires-4 c κs = search needs
+
+returns : tie.Need-returns
+unfolding sizesOk
+returns c = rw (c .before .before .before .in-range .ensures, c .before .before .in-range2 .ensures, c .before .in-range3 .ensures, c .in-range4 .ensures)
+
+pub sizes-ok-spec : {M : Type 1} → statement M
+sizes-ok-spec =
+    tie.close
+    (tie.spec
+    in-range-requires
+    in-range-requires-2
+    in-range-requires-3
+    in-range-requires-4
+    returns)

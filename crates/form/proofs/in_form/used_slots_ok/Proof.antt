@@ -1,0 +1,149 @@
+-- `form::in_form::used_slots_ok` meets its contract: what is left of the pass decides as the whole does.
+use Prim.Native.Nat.{ℕ, _+_, _-_, _*_, _≤_, _<_}
+use mathlib.Core.Path.{_≡_, refl, sym, ap, _∙_}
+use mathlib.Core.Bool.{true, false}
+use native.Mathlib.Omega.{arith}
+use lib.Dec.{eqb}
+use lib.ListN.{getD}
+use denote.Ref.{now}
+use Rattle.words.specs.Choice.{failed, passed}
+use Rattle.words.specs.Numbers.{num}
+use Rattle.book.specs.Layout.{dayPlace}
+use Rattle.form.specs.Days.{noLasts}
+use Rattle.form.specs.Slots.{slotHere, slotsLeft, slots-more, slots-stop, slots-end, slot-bounds}
+use Rattle.form.proofs.in_form.used_slots_ok.Statement.{statement}
+use Rattle.form.proofs.in_form.used_slots_ok.Tie as tie
+
+abbrev Inv-loop : tie.InvT-loop
+Inv-loop b from used records today lasts₀ prev₀ next₀ q₀ lasts prev next q = (q ≤ used) × (next ≤ q * 65535) × (slotsLeft b 0 noLasts 0 0 ≡ slotsLeft b q lasts prev next)
+
+abbrev μ-loop : tie.MeasureT-loop
+μ-loop b from used records today lasts₀ prev₀ next₀ q₀ lasts prev next q = used - q
+
+loop-holds : tie.Need-loop-holds Inv-loop μ-loop
+loop-holds c = (omega arith, omega arith, refl)
+
+mul-at : tie.Need-mul-at Inv-loop μ-loop
+mul-at c = omega arith
+
+add-at : tie.Need-add-at Inv-loop μ-loop
+add-at c = omega arith
+
+slot-ok-requires : tie.Need-slot-ok-requires Inv-loop μ-loop
+slot-ok-requires c κs =
+    let p = c .before .before .before .before .pre in
+    ((omega arith, omega arith), p .day)
+
+-- where the test fails, the slot is out of form; past it, the slot is in form
+there : (c : tie.Then1 Inv-loop μ-loop)
+    → let m = c .before .before .before .before in
+    let a = m .before .before .args in
+    slotHere (now (a .b)) (a .from + m .loop .q * 8) (m .loop .lasts) (m .loop .prev) (m .loop .next) ≡ false
+there c = failed (c .before .slot-ok .ensures) (c .if1 .taken)
+
+returns : tie.Need-returns Inv-loop μ-loop
+returns c =
+    let m = c .before .before .before .before in
+    let s = m .before .before in
+    let l = m .loop in
+    sym (l .inv .2 ∙ slots-stop (now (s .args .b)) (l .q) (l .lasts) (l .prev) (l .next) (omega arith) (ap (λ (f : ℕ). f + l .q * 8) (s .pre .start)) (there c))
+
+here : (c : tie.Else1 Inv-loop μ-loop)
+    → let m = c .before .before .before .before in
+    let a = m .before .before .args in
+    slotHere (now (a .b)) (a .from + m .loop .q * 8) (m .loop .lasts) (m .loop .prev) (m .loop .next) ≡ true
+here c = passed (c .before .slot-ok .ensures) (c .if1 .left)
+
+bounds : (c : tie.Else1 Inv-loop μ-loop)
+    → let m = c .before .before .before .before in
+    let a = m .before .before .args in
+    (getD (now (a .b)) (a .from + m .loop .q * 8) 0 < 8) × (num (now (a .b)) (a .from + m .loop .q * 8 + 2) ≤ num (now (a .b)) dayPlace)
+bounds c = slot-bounds _ _ _ _ _ (here c)
+
+add-u16-at : tie.Need-add-u16-at Inv-loop μ-loop
+add-u16-at c = omega arith
+
+u16-at-requires : tie.Need-u16-at-requires Inv-loop μ-loop
+u16-at-requires c κs = omega arith
+
+add-lasts : tie.Need-add-lasts Inv-loop μ-loop
+add-lasts c = record { fits = omega (arith, bounds (c .before)) }
+
+shared-slice-read-wide : tie.Need-shared-slice-read-wide Inv-loop μ-loop
+shared-slice-read-wide c = omega arith
+
+wide-requires : tie.Need-wide-requires Inv-loop μ-loop
+wide-requires c κs = tt
+
+cast-lasts : tie.Need-cast-lasts Inv-loop μ-loop
+cast-lasts c = omega arith
+
+mul-lasts : tie.Need-mul-lasts Inv-loop μ-loop
+mul-lasts c = omega arith
+
+array-write-lasts : tie.Need-array-write-lasts Inv-loop μ-loop
+array-write-lasts c = omega (arith, bounds (c .before .before .before))
+
+add-u16-at-2 : tie.Need-add-u16-at-2 Inv-loop μ-loop
+add-u16-at-2 c = omega arith
+
+u16-at-requires-2 : tie.Need-u16-at-requires-2 Inv-loop μ-loop
+u16-at-requires-2 c κs = omega arith
+
+cast-next : tie.Need-cast-next Inv-loop μ-loop
+cast-next c = omega arith
+
+add-next : tie.Need-add-next Inv-loop μ-loop
+add-next c = omega arith
+
+add-q : tie.Need-add-q Inv-loop μ-loop
+add-q c = omega arith
+
+loop-less : tie.Need-loop-less Inv-loop μ-loop
+loop-less c = omega arith
+
+loop-again : tie.Need-loop-again Inv-loop μ-loop
+loop-again c =
+    let d = c .before .before .before .before in
+    let m = d .before .before .before .before in
+    let s = m .before .before in
+    let l = m .loop in
+    let more = slots-more (now (s .args .b)) (l .q) (l .lasts) (l .prev) (l .next) (omega arith) (ap (λ (f : ℕ). f + l .q * 8) (s .pre .start)) (here d)
+    (c .before .wide .ensures .0) (c .before .before .before .u16-at .ensures) (c .u16-at2 .ensures)
+    in
+    (omega arith, omega arith, l .inv .2 ∙ more)
+
+returns-2 : tie.Need-returns-2 Inv-loop μ-loop
+returns-2 c =
+    let s = c .before .before .before in
+    let l = c .before .loop in
+    let e = slots-end (now (s .args .b)) (l .q) (l .lasts) (l .prev) (l .next) (omega arith) in
+    ap (eqb (l .next)) (s .pre .records) ∙ sym (l .inv .2 ∙ e)
+
+pub used-slots-ok-spec : {M : Type 1} → statement M
+used-slots-ok-spec =
+    tie.close
+    (tie.spec
+    Inv-loop
+    μ-loop
+    loop-holds
+    mul-at
+    add-at
+    slot-ok-requires
+    returns
+    add-u16-at
+    u16-at-requires
+    add-lasts
+    shared-slice-read-wide
+    wide-requires
+    cast-lasts
+    mul-lasts
+    array-write-lasts
+    add-u16-at-2
+    u16-at-requires-2
+    cast-next
+    add-next
+    add-q
+    loop-less
+    loop-again
+    returns-2)

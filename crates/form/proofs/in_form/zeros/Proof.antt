@@ -1,0 +1,50 @@
+-- `form::in_form::zeros` meets its contract: `clear` is the test of the bytes passed.
+use Prim.Native.Nat.{_≤_, _-_}
+use mathlib.Core.Path.{_≡_, refl, sym}
+use native.Mathlib.Omega.{arith}
+use Rattle.words.specs.Each.{each-none, each-grow}
+use Rattle.form.specs.Checks.{zerosIn}
+use Rattle.form.proofs.in_form.zeros.Statement.{statement}
+use Rattle.form.proofs.in_form.zeros.Tie as tie
+
+abbrev Inv-loop : tie.InvT-loop
+Inv-loop b from to clear₀ i₀ clear i = (from ≤ i) × (i ≤ to) × (clear ≡ zerosIn b from i)
+
+abbrev μ-loop : tie.MeasureT-loop
+μ-loop b from to clear₀ i₀ clear i = to - i
+
+loop-holds : tie.Need-loop-holds Inv-loop μ-loop
+loop-holds c = (omega arith, omega arith, sym (each-none _ _ _ (omega arith)))
+
+shared-slice-read-clear : tie.Need-shared-slice-read-clear Inv-loop μ-loop
+shared-slice-read-clear c = omega arith
+
+add-i : tie.Need-add-i Inv-loop μ-loop
+add-i c = omega arith
+
+loop-less : tie.Need-loop-less Inv-loop μ-loop
+loop-less c = omega arith
+
+loop-again : tie.Need-loop-again Inv-loop μ-loop
+loop-again c =
+    let l = c .before .before .loop in
+    (omega arith, omega arith, each-grow _ _ _ (l .inv .0) (l .inv .2) refl)
+
+returns : tie.Need-returns Inv-loop μ-loop
+returns c =
+    let a = c .before .before .args in
+    let e : c .before .loop .i ≡ a .to = omega arith in
+    rw e at (c .before .loop .inv .2)
+
+pub zeros-spec : {M : Type 1} → statement M
+zeros-spec =
+    tie.close
+    (tie.spec
+    Inv-loop
+    μ-loop
+    loop-holds
+    shared-slice-read-clear
+    add-i
+    loop-less
+    loop-again
+    returns)

@@ -1,0 +1,4 @@
+pub mod Days
+pub mod Checks
+pub mod Slots
+pub mod Passes

@@ -1,0 +1,108 @@
+// Numbers 1 to 10 of a backup.
+ghost use mathlib.Core.Path.{_≡_};
+ghost use Rattle.book.specs.Layout.{bookOf, Holds};
+ghost use Rattle.intake.specs.Allowing.{bufferNumber, dayRefused, roomNumber, AllowedBy};
+ghost use Rattle.intake.specs.Backups.{BackupsAre};
+use super::slots::Backups;
+use super::slots::backups_of;
+use book::header;
+use form::form_number;
+use list::BLOCK_SIZE;
+use list::Checked;
+use list::Shape;
+
+// What a backup goes by once it is allowed: its list's numbers, the day until which it keeps what it replaces, and its own number.
+pub struct Plan {
+    pub shape: Shape,
+    pub until: u16,
+    pub number: u16,
+}
+
+pub enum Allowed {
+    Go(Plan),
+    Refused(u16),
+}
+
+// Numbers 1 to 4, or 0.
+fn buffers(book: &[u8], pool: &[u8], spare: usize) -> u16
+    ensures { λ r. ⌜ r ≡ bufferNumber (now (book .entry)) (now (pool .entry)) spare ⌝ }
+{
+    let refusal = form_number(book);
+    if refusal != 0 {
+        return refusal;
+    }
+    if pool.len() != header::blocks(book) as usize * BLOCK_SIZE {
+        return 3;
+    }
+    if spare < book.len() {
+        return 4;
+    }
+    0
+}
+
+// Number 7: whether the day can't be a backup's.
+fn bad_day(book: &[u8], v: u16, day: u16, backups: Backups) -> bool
+    requires { ⌜ Holds (now book) ⌝ }
+    requires { ⌜ BackupsAre (bookOf (now book)) v backups ⌝ }
+    ensures { λ r. ⌜ r ≡ dayRefused (bookOf (now (book .entry))) v day ⌝ }
+{
+    if 60000 < day {
+        return true;
+    }
+    if day < header::day(book) {
+        return true;
+    }
+    if backups.count == 0 {
+        return false;
+    }
+    day <= backups.last
+}
+
+// Numbers 9 and 10 for so many changes, or 0.
+fn room(book: &[u8], changes: u16) -> u16
+    requires { ⌜ Holds (now book) ⌝ }
+    ensures { λ r. ⌜ r ≡ roomNumber (bookOf (now (book .entry))) changes ⌝ }
+{
+    if header::slots(book) <= header::used_slots(book) {
+        return 9;
+    }
+    if (header::journal(book) as usize) < header::used_records(book) as usize + changes as usize {
+        return 10;
+    }
+    0
+}
+
+pub fn allow(book: &[u8], pool: &[u8], spare: usize, v: u16, day: u16, list: &[u8]) -> Allowed
+    ensures { λ r. ⌜ AllowedBy (now (book .entry)) (now (pool .entry)) spare v day (now (list .entry)) r ⌝ }
+{
+    let refusal = buffers(book, pool, spare);
+    if refusal != 0 {
+        return Allowed::Refused(refusal);
+    }
+    if 7 < v {
+        return Allowed::Refused(5);
+    }
+    let days = header::retention(book, v);
+    if days == 0 {
+        return Allowed::Refused(5);
+    }
+    let backups = backups_of(book, v);
+    if bad_day(book, v, day, backups) {
+        return Allowed::Refused(7);
+    }
+    let checked = list::check(list, header::cells(book));
+    let Checked::Good(shape) = checked else {
+        return Allowed::Refused(8);
+    };
+    let full = room(book, shape.changes);
+    if full != 0 {
+        return Allowed::Refused(full);
+    }
+    let until = day + days;
+    let number = backups.count + 1;
+    Allowed::Go(Plan {
+        shape,
+        until,
+        number,
+    })
+}

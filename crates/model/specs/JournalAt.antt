@@ -1,0 +1,102 @@
+-- The journal slot by slot: the backup that a slot holds, and a volume's backups in the slots from one on. Assumes nothing.
+use Prim.Native.Nat.{ℕ, zero, suc, _+_, _≤_, _<_}
+use mathlib.Core.Path.{_≡_, refl, sym, ap, _∙_}
+use mathlib.Core.Bool.{true}
+use mathlib.Core.List.{List, [], _∷_, _++_}
+use native.Mathlib.Nat.{le-of-suc-le-suc, not-suc-le-zero}
+use native.Mathlib.Numerals.{add-one}
+use lib.Dec.{eqb}
+use lib.ListN.{length, getD, take, drop, drop-of-length-le}
+use lib.Seq.{drop-cons, drop-drop}
+use borrow.Author.Tests.{eqb-true, eq-eqb, ne-eqb}
+use Rattle.words.specs.Choice.{and-true}
+use Rattle.book.specs.Book.{Slot, Rec, Book, noSlot, slotAt}
+use Rattle.book.specs.Form.{pairsOk}
+use Rattle.model.specs.Journal.{Backup, journalOf, journal, backupsIn, backups}
+use Rattle.model.specs.JournalLaws.{backupsIn-append}
+
+abbrev pub noBackup : Backup
+noBackup = record { volume = 0; day = 0; records = [] }
+
+-- the backup that slot q holds
+abbrev pub backupAt : Book → ℕ → Backup
+backupAt x q = getD (journal x) q noBackup
+
+-- ---- its parts are the slot's
+
+length-journalOf : (ts : List Slot) (rs : List Rec) → length (journalOf ts rs) ≡ length ts
+length-journalOf [] rs = refl
+length-journalOf (t ∷ ts) rs = ap suc (length-journalOf ts (drop (t .number) rs))
+
+volume-in : (ts : List Slot) (rs : List Rec) (q : ℕ) → getD (journalOf ts rs) q noBackup .volume ≡ slotAt ts q .volume
+unfolding noSlot
+volume-in [] rs q = refl
+volume-in (t ∷ ts) rs zero = refl
+volume-in (t ∷ ts) rs (suc q) = volume-in ts (drop (t .number) rs) q
+
+day-in : (ts : List Slot) (rs : List Rec) (q : ℕ) → getD (journalOf ts rs) q noBackup .day ≡ slotAt ts q .day
+unfolding noSlot
+day-in [] rs q = refl
+day-in (t ∷ ts) rs zero = refl
+day-in (t ∷ ts) rs (suc q) = day-in ts (drop (t .number) rs) q
+
+records-in : (ts : List Slot) (rs : List Rec) (at u q : ℕ) → pairsOk at ts u ≡ true → q < length ts
+    → getD (journalOf ts (drop at rs)) q noBackup .records ≡ take (slotAt ts q .number) (drop (slotAt ts q .first) rs)
+records-in [] rs at u q e h = absurd (not-suc-le-zero h)
+records-in (t ∷ ts) rs at u zero e h =
+    ap (λ (k : ℕ). take (t .number) (drop k rs)) (sym (eqb-true (t .first) at (and-true (eqb (t .first) at) (pairsOk (at + t .number) ts u) e .0)))
+records-in (t ∷ ts) rs at u (suc q) e h =
+    rw (drop-drop (t .number) at rs)
+    (records-in ts rs (at + t .number) u q (and-true (eqb (t .first) at) (pairsOk (at + t .number) ts u) e .1) (le-of-suc-le-suc h))
+
+module _ (x : Book) (q : ℕ) where
+  pub volume-at : backupAt x q .volume ≡ slotAt (x .slots) q .volume
+  unfolding journal
+  volume-at = volume-in (x .slots) (x .records) q
+
+  pub day-at : backupAt x q .day ≡ slotAt (x .slots) q .day
+  unfolding journal
+  day-at = day-in (x .slots) (x .records) q
+
+  -- in a book in form, a slot's records stand where its pair says
+  pub records-at : pairsOk 0 (x .slots) (length (x .records)) ≡ true → q < length (x .slots)
+      → backupAt x q .records ≡ take (slotAt (x .slots) q .number) (drop (slotAt (x .slots) q .first) (x .records))
+  unfolding journal
+  records-at e h = records-in (x .slots) (x .records) 0 (length (x .records)) q e h
+
+-- ---- the volume's backups in the slots from q on
+
+unfoldable pub backupsFrom : Book → ℕ → ℕ → List Backup
+backupsFrom x v q = backupsIn v (drop q (journal x))
+
+-- of these, the one in slot q, where it is the volume's
+abbrev pub ownAt : Book → ℕ → ℕ → List Backup
+ownAt x v q = backupsIn v (backupAt x q ∷ [])
+
+pub from-start : (x : Book) (v : ℕ) → backupsFrom x v 0 ≡ backups x v
+unfolding backupsFrom backups
+from-start x v = refl
+
+module _ (x : Book) (v q : ℕ) where
+  from-here : q < length (x .slots) → drop q (journal x) ≡ backupAt x q ∷ drop (q + 1) (journal x)
+  unfolding journal
+  from-here h =
+      let k : q < length (journalOf (x .slots) (x .records)) = rw (length-journalOf (x .slots) (x .records)) h in
+      rw (add-one q) (drop-cons (journal x) q noBackup k)
+
+  -- slot q is the volume's, or another's
+  pub from-own : q < length (x .slots) → slotAt (x .slots) q .volume ≡ v → backupsFrom x v q ≡ backupAt x q ∷ backupsFrom x v (q + 1)
+  unfolding backupsFrom
+  from-own h e = rw (from-here h, eq-eqb (backupAt x q .volume) v (volume-at x q ∙ e))
+
+  pub from-other : q < length (x .slots) → (slotAt (x .slots) q .volume ≡ v → ⊥) → backupsFrom x v q ≡ backupsFrom x v (q + 1)
+  unfolding backupsFrom
+  from-other h n = rw (from-here h, ne-eqb (backupAt x q .volume) v (λ e. n (sym (volume-at x q) ∙ e)))
+
+  pub from-split : q < length (x .slots) → backupsFrom x v q ≡ ownAt x v q ++ backupsFrom x v (q + 1)
+  unfolding backupsFrom
+  from-split h = rw (from-here h) (backupsIn-append v (backupAt x q ∷ []) (drop (q + 1) (journal x)))
+
+  pub from-end : length (x .slots) ≤ q → backupsFrom x v q ≡ []
+  unfolding backupsFrom journal
+  from-end h = rw (drop-of-length-le (journal x) {i = q} (rw (length-journalOf (x .slots) (x .records)) h))

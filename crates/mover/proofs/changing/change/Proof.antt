@@ -1,0 +1,84 @@
+-- A change that isn't placed stops; one that is goes as its move goes.
+use Prim.Native.Nat.{_<_}
+use mathlib.Core.Path.{ap}
+use native.Mathlib.Omega.{arith}
+use Rattle.list.specs.Changes.{changeCount}
+use Rattle.list.specs.Laws.{changes-within, change-below}
+use Rattle.book.specs.Book.{Sizes}
+use Rattle.book.specs.Layout.{bookOf}
+use Rattle.mover.specs.ChangeLaws.{change-unplaced, change-by}
+use Rattle.mover.specs.Stepping.{PlacedBy}
+use Rattle.mover.specs.declared.placing.Placed.the-variants.{At}
+use borrow.Author.Needs.{needs}
+use Rattle.mover.proofs.changing.change.Statement.{statement}
+use Rattle.mover.proofs.changing.change.Tie as tie
+
+below : (c : tie.Start) → c .args .i < changeCount (c .args .list .now)
+below c = omega (arith, c .pre .1 .0 .1, c .pre .1 .0 .0 .whole .changes)
+
+-- the block, and the working copy with it
+placed : (c : tie.After-placed) → PlacedBy (bookOf (c .before .before .before .before .before .before .before .before .before .before .before .args .book .now)) (c .before .before .before .before .before .before .before .before .before .before .before .args .pool .now) (c .before .before .before .before .before .before .before .before .before .before .before .args .list .now) (c .before .before .before .before .before .before .before .before .before .before .before .args .i) (c .before .before .before .before .before .before .before .before .before .before .before .args .work .now) (c .before .before .before .before .before .before .before .before .before .before .before .args .by .now) (c .before .before .before .before .before .before .before .before .before .before .before .args .t)
+    (At (c .placed .given .0 .0) (c .placed .given .0 .1 .0)) (c .before .before .before .before .place .last .1 .1 .0) (c .before .before .before .before .place .last .1 .1 .1 .1 .1 .0)
+placed c = rw (c .placed .given .1) at (c .before .before .before .before .place .ensures)
+
+place-requires : tie.Need-place-requires
+place-requires c κs = search needs
+
+enum-known-placed : tie.Need-enum-known-placed
+enum-known-placed c = search needs
+
+enum-told : tie.Need-enum-told
+enum-told c = search needs
+
+placed-number-requires : tie.Need-placed-number-requires
+placed-number-requires c κs = search needs
+
+same-length : tie.Need-same-length
+same-length c = search needs
+
+returns : tie.Need-returns
+returns c =
+    let a = c .before .before .before .before .before .before .before .before .before .before .before .before .args in
+    change-unplaced (bookOf (a .book .now)) (a .pool .now) (a .list .now) (a .v) (a .until) (a .i) (a .work .now) (a .by .now) (a .t)
+    (c .before .before .before .before .before .place .result) _ (c .placed-number .result) _ _ _ _ (c .before .enum-told .given .1) (c .placed-number .ensures) (c .before .before .before .before .before .place .ensures)
+
+move-to-requires : tie.Need-move-to-requires
+unfolding PlacedBy
+move-to-requires c κs =
+    let s = c .before .before .before .before .before .before .before .before .before .before .before .before .before in
+    let a = s .args in
+    let h = placed (c .before .before) in
+    let x = bookOf (a .book .now) in
+    let st = h .4 in
+    let n = ap (λ (z : Sizes). z .n) (st .sizes) in
+    let l = ap (λ (z : Sizes). z .l) (st .sizes) in
+    let j = ap (λ (z : Sizes). z .j) (st .sizes) in
+    let job = s .pre .1 .0 .0 in
+    let b = below s in
+    let small = changes-within (x .sizes .l) (a .list .now) (job .good) in
+    let lbn = change-below (x .sizes .l) (a .list .now) (job .good) (a .i) b in
+    (h .3, ((s .pre .1 .0 .2, omega (arith, s .pre .1 .1 .1), omega (arith, h .2)), ((omega (arith, st .records, job .room), omega (arith, st .touched, s .pre .0 .0 .l)), st .maps)))
+
+same-length-2 : tie.Need-same-length-2
+same-length-2 c = search needs
+
+returns-2 : tie.Need-returns-2
+returns-2 c =
+    let a = c .before .before .before .before .before .before .before .before .before .before .before .before .before .before .before .before .args in
+    change-by (bookOf (a .book .now)) (a .pool .now) (a .list .now) (a .v) (a .until) (a .i) (a .work .now) (a .by .now) (a .t)
+    _ _ (c .before .before .move-to .result) _ _ _ (placed (c .before .before .before .before .before))
+    (rw (c .before .before .before .before .before .before .before .before .before .before .before .before .before .before .before .before .pre .1 .1 .1) at (c .before .before .move-to .ensures))
+
+pub change-spec : {M : Type 1} → statement M
+change-spec =
+    tie.close
+    (tie.spec
+    place-requires
+    enum-known-placed
+    enum-told
+    placed-number-requires
+    same-length
+    returns
+    move-to-requires
+    same-length-2
+    returns-2)

@@ -1,0 +1,156 @@
+-- The four ways out, each by a law of steps 1 and 2.
+use Prim.Native.Nat.{ℕ, _*_, _<_}
+use mathlib.Core.Path.{_≡_, sym, ap, _∙_}
+use mathlib.Core.List.{List}
+use native.Mathlib.Omega.{arith}
+use lib.ListN.{length}
+use Rattle.words.specs.Blocks.{printSize}
+use Rattle.words.specs.Choice.{failed, passed}
+use Rattle.words.specs.Sections.{part}
+use Rattle.list.specs.Changes.{changeCount, changeAt}
+use Rattle.list.specs.Laws.{print-part, changes-within}
+use Rattle.book.specs.Book.{Sizes}
+use Rattle.book.specs.Layout.{bookOf}
+use Rattle.model.specs.Backup.{findHeld}
+use Rattle.mover.specs.Answers.{foundOf}
+use Rattle.mover.specs.Finding.{found-some, found-none, found-held, found-free}
+use Rattle.mover.specs.PlaceLaws.{prints-size, twelve-by, eleven-by, found-by, taken-by}
+use borrow.Author.Needs.{needs}
+use Rattle.mover.proofs.placing.place.Statement.{statement}
+use Rattle.mover.proofs.placing.place.Tie as tie
+
+-- change i is one of the list's
+below : (c : tie.Start) → c .args .i < changeCount (c .args .list .now)
+below c = omega (arith, c .pre .1 .0 .1, c .pre .1 .0 .0 .whole .changes)
+
+-- what step 1 found
+looked : (c : tie.After-find-held) → foundOf (findHeld (bookOf (c .before .before .before .before .before .before .before .args .work .now) .entries) (changeAt (c .before .before .before .before .before .before .before .args .list .now) (c .before .before .before .before .before .before .before .args .i) .print)) ≡ c .find-held .result
+looked c =
+    let a = c .before .before .before .before .before .before .before .args in
+    sym (c .find-held .ensures
+    ∙ ap (λ (f : List ℕ). foundOf (findHeld (bookOf (a .work .now) .entries) f))
+    (ap (λ (f : List ℕ). part f (a .i * printSize) printSize) (c .before .prints .ensures) ∙ print-part (a .list .now) (a .shape .changes) (a .i) (c .before .before .before .before .before .before .before .pre .1 .0 .1)))
+
+prints-requires : tie.Need-prints-requires
+prints-requires c κs = search needs
+
+find-held-requires : tie.Need-find-held-requires
+find-held-requires c κs =
+    let s = c .before .before .before .before .before .before in
+    (s .pre .0 .1, omega (arith, ap length (c .prints .ensures), prints-size (s .args .list .now) (s .args .shape) (s .pre .1 .0 .0 .whole), s .pre .1 .0 .1))
+
+enum-known-held : tie.Need-enum-known-held
+enum-known-held c = search needs
+
+enum-told : tie.Need-enum-told
+enum-told c = search needs
+
+find-free-requires : tie.Need-find-free-requires
+find-free-requires c κs = (c .before .before .before .before .before .before .before .before .before .before .pre .0 .1, c .before .before .before .before .before .before .before .before .before .before .pre .1 .1 .cursor)
+
+enum-known-free : tie.Need-enum-known-free
+enum-known-free c = search needs
+
+enum-told-2 : tie.Need-enum-told-2
+enum-told-2 c = search needs
+
+same-length : tie.Need-same-length
+same-length c = search needs
+
+returns : tie.Need-returns
+returns c =
+    let s = c .before .before .before .before .before .before .before .before .before .before .before .before .before in
+    let a = s .args in
+    twelve-by (bookOf (a .book .now)) (a .pool .now) (a .list .now) (a .shape) (a .t) (a .i) (a .work .now) (a .by .now)
+    (s .pre .0 .0 .sized) (s .pre .0 .1) (s .pre .1 .0 .0) (below s) (s .pre .1 .1) _ _
+    (found-none _ (looked (c .before .before .before .before .before .before) ∙ c .before .before .before .before .enum-told .given .1))
+    (found-none _ (sym (c .before .before .find-free .ensures) ∙ c .enum-told2 .given .1))
+
+take-block-requires : tie.Need-take-block-requires
+take-block-requires c κs =
+    let s = c .before .before .before .before .before .before .before .before .before .before .before .before .before .before .before .before in
+    let a = s .args in
+    let f = found-free (bookOf (a .work .now) .entries) (bookOf (a .work .now) .cursor) _ (found-some _ _ (sym (c .before .before .before .before .before .find-free .ensures) ∙ c .before .before .before .free .given .1)) in
+    (s .pre .0 .1, ((s .pre .1 .0 .0 .whole, s .pre .1 .0 .1), omega (arith, f .0, s .pre .0 .1 .sized .entries)))
+
+add-taken : tie.Need-add-taken
+add-taken c =
+    let s = c .before .before .before .before .before .before .before .before .before .before .before .before .before .before .before .before .before .before .before .before in
+    omega (arith, s .pre .1 .1 .taken, below s, changes-within (bookOf (s .args .book .now) .sizes .l) (s .args .list .now) (s .pre .1 .0 .0 .good), s .pre .0 .0 .l)
+
+same-length-2 : tie.Need-same-length-2
+same-length-2 c = search needs
+
+returns-2 : tie.Need-returns-2
+returns-2 c =
+    let s = c .before .before .before .before .before .before .before .before .before .before .before .before .before .before .before .before .before .before .before .before in
+    let a = s .args in
+    taken-by (bookOf (a .book .now)) (a .pool .now) (a .list .now) (a .shape) (a .t) (a .i) (a .work .now) (a .by .now)
+    (s .pre .0 .0 .sized) (s .pre .0 .1) (s .pre .1 .0 .0) (below s) (s .pre .1 .1) _ _ _
+    (found-none _ (looked (c .before .before .before .before .before .before .before .before .before .before .before .before .before) ∙ c .before .before .before .before .before .before .before .before .before .before .before .enum-told .given .1))
+    (found-some _ _ (sym (c .before .before .before .before .before .before .before .before .before .find-free .ensures) ∙ c .before .before .before .before .before .before .before .free .given .1))
+    (c .before .before .before .take-block .ensures .0)
+    (c .before .before .before .take-block .ensures .1)
+
+same-block-requires : tie.Need-same-block-requires
+same-block-requires c κs =
+    let s = c .before .before .before .before .before .before .before .before .before .before .before in
+    let a = s .args in
+    let f = found-held (bookOf (a .work .now) .entries) (changeAt (a .list .now) (a .i) .print) _ (found-some _ _ (looked (c .before .before .before .before) ∙ c .before .before .held .given .1)) in
+    let n = ap (λ (z : Sizes). z .n) (s .pre .1 .1 .sizes) in (
+      s .pre .0 .0,
+      (
+        (s .pre .1 .0 .0 .whole, s .pre .1 .0 .1),
+        (
+          (omega (arith, f .0, s .pre .0 .1 .sized .entries), s .pre .1 .0 .0 .size),
+          λ e. omega (arith, s .pre .1 .1 .marks _ e (f .1), s .pre .1 .0 .1),
+        ),
+      ),
+    )
+
+same-length-3 : tie.Need-same-length-3
+same-length-3 c = search needs
+
+returns-3 : tie.Need-returns-3
+returns-3 c =
+    let s = c .before .before .before .before .before .before .before .before .before .before .before .before .before in
+    let a = s .args in
+    eleven-by (bookOf (a .book .now)) (a .pool .now) (a .list .now) (a .shape) (a .t) (a .i) (a .work .now) (a .by .now)
+    (s .pre .0 .0 .sized) (s .pre .0 .1) (s .pre .1 .0 .0) (below s) (s .pre .1 .1) _ _ _
+    (found-some _ _ (looked (c .before .before .before .before .before .before) ∙ c .before .before .before .before .held .given .1))
+    (failed (c .before .same-block .ensures) (c .if1 .taken))
+
+same-length-4 : tie.Need-same-length-4
+same-length-4 c = search needs
+
+returns-4 : tie.Need-returns-4
+returns-4 c =
+    let s = c .before .before .before .before .before .before .before .before .before .before .before .before .before in
+    let a = s .args in
+    found-by (bookOf (a .book .now)) (a .pool .now) (a .list .now) (a .shape) (a .t) (a .i) (a .work .now) (a .by .now)
+    (s .pre .0 .0 .sized) (s .pre .0 .1) (s .pre .1 .0 .0) (below s) (s .pre .1 .1) _
+    (found-some _ _ (looked (c .before .before .before .before .before .before) ∙ c .before .before .before .before .held .given .1))
+    (passed (c .before .same-block .ensures) (c .if1 .left))
+
+pub place-spec : {M : Type 1} → statement M
+place-spec =
+    tie.close
+    (tie.spec
+    prints-requires
+    find-held-requires
+    enum-known-held
+    enum-told
+    find-free-requires
+    enum-known-free
+    enum-told-2
+    same-length
+    returns
+    take-block-requires
+    add-taken
+    same-length-2
+    returns-2
+    same-block-requires
+    same-length-3
+    returns-3
+    same-length-4
+    returns-4)

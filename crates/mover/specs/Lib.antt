@@ -1,0 +1,9 @@
+pub mod Answers
+pub mod Search
+pub mod Finding
+pub mod Working
+pub mod Stepping
+pub mod PoolLaws
+pub mod MoveLaws
+pub mod PlaceLaws
+pub mod ChangeLaws

@@ -1,0 +1,91 @@
+// Steps 3 and 4 of a change: the block that its cell named is counted down, the one that it names now up.
+ghost use mathlib.Core.Path.{_≡_};
+ghost use mathlib.Core.Bool.{true};
+ghost use mathlib.Core.Logic.{_⊎_};
+ghost use Prim.Native.Nat.{_<_};
+ghost use lib.Dec.{eqb};
+ghost use lib.ListN.{length};
+ghost use Rattle.words.specs.Blocks.{unmapped};
+ghost use Rattle.words.specs.Choice.{if_then_else_};
+ghost use Rattle.words.specs.Lists.{all};
+ghost use Rattle.book.specs.Book.{volumes, entryAt, cellAt};
+ghost use Rattle.book.specs.Form.{pbnOk};
+ghost use Rattle.book.specs.Layout.{bookOf, Holds, Is};
+ghost use Rattle.model.specs.Backup.{nameBlock};
+ghost use Rattle.mover.specs.Stepping.{LoweredBy, MovedBy};
+use super::placing::Tally;
+use book::entry;
+use book::map;
+use book::record;
+use words::LBN;
+use words::PBN;
+
+const UNMAPPED: u16 = 65535;
+
+// What a change answers: what is counted after it, or the number of its refusal.
+pub enum Step {
+    Next(Tally),
+    Stop(u16),
+}
+
+// The entries that a change touches: its block's, and that of the before where there is one.
+fn touches(before: PBN) -> u16
+    ensures { λ r. ⌜ r ≡ (if eqb (before .0) unmapped then 1 else 2) ⌝ }
+{
+    if before.0 == UNMAPPED { 1 } else { 2 }
+}
+
+// The before's count falls by 1, and it is kept until this day at least. Not where its count is 0.
+fn lower(work: &mut [u8], before: PBN, until: u16) -> bool
+    requires { ⌜ Holds (now work) ⌝ }
+    requires { ⌜ (before .0 < bookOf (now work) .sizes .n) ⊎ (before .0 ≡ unmapped) ⌝ }
+    ensures { λ r. ⌜ LoweredBy until (before .0) (now (work .entry)) r (now (work .exit)) ⌝ }
+{
+    if before.0 == UNMAPPED {
+        return true;
+    }
+    let count = entry::count(work, before);
+    if count == 0 {
+        return false;
+    }
+    entry::set_count(work, before, count - 1);
+    if entry::expiry(work, before) < until {
+        entry::set_expiry(work, before, until);
+    }
+    true
+}
+
+// The block's count rises by 1, the map names it, a record is added.
+fn name_block(work: &mut [u8], v: u16, lbn: LBN, before: PBN, p: PBN, count: u8)
+    requires { ⌜ Holds (now work) ⌝ }
+    requires { ⌜ (v < volumes) × (lbn .0 < bookOf (now work) .sizes .l) × (p .0 < bookOf (now work) .sizes .n) ⌝ }
+    requires { ⌜ (length (bookOf (now work) .records) < bookOf (now work) .sizes .j) × (before .0 ≡ cellAt (bookOf (now work) .maps) v (lbn .0)) ⌝ }
+    requires { ⌜ (count ≡ entryAt (bookOf (now work) .entries) (p .0) .count) × (count < 255) ⌝ }
+    ensures { λ _. ⌜ Is (now (work .exit)) (nameBlock v (lbn .0) (p .0) (bookOf (now (work .entry)) .entries) (bookOf (now (work .entry)))) ⌝ }
+{
+    entry::set_count(work, p, count + 1);
+    map::set_cell(work, v, lbn, p);
+    record::append_record(work, lbn, before, p);
+}
+
+// Volume v's cell at an LBN goes to block p.
+pub fn move_to(work: &mut [u8], v: u16, lbn: LBN, p: PBN, until: u16, t: Tally) -> Step
+    requires { ⌜ Holds (now work) ⌝ }
+    requires { ⌜ (v < volumes) × (lbn .0 < bookOf (now work) .sizes .l) × (p .0 < bookOf (now work) .sizes .n) ⌝ }
+    requires { ⌜ (length (bookOf (now work) .records) < bookOf (now work) .sizes .j) × (t .touched < 65000) ⌝ }
+    requires { ⌜ all (all (pbnOk (bookOf (now work) .sizes .n))) (bookOf (now work) .maps) ≡ true ⌝ }
+    ensures { λ r. ⌜ MovedBy v until (lbn .0) (p .0) (now (work .entry)) t r (now (work .exit)) ⌝ }
+{
+    let before = map::cell(work, v, lbn);
+    if !lower(work, before, until) {
+        return Step::Stop(13);
+    }
+    let count = entry::count(work, p);
+    if count == 255 {
+        return Step::Stop(14);
+    }
+    name_block(work, v, lbn, before, p, count);
+    let taken = t.taken;
+    let touched = t.touched + touches(before);
+    Step::Next(Tally { taken, touched })
+}

@@ -1,0 +1,42 @@
+-- `count` meets its contract, by what counting leaves on each way out.
+use mathlib.Core.Path.{_≡_, sym, _∙_}
+use denote.Ref.{now}
+use borrow.Author.Needs.{needs}
+use Rattle.book.specs.Form.{formNumber}
+use Rattle.book.specs.InForm.{holds-form}
+use Rattle.book.specs.Layout.{Holds}
+use Rattle.pages.specs.Counted.{counted-refused, counted-up}
+use Rattle.pages.proofs.count.count.Statement.{statement}
+use Rattle.pages.proofs.count.count.Tie as tie
+
+in-form : (c : tie.Else1) → formNumber (now (c .before .before .before .args .book)) ≡ 0
+in-form c = sym (c .before .form-number .ensures) ∙ c .if1 .left
+
+holds : (c : tie.Else1) → Holds (now (c .before .before .before .args .book))
+holds c = holds-form _ (λ i. c .before .before .shared-slice-known .given i .fits) (in-form c)
+
+form-number-requires : tie.Need-form-number-requires
+form-number-requires c κs = search needs
+
+returns : tie.Need-returns
+returns c = counted-refused _ (c .before .form-number .ensures) (c .if1 .taken)
+
+count-entries-requires : tie.Need-count-entries-requires
+count-entries-requires c κs = holds c
+
+blocks-requires : tie.Need-blocks-requires
+blocks-requires c κs = holds (c .before)
+
+cast-held : tie.Need-cast-held
+cast-held c = search needs
+
+cast-waiting : tie.Need-cast-waiting
+cast-waiting c = search needs
+
+returns-2 : tie.Need-returns-2
+returns-2 c =
+    let k = c .before .before in
+    counted-up _ (in-form (k .before .before)) (k .blocks2 .ensures) (k .before .count-entries .ensures .0)
+
+pub count-spec : {M : Type 1} → statement M
+count-spec = tie.close (tie.spec form-number-requires returns count-entries-requires blocks-requires cast-held cast-waiting returns-2)

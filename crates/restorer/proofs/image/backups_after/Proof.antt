@@ -1,0 +1,73 @@
+-- `restorer::image::backups_after` meets its contract: each turn passes one slot, until the volume's next backup after k.
+use Prim.Native.Nat.{_-_, _≤_, _<_}
+use mathlib.Core.Logic.{⊎-elim}
+use native.Mathlib.Omega.{arith}
+use lib.ListN.{length}
+use denote.Ref.{now}
+use Rattle.book.specs.Layout.{bookOf}
+use Rattle.restorer.specs.After.{Skipped, skipped-none, skipped-own, skipped-other, skipped-stop, skipped-end}
+use Rattle.restorer.proofs.image.backups_after.Statement.{statement}
+use Rattle.restorer.proofs.image.backups_after.Tie as tie
+
+abbrev Inv-loop : tie.InvT-loop
+Inv-loop book v k used missing₀ q₀ missing q = (q ≤ used) × Skipped (bookOf book) v k q missing
+
+abbrev μ-loop : tie.MeasureT-loop
+μ-loop book v k used missing₀ q₀ missing q = used - q
+
+used-slots-requires : tie.Need-used-slots-requires Inv-loop μ-loop
+used-slots-requires c κs = c .before .pre
+
+loop-holds : tie.Need-loop-holds Inv-loop μ-loop
+loop-holds c = (omega arith, skipped-none _ _ _)
+
+slot-at-requires : tie.Need-slot-at-requires Inv-loop μ-loop
+slot-at-requires c κs = (c .before .before .before .before .pre, omega arith)
+
+returns : tie.Need-returns Inv-loop μ-loop
+returns c =
+    let k = c .before .before .before in
+    let l = k .before .before .loop in
+    skipped-stop _ _ _ (l .q) (l .missing) (l .inv .1) (k .slot-at .result) (k .slot-at .ensures) (omega arith) (omega arith)
+
+sub-missing : tie.Need-sub-missing Inv-loop μ-loop
+sub-missing c = omega arith
+
+add-q : tie.Need-add-q Inv-loop μ-loop
+add-q c = omega arith
+
+loop-less : tie.Need-loop-less Inv-loop μ-loop
+loop-less c = omega arith
+
+loop-again : tie.Need-loop-again Inv-loop μ-loop
+loop-again c =
+    let k = c .before .before in
+    let l = k .before .before .loop in
+    let h : l .q < length (bookOf (now (k .before .before .before .before .before .args .book)) .slots) = omega arith in
+    let t = k .slot-at .result in
+    let s = k .slot-at .ensures in
+    ⊎-elim
+    (λ w. (omega arith, rw (w .2) (skipped-own _ _ _ (l .q) (l .missing) (l .inv .1) t s h (omega arith) (omega arith))))
+    (λ w. (omega arith, rw (w .1) (skipped-other _ _ _ (l .q) (l .missing) (l .inv .1) t s h (λ e. omega arith))))
+    (c .if1 .came)
+
+returns-2 : tie.Need-returns-2 Inv-loop μ-loop
+returns-2 c =
+    let l = c .before .loop in
+    skipped-end _ _ _ (l .q) (l .missing) (l .inv .1) (c .before .before .used-slots .result) (c .before .before .used-slots .ensures) (omega arith)
+
+pub backups-after-spec : {M : Type 1} → statement M
+backups-after-spec =
+    tie.close
+    (tie.spec
+    Inv-loop
+    μ-loop
+    used-slots-requires
+    loop-holds
+    slot-at-requires
+    returns
+    sub-missing
+    add-q
+    loop-less
+    loop-again
+    returns-2)

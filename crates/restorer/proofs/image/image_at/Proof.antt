@@ -1,0 +1,38 @@
+-- `restorer::image::image_at` meets its contract: a before that was found, else the current map.
+use borrow.Author.Needs.{needs}
+use mathlib.Core.Path.{sym, _∙_}
+use denote.Ref.{now}
+use Rattle.book.specs.Layout.{bookOf}
+use Rattle.restorer.specs.Befores.{image-before, image-current}
+use Rattle.restorer.proofs.image.image_at.Statement.{statement}
+use Rattle.restorer.proofs.image.image_at.Tie as tie
+
+later-before-requires : tie.Need-later-before-requires
+later-before-requires c κs = search needs
+
+enum-known-found : tie.Need-enum-known-found
+enum-known-found c = search needs
+
+enum-told : tie.Need-enum-told
+enum-told c = search needs
+
+cell-requires : tie.Need-cell-requires
+cell-requires c κs = search needs
+
+returns : tie.Need-returns
+returns c =
+    let k = c .before .before .before in
+    let a = k .before .before .args in
+    let none = sym (k .later-before .ensures) ∙ c .before .enum-told .given .1 in
+    c .cell .ensures ∙ sym (image-current (bookOf (now (a .book))) (a .v) (a .at) (a .lbn .0) none)
+
+returns-2 : tie.Need-returns-2
+returns-2 c =
+    let k = c .before .before .before in
+    let a = k .before .before .args in
+    sym (image-before (bookOf (now (a .book))) (a .v) (a .at) (a .lbn .0) _ (sym (k .later-before .ensures) ∙ c .before .found .given .1))
+
+pub image-at-spec : {M : Type 1} → statement M
+image-at-spec =
+    tie.close
+    (tie.spec later-before-requires enum-known-found enum-told cell-requires returns returns-2)

@@ -1,0 +1,64 @@
+-- `restorer::read::kept_backup` meets its contract: each way out gives its number, and the last one the slots after the backup.
+use borrow.Author.Needs.{needs}
+use native.Mathlib.Omega.{arith}
+use Rattle.words.specs.Choice.{failed, passed}
+use Rattle.restorer.specs.ReadingLaws.{backup-above, backup-unenrolled, backup-zero, backup-missing, backup-lapsed, backup-kept}
+use Rattle.restorer.proofs.read.kept_backup.Statement.{statement}
+use Rattle.restorer.proofs.read.kept_backup.Tie as tie
+
+returns : tie.Need-returns
+returns c = backup-above _ _ _ (omega arith)
+
+retention-requires : tie.Need-retention-requires
+retention-requires c κs = search needs
+
+returns-2 : tie.Need-returns-2
+returns-2 c = backup-unenrolled _ _ _ (omega arith)
+
+returns-3 : tie.Need-returns-3
+returns-3 c =
+    let d = c .before .before in
+    backup-zero _ _ _ (d .retention .result) (d .retention .ensures) (omega arith) (λ e. omega arith) (omega arith)
+
+backups-after-requires : tie.Need-backups-after-requires
+backups-after-requires c κs = search needs
+
+returns-4 : tie.Need-returns-4
+returns-4 c =
+    let a = c .before .before in
+    let d = a .before .before .before in
+    backup-missing _ _ _ (d .retention .result) (d .retention .ensures) (omega arith) (λ e. omega arith)
+    (a .backups-after .result) (a .backups-after .ensures) (λ e. omega arith) (λ e. omega arith)
+
+is-kept-requires : tie.Need-is-kept-requires
+is-kept-requires c κs = search needs
+
+returns-5 : tie.Need-returns-5
+returns-5 c =
+    let a = c .before .before .before .before in
+    let d = a .before .before .before in
+    backup-lapsed _ _ _ (d .retention .result) (d .retention .ensures) (omega arith) (λ e. omega arith)
+    (a .backups-after .result) (a .backups-after .ensures) (λ e. omega arith) (omega arith)
+    (failed (c .before .is-kept .ensures) (c .if5 .taken))
+
+returns-6 : tie.Need-returns-6
+returns-6 c =
+    let a = c .before .before .before .before in
+    let d = a .before .before .before in
+    backup-kept _ _ _ (d .retention .result) (d .retention .ensures) (omega arith) (λ e. omega arith)
+    (a .backups-after .result) (a .backups-after .ensures) (λ e. omega arith) (omega arith)
+    (passed (c .before .is-kept .ensures) (c .if5 .left))
+
+pub kept-backup-spec : {M : Type 1} → statement M
+kept-backup-spec =
+    tie.close
+    (tie.spec
+    returns
+    retention-requires
+    returns-2
+    returns-3
+    backups-after-requires
+    returns-4
+    is-kept-requires
+    returns-5
+    returns-6)

@@ -1,0 +1,71 @@
+-- `restorer::read::locate` meets its contract: the checks in their order, each by what its function ensures.
+use borrow.Author.Needs.{needs}
+use mathlib.Core.Path.{_≡_, sym, _∙_, subst}
+use denote.Ref.{now}
+use Rattle.book.specs.Layout.{bookOf}
+use Rattle.book.specs.Formed.{Formed, formed}
+use Rattle.restorer.specs.Reading.{buffersNumber, KeptIs}
+use Rattle.restorer.specs.ReadingLaws.{buffers-passed, kept-volume, sought-before, sought-refused}
+use Rattle.restorer.specs.ReadCalls.{sought-stopped, sought-on}
+use Rattle.restorer.proofs.read.locate.Statement.{statement}
+use Rattle.restorer.proofs.read.locate.Tie as tie
+
+-- past numbers 1 to 3 the book is in form
+none : (c : tie.Else1) → buffersNumber (now (c .before .before .before .before .args .book)) (now (c .before .before .before .before .args .pool)) ≡ 0
+none c = sym (c .before .buffers-number .ensures) ∙ c .if1 .left
+
+ready : (c : tie.Else1) → Formed (now (c .before .before .before .before .args .book))
+ready c = formed _ (λ i. c .before .before .before .shared-slice-known .given i .fits) (buffers-passed _ _ (none c))
+
+buffers-number-requires : tie.Need-buffers-number-requires
+buffers-number-requires c κs = search needs
+
+returns : tie.Need-returns
+returns c =
+    let a = c .before .before .before .before .args in
+    sought-stopped (now (a .book)) (now (a .pool)) (a .volume) (a .number) (a .lbn .0) (c .before .buffers-number .result) (c .before .buffers-number .ensures) (c .if1 .taken)
+
+kept-backup-requires : tie.Need-kept-backup-requires
+kept-backup-requires c κs = ready c .holds
+
+enum-known-at : tie.Need-enum-known-at
+enum-known-at c = search needs
+
+block-before-requires : tie.Need-block-before-requires
+block-before-requires c κs =
+    let k = c .before .before .before in
+    (ready (k .before), kept-volume _ _ _ (subst (KeptIs _ _ _) (c .before .at .given .1) (k .kept-backup .ensures) .0))
+
+enum-known-n : tie.Need-enum-known-n
+enum-known-n c = search needs
+
+returns-2 : tie.Need-returns-2
+returns-2 c =
+    let k = c .before .before .before .before in
+    let a = k .before .before .before .before .before .args in
+    let x = bookOf (now (a .book)) in
+    let on = sought-on (now (a .book)) (now (a .pool)) (a .volume) (a .number) (a .lbn .0) (none (k .before)) in
+    let is = subst (KeptIs x (a .volume) (a .number)) (c .before .before .at .given .1) (k .kept-backup .ensures) in
+    c .block-before .ensures ∙ sym (on ∙ sought-before x (a .volume) (a .number) (a .lbn .0) _ is)
+
+returns-3 : tie.Need-returns-3
+returns-3 c =
+    let k = c .before .before .before in
+    let a = k .before .before .before .before .before .args in
+    let x = bookOf (now (a .book)) in
+    let on = sought-on (now (a .book)) (now (a .pool)) (a .volume) (a .number) (a .lbn .0) (none (k .before)) in
+    let is = subst (KeptIs x (a .volume) (a .number)) (c .before .n .given .1) (k .kept-backup .ensures) in
+    sym (on ∙ sought-refused x (a .volume) (a .number) (a .lbn .0) _ is)
+
+pub locate-spec : {M : Type 1} → statement M
+locate-spec =
+    tie.close
+    (tie.spec
+    buffers-number-requires
+    returns
+    kept-backup-requires
+    enum-known-at
+    block-before-requires
+    enum-known-n
+    returns-2
+    returns-3)

@@ -1,0 +1,70 @@
+-- `restorer::read::read` meets its contract: the part of the block that the search found, which lies within the pool.
+use borrow.Author.Needs.{needs}
+use Prim.Native.Nat.{_+_, _-_}
+use mathlib.Core.Path.{_≡_}
+use native.Mathlib.Omega.{arith}
+use denote.Ref.{now}
+use Rattle.words.specs.Blocks.{blockSize}
+use Rattle.restorer.specs.ReadCalls.{block-refused, block-at, block-inside}
+use Rattle.restorer.proofs.read.read.Statement.{statement}
+use Rattle.restorer.proofs.read.read.Tie as tie
+
+locate-requires : tie.Need-locate-requires
+locate-requires c κs = search needs
+
+enum-known-sought : tie.Need-enum-known-sought
+enum-known-sought c = search needs
+
+enum-told : tie.Need-enum-told
+enum-told c = search needs
+
+slice-aggregate-result : tie.Need-slice-aggregate-result
+slice-aggregate-result c = search needs
+
+returns : tie.Need-returns
+returns c =
+    let k = c .before .before .before in
+    block-refused _ _ _ _ _ (k .locate .result) (k .locate .ensures) _ (c .before .enum-told .given .1)
+
+block-place-requires : tie.Need-block-place-requires
+block-place-requires c κs = search needs
+
+add-result : tie.Need-add-result
+add-result c = search needs
+
+sub-result : tie.Need-sub-result
+sub-result c = search needs
+
+part-result-start : tie.Need-part-result-start
+part-result-start c = search needs
+
+part-result-end : tie.Need-part-result-end
+part-result-end c =
+    let k = c .before .before .before .before in
+    let a = k .before .before .before .args in
+    omega (arith, block-inside (now (a .book)) (now (a .pool)) (a .volume) (a .number) (a .lbn .0) (k .locate .result) (k .locate .ensures) _ (c .before .before .sought .given .1))
+
+returns-2 : tie.Need-returns-2
+returns-2 c =
+    let k = c .before .before .before .before .before in
+    let a = k .before .before .before .args in
+    let n = c .before .block-place .result in
+    let size : n + blockSize - n ≡ blockSize = omega arith in
+    rw (size, c .before .block-place .ensures)
+    (block-at (now (a .book)) (now (a .pool)) (a .volume) (a .number) (a .lbn .0) (k .locate .result) (k .locate .ensures) _ (c .before .before .before .sought .given .1))
+
+pub read-spec : {M : Type 1} → statement M
+read-spec =
+    tie.close
+    (tie.spec
+    locate-requires
+    enum-known-sought
+    enum-told
+    slice-aggregate-result
+    returns
+    block-place-requires
+    add-result
+    sub-result
+    part-result-start
+    part-result-end
+    returns-2)

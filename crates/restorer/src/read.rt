@@ -1,0 +1,149 @@
+// Read: a block of a backup.
+ghost use mathlib.Core.Path.{_≡_};
+ghost use Prim.Native.Nat.{_*_, _<_};
+ghost use Rattle.words.specs.Blocks.{blockSize};
+ghost use Rattle.book.specs.Book.{volumes};
+ghost use Rattle.book.specs.Layout.{bookOf, Holds};
+ghost use Rattle.model.specs.OnBytes.{readBytes, readNumberBytes, blockAfter};
+ghost use Rattle.restorer.specs.Contracts.{Located};
+ghost use Rattle.book.specs.Formed.{Formed};
+ghost use Rattle.restorer.specs.Reading.{buffersNumber, KeptIs, soughtOf, soughtNumber, soughtFrom, soughtBytes};
+use super::image::backups_after;
+use super::image::image_at;
+use super::image::is_kept;
+use book::header;
+use form::form_number;
+use list::BLOCK_SIZE;
+use words::LBN;
+use words::PBN;
+
+const UNMAPPED: u16 = 65535;
+
+// A backup that is there and kept: its volume's later backups are in the slots from this one on. Else the number of the refusal.
+enum Kept {
+    Before(u16),
+    Refused(u16),
+}
+
+// The block that a read gives, or the number of the refusal.
+enum Sought {
+    At(PBN),
+    Refused(u16),
+}
+
+// Numbers 1 to 3, 0 for none.
+fn buffers_number(book: &[u8], pool: &[u8]) -> u16
+    ensures { λ r. ⌜ r ≡ buffersNumber (now (book .entry)) (now (pool .entry)) ⌝ }
+{
+    let number = form_number(book);
+    if number != 0 {
+        return number;
+    }
+    if pool.len() != (header::blocks(book) as usize) * BLOCK_SIZE {
+        return 3;
+    }
+    0
+}
+
+// Numbers 5, 15 and 16.
+fn kept_backup(book: &[u8], v: u16, k: u16) -> Kept
+    requires { ⌜ Holds (now book) ⌝ }
+    ensures { λ r. ⌜ KeptIs (bookOf (now (book .entry))) v k r ⌝ }
+{
+    if v > 7 {
+        return Kept::Refused(5);
+    }
+    let days = header::retention(book, v);
+    if days == 0 {
+        return Kept::Refused(5);
+    }
+    if k == 0 {
+        return Kept::Refused(15);
+    }
+    let after = backups_after(book, v, k);
+    if after.missing != 0 {
+        return Kept::Refused(15);
+    }
+    let at = after.at;
+    if !is_kept(book, at, days) {
+        return Kept::Refused(16);
+    }
+    Kept::Before(at)
+}
+
+// Numbers 17 and 18.
+fn block_before(book: &[u8], v: u16, at: u16, lbn: LBN) -> Sought
+    requires { ⌜ Formed (now book) ⌝ }
+    requires { ⌜ v < volumes ⌝ }
+    ensures { λ r. ⌜ soughtOf r ≡ soughtFrom (bookOf (now (book .entry))) v at (lbn .0) ⌝ }
+{
+    if lbn.0 >= header::cells(book) {
+        return Sought::Refused(17);
+    }
+    let p = image_at(book, v, at, lbn);
+    if p.0 == UNMAPPED {
+        return Sought::Refused(18);
+    }
+    Sought::At(p)
+}
+
+// All checks of a read, in their order.
+fn locate(book: &[u8], pool: &[u8], volume: u16, number: u16, lbn: LBN) -> Sought
+    ensures { λ r. ⌜ soughtOf r ≡ soughtBytes (now (book .entry)) (now (pool .entry)) volume number (lbn .0) ⌝ }
+{
+    let refusal = buffers_number(book, pool);
+    if refusal != 0 {
+        return Sought::Refused(refusal);
+    }
+    match kept_backup(book, volume, number) {
+        Kept::Before(at) => block_before(book, volume, at, lbn),
+        Kept::Refused(n) => Sought::Refused(n),
+    }
+}
+
+fn sought_number(sought: Sought) -> u16
+    ensures { λ r. ⌜ r ≡ soughtNumber sought ⌝ }
+{
+    match sought {
+        Sought::At(_) => 0,
+        Sought::Refused(n) => n,
+    }
+}
+
+// Where block p starts in the pool.
+fn block_place(p: PBN) -> usize
+    ensures { λ r. ⌜ r ≡ p .0 * blockSize ⌝ }
+{
+    (p.0 as usize) * BLOCK_SIZE
+}
+
+// The block of an accepted read is 512 bytes of the pool from `at` on.
+pub fn read_place(book: &[u8], pool: &[u8], volume: u16, number: u16, lbn: LBN, at: &mut u32) -> u16
+    ensures { λ r. ⌜ Located (now (book .entry)) (now (pool .entry)) volume number (lbn .0) (now (at .entry)) r (now (at .exit)) ⌝ }
+{
+    let sought = locate(book, pool, volume, number, lbn);
+    let Sought::At(p) = sought else {
+        return sought_number(sought);
+    };
+    *at = block_place(p) as u32;
+    0
+}
+
+// The block as a part of the lent pool, empty on a refusal.
+pub fn read<'a>(book: &[u8], pool: &'a [u8], volume: u16, number: u16, lbn: LBN) -> &'a [u8]
+    ensures { λ r. ⌜ now r ≡ blockAfter (readBytes (now (book .entry)) (now (pool .entry)) volume number (lbn .0)) ⌝ }
+{
+    let sought = locate(book, pool, volume, number, lbn);
+    let Sought::At(p) = sought else {
+        return &pool[..0];
+    };
+    let at = block_place(p);
+    &pool[at..at + BLOCK_SIZE]
+}
+
+// The number that `read` with the same arguments is refused by, or 0.
+pub fn read_number(book: &[u8], pool: &[u8], volume: u16, number: u16, lbn: LBN) -> u16
+    ensures { λ r. ⌜ r ≡ readNumberBytes (now (book .entry)) (now (pool .entry)) volume number (lbn .0) ⌝ }
+{
+    sought_number(locate(book, pool, volume, number, lbn))
+}
