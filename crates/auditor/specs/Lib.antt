@@ -9,5 +9,5 @@ pub mod Expiries
 pub mod Stamps
 pub mod MapsReplayed
 pub mod AuditParts
-pub mod PrintsApart
+pub mod LowestHeld
 pub mod AuditAnswers

@@ -1,0 +1,86 @@
+-- The bucket of a fingerprint, and the blocks in a bucket. Assumes nothing.
+use Prim.Native.Nat.{ℕ, _+_, _*_, _-_, _%_}
+use mathlib.Core.Path.{_≡_, refl, ap}
+use mathlib.Core.Bool.{Bool, true, false, _&&_}
+use mathlib.Core.List.{List}
+use lib.Dec.{eqb}
+use lib.ListN.{getD}
+use borrow.Author.Tests.{eqb-true, eq-eqb, ne-eqb}
+use Rattle.words.specs.Blocks.{printSize}
+use Rattle.words.specs.Choice.{and-true, true-and, and-false, not-both}
+use Rattle.words.specs.Lists.{same}
+use Rattle.words.specs.Same.{same-equal}
+use Rattle.words.specs.Tests.{surely-not}
+use Rattle.book.specs.Book.{Entry, freeEntry}
+use Rattle.index.specs.First.{firstFrom}
+
+-- the places of each table: one for each bucket, and one for each block of the largest pool
+abbrev pub tableSize : ℕ
+tableSize = 4096
+
+-- the last byte, and the low half of the one before
+unfoldable pub bucketOf : List ℕ → ℕ
+bucketOf f = getD f (printSize - 1) 0 * 16 + getD f (printSize - 2) 0 % 16
+
+-- a held block whose fingerprint is in bucket h; one with fingerprint f, the test of step 1 of a backup
+unfoldable pub inBucket : ℕ → Entry → Bool
+inBucket h e = e .held && eqb (bucketOf (e .print)) h
+
+unfoldable pub hasPrint : List ℕ → Entry → Bool
+hasPrint f e = e .held && same (e .print) f
+
+-- the lowest block of bucket h from a on, or their number where there is none
+abbrev pub firstIn : List Entry → ℕ → ℕ → ℕ
+firstIn es h a = firstFrom (inBucket h) es a
+
+-- ---- laws
+
+pub free-held : freeEntry .held ≡ false
+unfolding freeEntry
+free-held = refl
+
+-- only held and fingerprint count
+pub bucket-by : (h : ℕ) (e e′ : Entry) → e .held ≡ e′ .held → e .print ≡ e′ .print → inBucket h e ≡ inBucket h e′
+unfolding inBucket
+bucket-by h e e′ k l = rw (k, l)
+
+module _ (h : ℕ) (e : Entry) where
+  pub free-out : e .held ≡ false → inBucket h e ≡ false
+  unfolding inBucket
+  free-out k = rw k
+
+  pub other-out : (bucketOf (e .print) ≡ h → ⊥) → inBucket h e ≡ false
+  unfolding inBucket
+  other-out k = rw (ne-eqb (bucketOf (e .print)) h k) (and-false (e .held))
+
+  pub held-in : e .held ≡ true → bucketOf (e .print) ≡ h → inBucket h e ≡ true
+  unfolding inBucket
+  held-in k l = true-and (e .held) (eqb (bucketOf (e .print)) h) k (eq-eqb (bucketOf (e .print)) h l)
+
+  pub in-held : inBucket h e ≡ true → (e .held ≡ true) × (bucketOf (e .print) ≡ h)
+  unfolding inBucket
+  in-held k =
+      let w = and-true (e .held) (eqb (bucketOf (e .print)) h) k in
+      (w .0, eqb-true (bucketOf (e .print)) h (w .1))
+
+module _ (f : List ℕ) (e : Entry) where
+  pub held-print : e .held ≡ true → same (e .print) f ≡ true → hasPrint f e ≡ true
+  unfolding hasPrint
+  held-print k l = true-and (e .held) (same (e .print) f) k l
+
+  pub print-held : hasPrint f e ≡ true → (e .held ≡ true) × (e .print ≡ f)
+  unfolding hasPrint
+  print-held k =
+      let w = and-true (e .held) (same (e .print) f) k in
+      (w .0, same-equal (e .print) f (w .1))
+
+  pub other-print : same (e .print) f ≡ false → hasPrint f e ≡ false
+  unfolding hasPrint
+  other-print k = rw k (and-false (e .held))
+
+-- a held block with fingerprint f is in the bucket of f, so no block outside has it
+pub out-print : (f : List ℕ) (e : Entry) → inBucket (bucketOf f) e ≡ false → hasPrint f e ≡ false
+out-print f e k = surely-not (hasPrint f e) (λ y. not-both (inBucket (bucketOf f) e) (inside (print-held f e y)) k)
+  where
+    inside : (e .held ≡ true) × (e .print ≡ f) → inBucket (bucketOf f) e ≡ true
+    inside w = held-in (bucketOf f) e (w .0) (ap bucketOf (w .1))
