@@ -7,3 +7,4 @@ pub mod Finding
 pub mod Joining
 pub mod Inserting
 pub mod Keeping
+pub mod Holding

@@ -7,5 +7,5 @@ mod linking;
 
 pub use finding::Found;
 pub use finding::find;
-pub use inserting::insert;
+pub use inserting::hold;
 pub use linking::build;

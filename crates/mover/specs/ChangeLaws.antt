@@ -24,9 +24,11 @@ use Rattle.book.specs.Layout.{bookOf, Holds}
 use Rattle.book.specs.Next.{withEntries, withMaps, withRecord}
 use Rattle.model.specs.Moving.{moved-held}
 use Rattle.model.specs.Backup.{Work, Placed, lower, nameBlock, moveNumber, moved, moveTo, changeStep, runChanges}
+use Rattle.index.specs.Indexed.{Indexed}
+use Rattle.mover.specs.Indexing.{moved-indexed}
 use Rattle.mover.specs.MoveLaws.{at-most-two}
 use Rattle.mover.specs.PoolLaws.{same-now}
-use Rattle.mover.specs.Stepping.{PlacedBy, MovedBy, SteppedBy, RanBy, placedNumber}
+use Rattle.mover.specs.Stepping.{PlacedBy, MovedBy, SteppedBy, StillIndexed, RanBy, placedNumber}
 use Rattle.mover.specs.Working.{poolNow, workAt, workOf, Standing}
 use Rattle.mover.specs.declared.placing.Tally.{Tally}
 use Rattle.mover.specs.declared.placing.Placed.{Placed as Answer}
@@ -86,6 +88,16 @@ module _ (v until lbn : ℕ) (d : Placed) (w : Work) where
         ap (λ (w : Work). w .taken) q,
         omega (arith, ap (λ (w : Work). w .touched) q, at-most-two (eqb before unmapped)),
       )
+
+-- .. and what it leaves of the index
+pub move-indexed : (v until lbn p : ℕ) (b : List ℕ) (t : Tally) (r : Step) (b′ : List ℕ) {heads nexts : List ℕ} → MovedBy v until lbn p b t r b′
+    → Indexed (bookOf b .entries) heads nexts → StillIndexed r b′ heads nexts
+unfolding MovedBy StillIndexed nameBlock withEntries withMaps withRecord
+move-indexed v until lbn p b t (Next t′) b′ m i =
+    let g = move-gives v until lbn (record { pbn = p; work = workAt (bookOf b) [] t }) (workAt (bookOf b′) [] t′) (m .0 []) in
+    let e = ap (λ (y : Book). y .entries) (g .0) in
+    rw e (moved-indexed until (cellAt (bookOf b .maps) v lbn) p (bookOf b .entries) i)
+move-indexed v until lbn p b t (Stop k) b′ m i = tt
 
 -- ---- a change
 

@@ -1,7 +1,7 @@
--- The two searches of a backup, by the search over places. Assumes nothing.
+-- The search for a free block, place by place, and what both searches of a backup find. Assumes nothing.
 use Prim.Native.Nat.{ℕ, _+_, _<_}
 use mathlib.Core.Path.{_≡_, refl, sym, ap, _∙_}
-use mathlib.Core.Bool.{Bool, true, false, _&&_}
+use mathlib.Core.Bool.{true, false, _&&_}
 use mathlib.Core.List.{List}
 use mathlib.Core.Option.{Option, none, some}
 use native.Mathlib.Omega.{arith}
@@ -14,17 +14,9 @@ use Rattle.words.specs.Lists.{orElse, same, placeFrom}
 use Rattle.words.specs.declared.PBN.{PBN}
 use Rattle.book.specs.Book.{Entry, freeEntry, entryAt, isFree}
 use Rattle.model.specs.Backup.{findHeld, findFree}
-use Rattle.mover.specs.Answers.{foundOf}
+use Rattle.index.specs.Answers.{foundOf}
+use Rattle.index.specs.declared.finding.Found.the-variants.{At, Nothing}
 use Rattle.mover.specs.Search.{placeIn, place-up, place-below}
-use Rattle.mover.specs.declared.find.Found.the-variants.{At, Nothing}
-
--- the test of step 1
-abbrev pub hasPrint : List ℕ → Entry → Bool
-hasPrint f e = e .held && same (e .print) f
-
-pub held-search : (es : List Entry) (f : List ℕ) → placeIn (hasPrint f) es 0 (length es) ≡ findHeld es f
-unfolding findHeld
-held-search es f = place-up (hasPrint f) es 0
 
 -- found from the cursor up, or only below it
 module _ (es : List Entry) (c : ℕ) where
@@ -48,18 +40,10 @@ module _ (es : List Entry) (c : ℕ) where
 
 -- ---- what is found
 
-pub found-some : (o : Option ℕ) (q : PBN) → foundOf o ≡ At q → o ≡ some (q .0)
-found-some none q e = cc
-found-some (some p) q e = let z : record { 0 = p } ≡ q = cc in ap (λ (q : PBN). some (q .0)) z
-
-pub found-none : (o : Option ℕ) → foundOf o ≡ Nothing → o ≡ none
-found-none none e = refl
-found-none (some p) e = cc
-
 pub found-held : (es : List Entry) (f : List ℕ) (p : ℕ) → findHeld es f ≡ some p → (p < length es) × (entryAt es p .held ≡ true)
 unfolding findHeld
 found-held es f p e =
-    let r = place-found (hasPrint f) freeEntry 0 es p e in
+    let r = place-found (λ (e : Entry). e .held && same (e .print) f) freeEntry 0 es p e in
     let k : p ≡ r .index = omega arith in
     (omega arith, rw k (and-true (entryAt es (r .index) .held) (same (entryAt es (r .index) .print) f) (r .passes) .0))
 

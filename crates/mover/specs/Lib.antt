@@ -1,8 +1,8 @@
-pub mod Answers
 pub mod Search
 pub mod Finding
 pub mod Working
 pub mod Stepping
+pub mod Indexing
 pub mod PoolLaws
 pub mod MoveLaws
 pub mod PlaceLaws

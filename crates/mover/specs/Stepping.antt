@@ -11,6 +11,7 @@ use Rattle.book.specs.Book.{Book, entryAt, cellAt}
 use Rattle.book.specs.Layout.{bookOf, Holds, Is}
 use Rattle.book.specs.Next.{withCursor, withEntries, withEntry, heldAs}
 use Rattle.model.specs.Backup.{place, lower, moveTo, changeStep, runChanges}
+use Rattle.index.specs.Indexed.{Indexed}
 use Rattle.mover.specs.Working.{workAt, workOf, Standing}
 use Rattle.mover.specs.declared.placing.Tally.{Tally}
 use Rattle.mover.specs.declared.placing.Placed.{Placed}
@@ -52,6 +53,11 @@ SteppedBy x pool list v until i b by t (Next t′) b′ by′ =
     × Holds b′
     × Standing x (bookOf b′) by′ t′ (i + 1) (i + 1)
 SteppedBy x pool list v until i b by t (Stop k) b′ by′ = changeStep v until (changeAt list i) (workOf x pool list (bookOf b) by t) ≡ refused k
+
+-- the tables still index the working copy b, unless the change was refused
+unfoldable pub StillIndexed : Step → List ℕ → List ℕ → List ℕ → Type 0
+StillIndexed (Next t) b heads nexts = Indexed (bookOf b .entries) heads nexts
+StillIndexed (Stop k) b heads nexts = Unit {0}
 
 -- all changes
 unfoldable pub RanBy : Book → List ℕ → List ℕ → ℕ → ℕ → List ℕ → List ℕ → Step → List ℕ → List ℕ → Type 0

@@ -4,13 +4,15 @@ ghost use Prim.Native.Nat.{_<_};
 ghost use Rattle.list.specs.Changes.{changeAt};
 ghost use Rattle.book.specs.Book.{volumes};
 ghost use Rattle.book.specs.Layout.{bookOf, Holds};
+ghost use Rattle.index.specs.Indexed.{Indexed};
 ghost use Rattle.mover.specs.Working.{Job, Standing};
-ghost use Rattle.mover.specs.Stepping.{placedNumber, SteppedBy, RanBy};
+ghost use Rattle.mover.specs.Stepping.{placedNumber, SteppedBy, StillIndexed, RanBy};
 use super::moving::Step;
 use super::moving::move_to;
 use super::placing::Placed;
 use super::placing::Tally;
 use super::placing::place;
+use index::build;
 use list::Shape;
 use words::LBN;
 
@@ -32,6 +34,8 @@ fn change(
     list: &[u8],
     shape: Shape,
     by: &mut [u16; 4096],
+    heads: &mut [u16; 4096],
+    nexts: &mut [u16; 4096],
     v: u16,
     until: u16,
     i: usize,
@@ -42,16 +46,18 @@ fn change(
     requires { ⌜ Job (bookOf (now book)) (now pool) (now list) shape × (i < shape .changes) × (v < volumes) ⌝ }
     requires { ⌜ Standing (bookOf (now book)) (bookOf (now work)) (now by) t i i ⌝ }
     requires { ⌜ lbn .0 ≡ changeAt (now list) i .lbn ⌝ }
+    requires { ⌜ Indexed (bookOf (now work) .entries) (now heads) (now nexts) ⌝ }
     ensures { λ r. ⌜ SteppedBy (bookOf (now (book .entry))) (now (pool .entry)) (now (list .entry)) v until i (now (work .entry)) (now (by .entry)) t r (now (work .exit)) (now (by .exit)) ⌝ }
+    ensures { λ r. ⌜ StillIndexed r (now (work .exit)) (now (heads .exit)) (now (nexts .exit)) ⌝ }
 {
-    let placed = place(book, pool, work, list, shape, by, i, t);
+    let placed = place(book, pool, work, list, shape, by, heads, nexts, i, t);
     let Placed::At(p, u) = placed else {
         return Step::Stop(placed_number(placed));
     };
     move_to(work, v, lbn, p, until, u)
 }
 
-// All changes in order; the first refusal leaves early.
+// All changes in order; the first refusal leaves early. The index of the working copy lives here.
 pub fn run_changes(
     book: &[u8],
     pool: &[u8],
@@ -67,6 +73,9 @@ pub fn run_changes(
     requires { ⌜ Standing (bookOf (now book)) (bookOf (now work)) (now by) (record { taken = 0; touched = 0 }) 0 0 ⌝ }
     ensures { λ r. ⌜ RanBy (bookOf (now (book .entry))) (now (pool .entry)) (now (list .entry)) v until (now (work .entry)) (now (by .entry)) r (now (work .exit)) (now (by .exit)) ⌝ }
 {
+    let mut heads = [0u16; 4096];
+    let mut nexts = [0u16; 4096];
+    build(work, &mut heads, &mut nexts);
     let mut t = Tally {
         taken: 0,
         touched: 0,
@@ -82,6 +91,8 @@ pub fn run_changes(
             list,
             shape,
             by,
+            &mut heads,
+            &mut nexts,
             v,
             until,
             i as usize,

@@ -1,62 +1,38 @@
 // Steps 1 and 2 of a backup: the block with a fingerprint, and the next free block.
 ghost use mathlib.Core.Path.{_≡_};
-ghost use mathlib.Core.Bool.{_&&_};
 ghost use Prim.Native.Nat.{_+_, _*_, _≤_, _<_};
 ghost use lib.ListN.{length};
 ghost use Rattle.words.specs.Blocks.{printSize};
-ghost use Rattle.words.specs.Lists.{same};
 ghost use Rattle.words.specs.Sections.{part};
-ghost use Rattle.book.specs.Book.{entryAt, isFree};
+ghost use Rattle.book.specs.Book.{isFree};
 ghost use Rattle.book.specs.Layout.{bookOf, Holds};
 ghost use Rattle.model.specs.Backup.{findHeld, findFree};
-ghost use Rattle.mover.specs.Answers.{foundOf};
+ghost use Rattle.index.specs.Answers.{foundOf};
+ghost use Rattle.index.specs.Indexed.{Indexed};
 ghost use Rattle.mover.specs.Search.{placeIn};
 use book::entry;
 use book::header;
 use book::place::PRINT_SIZE;
+use index::Found;
+use index::find;
 use words::PBN;
-use words::same_bytes;
-
-// A block of the pool, where there is one.
-pub enum Found {
-    At(PBN),
-    Nothing,
-}
-
-// Whether a block is held with this fingerprint. The first bytes decide almost always.
-fn has_print(book: &[u8], p: PBN, print: &[u8]) -> bool
-    requires { ⌜ Holds (now book) ⌝ }
-    requires { ⌜ (p .0 < bookOf (now book) .sizes .n) × (length (now print) ≡ printSize) ⌝ }
-    ensures { λ r. ⌜ r ≡ (entryAt (bookOf (now (book .entry)) .entries) (p .0) .held && same (entryAt (bookOf (now (book .entry)) .entries) (p .0) .print) (now (print .entry))) ⌝ }
-{
-    let own = entry::print_of(book, p);
-    if own[0] != print[0] {
-        return false;
-    }
-    if !entry::is_held(book, p) {
-        return false;
-    }
-    same_bytes(own, print)
-}
 
 // The lowest held block with fingerprint i of the fingerprints.
-pub fn find_held(book: &[u8], prints: &[u8], i: usize) -> Found
+pub fn find_held(
+    book: &[u8],
+    heads: &[u16; 4096],
+    nexts: &[u16; 4096],
+    prints: &[u8],
+    i: usize,
+) -> Found
     requires { ⌜ Holds (now book) ⌝ }
+    requires { ⌜ Indexed (bookOf (now book) .entries) (now heads) (now nexts) ⌝ }
     requires { ⌜ i * printSize + printSize ≤ length (now prints) ⌝ }
     ensures { λ r. ⌜ r ≡ foundOf (findHeld (bookOf (now (book .entry)) .entries) (part (now (prints .entry)) (i * printSize) printSize)) ⌝ }
 {
     let from = i * PRINT_SIZE;
     let to = from + PRINT_SIZE;
-    let print = &prints[from..to];
-    let n = header::blocks(book);
-    let mut p = 0;
-    while p < n {
-        if has_print(book, PBN(p), print) {
-            return Found::At(PBN(p));
-        }
-        p += 1;
-    }
-    Found::Nothing
+    find(book, heads, nexts, &prints[from..to])
 }
 
 // The first free block from one number up to another.

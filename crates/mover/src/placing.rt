@@ -9,13 +9,15 @@ ghost use Rattle.list.specs.Answers.{Whole};
 ghost use Rattle.book.specs.Book.{entryAt};
 ghost use Rattle.book.specs.Layout.{bookOf, Holds, Is};
 ghost use Rattle.model.specs.Pool.{poolSize};
+ghost use Rattle.index.specs.Indexed.{Indexed};
 ghost use Rattle.mover.specs.Working.{heldBlock, Job, Standing};
 ghost use Rattle.mover.specs.Stepping.{takenBook, PlacedBy};
-use super::find::Found;
 use super::find::find_free;
 use super::find::find_held;
 use book::entry;
 use book::header;
+use index::Found;
+use index::hold;
 use list::BLOCK_SIZE;
 use list::Shape;
 use words::PBN;
@@ -60,14 +62,25 @@ fn same_block(
 }
 
 // A free block becomes held with the fingerprint of change i, and the cursor goes past it.
-fn take_block(work: &mut [u8], list: &[u8], shape: Shape, by: &mut [u16; 4096], p: PBN, i: usize)
+fn take_block(
+    work: &mut [u8],
+    list: &[u8],
+    shape: Shape,
+    by: &mut [u16; 4096],
+    heads: &mut [u16; 4096],
+    nexts: &mut [u16; 4096],
+    p: PBN,
+    i: usize,
+)
     requires { ⌜ Holds (now work) ⌝ }
     requires { ⌜ Whole (now list) shape × (i < shape .changes) ⌝ }
-    requires { ⌜ p .0 < bookOf (now work) .sizes .n ⌝ }
+    requires { ⌜ (p .0 < bookOf (now work) .sizes .n) × (entryAt (bookOf (now work) .entries) (p .0) .held ≡ false) ⌝ }
+    requires { ⌜ Indexed (bookOf (now work) .entries) (now heads) (now nexts) ⌝ }
     ensures { λ _. ⌜ Is (now (work .exit)) (takenBook (changeAt (now (list .entry)) i .print) (p .0) (bookOf (now (work .entry)))) ⌝ }
     ensures { λ _. ⌜ now (by .exit) ≡ set (now (by .entry)) (p .0) i ⌝ }
+    ensures { λ _. ⌜ Indexed (bookOf (now (work .exit)) .entries) (now (heads .exit)) (now (nexts .exit)) ⌝ }
 {
-    entry::hold(work, p, list::print_of(list, shape, i));
+    hold(work, heads, nexts, p, list::print_of(list, shape, i));
     let n = header::blocks(work);
     header::set_cursor(work, (p.0 + 1) % n);
     let at = p.0 as usize;
@@ -82,21 +95,25 @@ pub fn place(
     list: &[u8],
     shape: Shape,
     by: &mut [u16; 4096],
+    heads: &mut [u16; 4096],
+    nexts: &mut [u16; 4096],
     i: usize,
     t: Tally,
 ) -> Placed
     requires { ⌜ Holds (now book) × Holds (now work) ⌝ }
     requires { ⌜ Job (bookOf (now book)) (now pool) (now list) shape × (i < shape .changes) ⌝ }
     requires { ⌜ Standing (bookOf (now book)) (bookOf (now work)) (now by) t i i ⌝ }
+    requires { ⌜ Indexed (bookOf (now work) .entries) (now heads) (now nexts) ⌝ }
     ensures { λ r. ⌜ PlacedBy (bookOf (now (book .entry))) (now (pool .entry)) (now (list .entry)) i (now (work .entry)) (now (by .entry)) t r (now (work .exit)) (now (by .exit)) ⌝ }
+    ensures { λ _. ⌜ Indexed (bookOf (now (work .exit)) .entries) (now (heads .exit)) (now (nexts .exit)) ⌝ }
 {
-    let held = find_held(work, list::prints(list, shape), i);
+    let held = find_held(work, heads, nexts, list::prints(list, shape), i);
     let Found::At(q) = held else {
         let free = find_free(work);
         let Found::At(p) = free else {
             return Placed::Refused(12);
         };
-        take_block(work, list, shape, by, p, i);
+        take_block(work, list, shape, by, heads, nexts, p, i);
         let taken = t.taken + 1;
         let touched = t.touched;
         return Placed::At(p, Tally { taken, touched });

@@ -6,8 +6,8 @@ use Rattle.list.specs.Changes.{changeCount}
 use Rattle.list.specs.Laws.{changes-within, change-below}
 use Rattle.book.specs.Book.{Sizes}
 use Rattle.book.specs.Layout.{bookOf}
-use Rattle.mover.specs.ChangeLaws.{change-unplaced, change-by}
-use Rattle.mover.specs.Stepping.{PlacedBy}
+use Rattle.mover.specs.ChangeLaws.{change-unplaced, change-by, move-indexed}
+use Rattle.mover.specs.Stepping.{PlacedBy, StillIndexed}
 use Rattle.mover.specs.declared.placing.Placed.the-variants.{At}
 use borrow.Author.Needs.{needs}
 use Rattle.mover.proofs.changing.change.Statement.{statement}
@@ -16,13 +16,20 @@ use Rattle.mover.proofs.changing.change.Tie as tie
 below : (c : tie.Start) → c .args .i < changeCount (c .args .list .now)
 below c = omega (arith, c .pre .1 .0 .1, c .pre .1 .0 .0 .whole .changes)
 
+abbrev start : tie.After-place → tie.Start
+start c = c .before .before .before .before .before .before .before .before .before
+
 -- the block, and the working copy with it
-placed : (c : tie.After-placed) → PlacedBy (bookOf (c .before .before .before .before .before .before .before .before .before .before .before .args .book .now)) (c .before .before .before .before .before .before .before .before .before .before .before .args .pool .now) (c .before .before .before .before .before .before .before .before .before .before .before .args .list .now) (c .before .before .before .before .before .before .before .before .before .before .before .args .i) (c .before .before .before .before .before .before .before .before .before .before .before .args .work .now) (c .before .before .before .before .before .before .before .before .before .before .before .args .by .now) (c .before .before .before .before .before .before .before .before .before .before .before .args .t)
-    (At (c .placed .given .0 .0) (c .placed .given .0 .1 .0)) (c .before .before .before .before .place .last .1 .1 .0) (c .before .before .before .before .place .last .1 .1 .1 .1 .1 .0)
-placed c = rw (c .placed .given .1) at (c .before .before .before .before .place .ensures)
+placed : (c : tie.After-placed) →
+    let o = c .before .before .before .before in
+    let a = start o .args in
+    PlacedBy (bookOf (a .book .now)) (a .pool .now) (a .list .now) (a .i) (a .work .now) (a .by .now) (a .t) (At (c .placed .given .0 .0) (c .placed .given .0 .1 .0)) (o .place .last .1 .1 .0) (o .place .last .1 .1 .1 .1 .1 .0)
+placed c = rw (c .placed .given .1) at (c .before .before .before .before .place .ensures .0)
 
 place-requires : tie.Need-place-requires
-place-requires c κs = search needs
+place-requires c κs =
+    let s = c .before .before .before .before .before .before .before .before in
+    (s .pre .0, ((s .pre .1 .0 .0, s .pre .1 .0 .1), (s .pre .1 .1 .0, s .pre .1 .1 .1 .1)))
 
 enum-known-placed : tie.Need-enum-known-placed
 enum-known-placed c = search needs
@@ -37,15 +44,19 @@ same-length : tie.Need-same-length
 same-length c = search needs
 
 returns : tie.Need-returns
+unfolding StillIndexed
 returns c =
-    let a = c .before .before .before .before .before .before .before .before .before .before .before .before .args in
-    change-unplaced (bookOf (a .book .now)) (a .pool .now) (a .list .now) (a .v) (a .until) (a .i) (a .work .now) (a .by .now) (a .t)
-    (c .before .before .before .before .before .place .result) _ (c .placed-number .result) _ _ _ _ (c .before .enum-told .given .1) (c .placed-number .ensures) (c .before .before .before .before .before .place .ensures)
+    let o = c .before .before .before .before .before in
+    let a = start o .args in (
+      change-unplaced (bookOf (a .book .now)) (a .pool .now) (a .list .now) (a .v) (a .until) (a .i) (a .work .now) (a .by .now) (a .t)
+          (o .place .result) _ (c .placed-number .result) _ _ _ _ (c .before .enum-told .given .1) (c .placed-number .ensures) (o .place .ensures .0),
+      tt,
+    )
 
 move-to-requires : tie.Need-move-to-requires
 unfolding PlacedBy
 move-to-requires c κs =
-    let s = c .before .before .before .before .before .before .before .before .before .before .before .before .before in
+    let s = start (c .before .before .before .before .before .before) in
     let a = s .args in
     let h = placed (c .before .before) in
     let x = bookOf (a .book .now) in
@@ -57,17 +68,22 @@ move-to-requires c κs =
     let b = below s in
     let small = changes-within (x .sizes .l) (a .list .now) (job .good) in
     let lbn = change-below (x .sizes .l) (a .list .now) (job .good) (a .i) b in
-    (h .3, ((s .pre .1 .0 .2, omega (arith, s .pre .1 .1 .1), omega (arith, h .2)), ((omega (arith, st .records, job .room), omega (arith, st .touched, s .pre .0 .0 .l)), st .maps)))
+    (h .3, ((s .pre .1 .0 .2, omega (arith, s .pre .1 .1 .1 .0), omega (arith, h .2)), ((omega (arith, st .records, job .room), omega (arith, st .touched, s .pre .0 .0 .l)), st .maps)))
 
 same-length-2 : tie.Need-same-length-2
 same-length-2 c = search needs
 
 returns-2 : tie.Need-returns-2
 returns-2 c =
-    let a = c .before .before .before .before .before .before .before .before .before .before .before .before .before .before .before .before .args in
-    change-by (bookOf (a .book .now)) (a .pool .now) (a .list .now) (a .v) (a .until) (a .i) (a .work .now) (a .by .now) (a .t)
-    _ _ (c .before .before .move-to .result) _ _ _ (placed (c .before .before .before .before .before))
-    (rw (c .before .before .before .before .before .before .before .before .before .before .before .before .before .before .before .before .pre .1 .1 .1) at (c .before .before .move-to .ensures))
+    let d = c .before .before .before .before .before in
+    let o = d .before .before .before .before in
+    let s = start o in
+    let a = s .args in
+    let m = c .before .before .move-to in (
+      change-by (bookOf (a .book .now)) (a .pool .now) (a .list .now) (a .v) (a .until) (a .i) (a .work .now) (a .by .now) (a .t)
+          _ _ (m .result) _ _ _ (placed d) (rw (s .pre .1 .1 .1 .0) at (m .ensures)),
+      move-indexed (a .v) (a .until) (a .lbn .0) _ (o .place .last .1 .1 .0) _ (m .result) _ (m .ensures) (o .place .ensures .1),
+    )
 
 pub change-spec : {M : Type 1} → statement M
 change-spec =

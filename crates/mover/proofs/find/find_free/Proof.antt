@@ -4,7 +4,7 @@ use Prim.Native.Nat.{ℕ}
 use lib.ListN.{length}
 use Rattle.book.specs.Book.{isFree}
 use Rattle.book.specs.Layout.{bookOf}
-use Rattle.mover.specs.Answers.{foundOf}
+use Rattle.index.specs.Answers.{foundOf}
 use Rattle.mover.specs.Search.{placeIn}
 use Rattle.mover.specs.Finding.{free-up, free-round}
 use borrow.Author.Needs.{needs}

@@ -6,7 +6,7 @@ use native.Mathlib.Omega.{arith}
 use Rattle.words.specs.Choice.{failed, passed}
 use Rattle.book.specs.Book.{freeEntry, isFree}
 use Rattle.book.specs.Layout.{bookOf}
-use Rattle.mover.specs.Answers.{foundOf}
+use Rattle.index.specs.Answers.{foundOf}
 use Rattle.mover.specs.Search.{placeIn, place-stop, place-more, place-end}
 use Rattle.mover.proofs.find.first_free.Statement.{statement}
 use Rattle.mover.proofs.find.first_free.Tie as tie

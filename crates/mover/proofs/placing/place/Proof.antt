@@ -12,8 +12,8 @@ use Rattle.list.specs.Laws.{print-part, changes-within}
 use Rattle.book.specs.Book.{Sizes}
 use Rattle.book.specs.Layout.{bookOf}
 use Rattle.model.specs.Backup.{findHeld}
-use Rattle.mover.specs.Answers.{foundOf}
-use Rattle.mover.specs.Finding.{found-some, found-none, found-held, found-free}
+use Rattle.index.specs.Answers.{foundOf, found-some, found-none}
+use Rattle.mover.specs.Finding.{found-held, found-free}
 use Rattle.mover.specs.PlaceLaws.{prints-size, twelve-by, eleven-by, found-by, taken-by}
 use borrow.Author.Needs.{needs}
 use Rattle.mover.proofs.placing.place.Statement.{statement}
@@ -23,21 +23,24 @@ use Rattle.mover.proofs.placing.place.Tie as tie
 below : (c : tie.Start) → c .args .i < changeCount (c .args .list .now)
 below c = omega (arith, c .pre .1 .0 .1, c .pre .1 .0 .0 .whole .changes)
 
+abbrev start : tie.After-find-held → tie.Start
+start c = c .before .before .before .before .before .before .before .before .before
+
 -- what step 1 found
-looked : (c : tie.After-find-held) → foundOf (findHeld (bookOf (c .before .before .before .before .before .before .before .args .work .now) .entries) (changeAt (c .before .before .before .before .before .before .before .args .list .now) (c .before .before .before .before .before .before .before .args .i) .print)) ≡ c .find-held .result
+looked : (c : tie.After-find-held) → foundOf (findHeld (bookOf (start c .args .work .now) .entries) (changeAt (start c .args .list .now) (start c .args .i) .print)) ≡ c .find-held .result
 looked c =
-    let a = c .before .before .before .before .before .before .before .args in
+    let a = start c .args in
     sym (c .find-held .ensures
     ∙ ap (λ (f : List ℕ). foundOf (findHeld (bookOf (a .work .now) .entries) f))
-    (ap (λ (f : List ℕ). part f (a .i * printSize) printSize) (c .before .prints .ensures) ∙ print-part (a .list .now) (a .shape .changes) (a .i) (c .before .before .before .before .before .before .before .pre .1 .0 .1)))
+    (ap (λ (f : List ℕ). part f (a .i * printSize) printSize) (c .before .prints .ensures) ∙ print-part (a .list .now) (a .shape .changes) (a .i) (start c .pre .1 .0 .1)))
 
 prints-requires : tie.Need-prints-requires
 prints-requires c κs = search needs
 
 find-held-requires : tie.Need-find-held-requires
 find-held-requires c κs =
-    let s = c .before .before .before .before .before .before in
-    (s .pre .0 .1, omega (arith, ap length (c .prints .ensures), prints-size (s .args .list .now) (s .args .shape) (s .pre .1 .0 .0 .whole), s .pre .1 .0 .1))
+    let s = c .before .before .before .before .before .before .before .before in
+    (s .pre .0 .1, (s .pre .1 .1 .1, omega (arith, ap length (c .prints .ensures), prints-size (s .args .list .now) (s .args .shape) (s .pre .1 .0 .0 .whole), s .pre .1 .0 .1)))
 
 enum-known-held : tie.Need-enum-known-held
 enum-known-held c = search needs
@@ -46,7 +49,9 @@ enum-told : tie.Need-enum-told
 enum-told c = search needs
 
 find-free-requires : tie.Need-find-free-requires
-find-free-requires c κs = (c .before .before .before .before .before .before .before .before .before .before .pre .0 .1, c .before .before .before .before .before .before .before .before .before .before .pre .1 .1 .cursor)
+find-free-requires c κs =
+    let s = start (c .before .before .before) in
+    (s .pre .0 .1, s .pre .1 .1 .0 .cursor)
 
 enum-known-free : tie.Need-enum-known-free
 enum-known-free c = search needs
@@ -59,51 +64,60 @@ same-length c = search needs
 
 returns : tie.Need-returns
 returns c =
-    let s = c .before .before .before .before .before .before .before .before .before .before .before .before .before in
-    let a = s .args in
-    twelve-by (bookOf (a .book .now)) (a .pool .now) (a .list .now) (a .shape) (a .t) (a .i) (a .work .now) (a .by .now)
-    (s .pre .0 .0 .sized) (s .pre .0 .1) (s .pre .1 .0 .0) (below s) (s .pre .1 .1) _ _
-    (found-none _ (looked (c .before .before .before .before .before .before) ∙ c .before .before .before .before .enum-told .given .1))
-    (found-none _ (sym (c .before .before .find-free .ensures) ∙ c .enum-told2 .given .1))
+    let f = c .before .before .before .before .before .before in
+    let s = start f in
+    let a = s .args in (
+      twelve-by (bookOf (a .book .now)) (a .pool .now) (a .list .now) (a .shape) (a .t) (a .i) (a .work .now) (a .by .now)
+          (s .pre .0 .0 .sized) (s .pre .0 .1) (s .pre .1 .0 .0) (below s) (s .pre .1 .1 .0) _ _
+          (found-none _ (looked f ∙ c .before .before .before .before .enum-told .given .1))
+          (found-none _ (sym (c .before .before .find-free .ensures) ∙ c .enum-told2 .given .1)),
+      s .pre .1 .1 .1,
+    )
 
 take-block-requires : tie.Need-take-block-requires
 take-block-requires c κs =
-    let s = c .before .before .before .before .before .before .before .before .before .before .before .before .before .before .before .before in
+    let s = start (c .before .before .before .before .before .before .before .before .before .before .before) in
     let a = s .args in
-    let f = found-free (bookOf (a .work .now) .entries) (bookOf (a .work .now) .cursor) _ (found-some _ _ (sym (c .before .before .before .before .before .find-free .ensures) ∙ c .before .before .before .free .given .1)) in
-    (s .pre .0 .1, ((s .pre .1 .0 .0 .whole, s .pre .1 .0 .1), omega (arith, f .0, s .pre .0 .1 .sized .entries)))
+    let f = found-free (bookOf (a .work .now) .entries) (bookOf (a .work .now) .cursor) _ (found-some _ _ (sym (c .before .before .before .before .before .before .before .find-free .ensures) ∙ c .before .before .before .before .before .free .given .1)) in
+    (s .pre .0 .1, ((s .pre .1 .0 .0 .whole, s .pre .1 .0 .1), ((omega (arith, f .0, s .pre .0 .1 .sized .entries), f .1), s .pre .1 .1 .1)))
 
 add-taken : tie.Need-add-taken
 add-taken c =
-    let s = c .before .before .before .before .before .before .before .before .before .before .before .before .before .before .before .before .before .before .before .before in
-    omega (arith, s .pre .1 .1 .taken, below s, changes-within (bookOf (s .args .book .now) .sizes .l) (s .args .list .now) (s .pre .1 .0 .0 .good), s .pre .0 .0 .l)
+    let s = start (c .before .before .before .before .before .before .before .before .before .before .before .before .before .before .before) in
+    omega (arith, s .pre .1 .1 .0 .taken, below s, changes-within (bookOf (s .args .book .now) .sizes .l) (s .args .list .now) (s .pre .1 .0 .0 .good), s .pre .0 .0 .l)
 
 same-length-2 : tie.Need-same-length-2
 same-length-2 c = search needs
 
 returns-2 : tie.Need-returns-2
 returns-2 c =
-    let s = c .before .before .before .before .before .before .before .before .before .before .before .before .before .before .before .before .before .before .before .before in
+    let e = c .before .before .before .before .before .before .before .before .before .before .before .before .before in
+    let f = e .before .before in
+    let s = start f in
     let a = s .args in
-    taken-by (bookOf (a .book .now)) (a .pool .now) (a .list .now) (a .shape) (a .t) (a .i) (a .work .now) (a .by .now)
-    (s .pre .0 .0 .sized) (s .pre .0 .1) (s .pre .1 .0 .0) (below s) (s .pre .1 .1) _ _ _
-    (found-none _ (looked (c .before .before .before .before .before .before .before .before .before .before .before .before .before) ∙ c .before .before .before .before .before .before .before .before .before .before .before .enum-told .given .1))
-    (found-some _ _ (sym (c .before .before .before .before .before .before .before .before .before .find-free .ensures) ∙ c .before .before .before .before .before .before .before .free .given .1))
-    (c .before .before .before .take-block .ensures .0)
-    (c .before .before .before .take-block .ensures .1)
+    let k = c .before .before .before .take-block in (
+      taken-by (bookOf (a .book .now)) (a .pool .now) (a .list .now) (a .shape) (a .t) (a .i) (a .work .now) (a .by .now)
+          (s .pre .0 .0 .sized) (s .pre .0 .1) (s .pre .1 .0 .0) (below s) (s .pre .1 .1 .0) _ _ _
+          (found-none _ (looked f ∙ e .enum-told .given .1))
+          (found-some _ _ (sym (c .before .before .before .before .before .before .before .before .before .before .before .find-free .ensures) ∙ c .before .before .before .before .before .before .before .before .before .free .given .1))
+          (k .ensures .0)
+          (k .ensures .1 .0),
+      k .ensures .1 .1,
+    )
 
 same-block-requires : tie.Need-same-block-requires
 same-block-requires c κs =
-    let s = c .before .before .before .before .before .before .before .before .before .before .before in
+    let o = c .before .before .before .before in
+    let s = start o in
     let a = s .args in
-    let f = found-held (bookOf (a .work .now) .entries) (changeAt (a .list .now) (a .i) .print) _ (found-some _ _ (looked (c .before .before .before .before) ∙ c .before .before .held .given .1)) in
-    let n = ap (λ (z : Sizes). z .n) (s .pre .1 .1 .sizes) in (
+    let f = found-held (bookOf (a .work .now) .entries) (changeAt (a .list .now) (a .i) .print) _ (found-some _ _ (looked o ∙ c .before .before .held .given .1)) in
+    let n = ap (λ (z : Sizes). z .n) (s .pre .1 .1 .0 .sizes) in (
       s .pre .0 .0,
       (
         (s .pre .1 .0 .0 .whole, s .pre .1 .0 .1),
         (
           (omega (arith, f .0, s .pre .0 .1 .sized .entries), s .pre .1 .0 .0 .size),
-          λ e. omega (arith, s .pre .1 .1 .marks _ e (f .1), s .pre .1 .0 .1),
+          λ e. omega (arith, s .pre .1 .1 .0 .marks _ e (f .1), s .pre .1 .0 .1),
         ),
       ),
     )
@@ -113,24 +127,30 @@ same-length-3 c = search needs
 
 returns-3 : tie.Need-returns-3
 returns-3 c =
-    let s = c .before .before .before .before .before .before .before .before .before .before .before .before .before in
-    let a = s .args in
-    eleven-by (bookOf (a .book .now)) (a .pool .now) (a .list .now) (a .shape) (a .t) (a .i) (a .work .now) (a .by .now)
-    (s .pre .0 .0 .sized) (s .pre .0 .1) (s .pre .1 .0 .0) (below s) (s .pre .1 .1) _ _ _
-    (found-some _ _ (looked (c .before .before .before .before .before .before) ∙ c .before .before .before .before .held .given .1))
-    (failed (c .before .same-block .ensures) (c .if1 .taken))
+    let f = c .before .before .before .before .before .before in
+    let s = start f in
+    let a = s .args in (
+      eleven-by (bookOf (a .book .now)) (a .pool .now) (a .list .now) (a .shape) (a .t) (a .i) (a .work .now) (a .by .now)
+          (s .pre .0 .0 .sized) (s .pre .0 .1) (s .pre .1 .0 .0) (below s) (s .pre .1 .1 .0) _ _ _
+          (found-some _ _ (looked f ∙ c .before .before .before .before .held .given .1))
+          (failed (c .before .same-block .ensures) (c .if1 .taken)),
+      s .pre .1 .1 .1,
+    )
 
 same-length-4 : tie.Need-same-length-4
 same-length-4 c = search needs
 
 returns-4 : tie.Need-returns-4
 returns-4 c =
-    let s = c .before .before .before .before .before .before .before .before .before .before .before .before .before in
-    let a = s .args in
-    found-by (bookOf (a .book .now)) (a .pool .now) (a .list .now) (a .shape) (a .t) (a .i) (a .work .now) (a .by .now)
-    (s .pre .0 .0 .sized) (s .pre .0 .1) (s .pre .1 .0 .0) (below s) (s .pre .1 .1) _
-    (found-some _ _ (looked (c .before .before .before .before .before .before) ∙ c .before .before .before .before .held .given .1))
-    (passed (c .before .same-block .ensures) (c .if1 .left))
+    let f = c .before .before .before .before .before .before in
+    let s = start f in
+    let a = s .args in (
+      found-by (bookOf (a .book .now)) (a .pool .now) (a .list .now) (a .shape) (a .t) (a .i) (a .work .now) (a .by .now)
+          (s .pre .0 .0 .sized) (s .pre .0 .1) (s .pre .1 .0 .0) (below s) (s .pre .1 .1 .0) _
+          (found-some _ _ (looked f ∙ c .before .before .before .before .held .given .1))
+          (passed (c .before .same-block .ensures) (c .if1 .left)),
+      s .pre .1 .1 .1,
+    )
 
 pub place-spec : {M : Type 1} → statement M
 place-spec =
