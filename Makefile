@@ -1,5 +1,5 @@
 # `make demo` builds and runs what there is to run; `make check` is all that the gate runs.
-.PHONY: demo check host soak mutants bench install uninstall clean
+.PHONY: demo check host soak mutants bench bench-month install uninstall clean
 
 demo:
 	@scripts/demo
@@ -23,6 +23,10 @@ mutants:
 # Speed, side by side with hand-written C in one run.
 bench:
 	@scripts/bench
+
+# A month of backups through aspenbox, and through borg and restic where they are installed: some five minutes.
+bench-month: host
+	@bench/month/run
 
 # The C side: header, archives, pkg-config file, aspenbox and the manual pages, below DESTDIR.
 PREFIX = /usr/local
