@@ -24,7 +24,7 @@ mutants:
 bench:
 	@scripts/bench
 
-# A month of backups through aspenbox, and through borg and restic where they are installed: some five minutes.
+# A month of backups through aspenbox, and through borg and restic where they are installed: four minutes of processor time.
 bench-month: host
 	@bench/month/run
 

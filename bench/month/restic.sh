@@ -1,5 +1,5 @@
 # shellcheck shell=bash disable=SC2154
-# restic without compression. It always encrypts, so it has a password; its chunks have some 1 MiB, 512 KiB at least, and that can't be changed.
+# restic without compression. It always encrypts, so it has a password. It has no option for the size of chunks.
 
 # in_restic TOOL ARGUMENT..: restic on this store, with its cache beside it.
 in_restic() {

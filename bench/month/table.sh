@@ -48,11 +48,12 @@ dashes() {
     echo ---
 }
 
-# What was measured, in a sentence above the table.
+# What was measured, above the table.
 print_month() {
     local backups=$((kept * ${#volumes[@]})) image=$work/expected/volume-0.img
     echo "$days days of ${#volumes[@]} backups. $backups backups are kept at the end; as plain copies they are $(grouped $((backups * $(stat -c %s "$image")))) bytes."
     echo "aspenbox held $(grouped "$fullest") of $(grouped "$blocks") blocks at most, and used $(grouped "$(records_used)") of $(grouped "$records") records."
+    echo "Load of the last 5 minutes, of which 1 is this run's: $(cut -d ' ' -f 2 /proc/loadavg) on $(nproc) processors."
     echo
 }
 
