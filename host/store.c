@@ -164,7 +164,7 @@ void store_replace_book(const struct store *store)
 {
     char *temporary = join_text(store->book_path, ".new", "");
 
-    or_fail(file_replace(store->book_path, temporary, 0, store->book));
+    or_fail(file_replace(store->book_path, temporary, store->book));
     free(temporary);
     if (!folder_sync(store->folder))
         fail(STATUS_FILES,
