@@ -81,3 +81,4 @@ pub mod OnBytesFit
 pub mod Standing
 pub mod Proved
 pub mod JournalAt
+pub mod PowerCut
