@@ -1,5 +1,5 @@
 # `make demo` builds and runs what there is to run; `make check` is all that the gate runs.
-.PHONY: demo check host bench install uninstall clean
+.PHONY: demo check host faults bench install uninstall clean
 
 demo:
 	@scripts/demo
@@ -11,6 +11,11 @@ check:
 host:
 	@scripts/archives
 	@scripts/host
+
+# Faults and power cuts, more of them than `make check` tries; a quarter of an hour.
+faults:
+	@scripts/archives
+	@tests/faults/run long
 
 # Speed, side by side with hand-written C in one run.
 bench:
