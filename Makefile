@@ -1,5 +1,5 @@
 # `make demo` builds and runs what there is to run; `make check` is all that the gate runs.
-.PHONY: demo check host soak mutants bench bench-month install uninstall clean
+.PHONY: demo check host soak mutants faults bench bench-month install uninstall clean
 
 demo:
 	@scripts/demo
@@ -19,6 +19,11 @@ soak:
 # The second implementation broken on purpose, to see that the comparison notices.
 mutants:
 	@tests/mutants/run
+
+# Faults and power cuts, more of them than `make check` tries; a quarter of an hour.
+faults:
+	@scripts/archives
+	@tests/faults/run long
 
 # Speed, side by side with hand-written C in one run.
 bench:

@@ -137,7 +137,7 @@ static bool write_stream(const char *out, struct bytes volume)
 static bool write_file(const char *out, struct bytes volume)
 {
     char *temporary = file_beside(out), *folder = folder_of(out);
-    bool good = file_replace(out, temporary, O_EXCL, volume) && folder_sync(folder);
+    bool good = file_replace(out, temporary, volume) && folder_sync(folder);
 
     free(temporary);
     free(folder);

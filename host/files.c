@@ -5,6 +5,7 @@
 #include <stdio.h>
 #include <stdlib.h>
 #include <string.h>
+#include <sys/file.h>
 #include <sys/stat.h>
 #include <unistd.h>
 
@@ -187,25 +188,52 @@ bool folder_make(const char *folder)
 
 char *file_beside(const char *path)
 {
-    char process[32];
-
-    snprintf(process, sizeof process, "%ld", (long)getpid());
-    return join_text(path, ".new-", process);
+    return join_text(path, ".aspenbox", ".new");
 }
 
-bool file_replace(const char *path, const char *temporary, int extra, struct bytes bytes)
+/* Removes a temporary file that nobody writes. Who writes one has it locked until it is renamed, so
+ * that a file which still has the name and can be locked was left. */
+static void remove_left(const char *temporary)
 {
-    int fd = file_open(temporary, O_WRONLY | O_CREAT | O_TRUNC | extra);
+    struct stat opened, named;
+    int fd = file_open(temporary, O_RDONLY | O_NOFOLLOW | O_NONBLOCK);
+
+    if (fd < 0)
+        return;
+    if (flock(fd, LOCK_EX | LOCK_NB) == 0 && fstat(fd, &opened) == 0 &&
+        lstat(temporary, &named) == 0 && opened.st_dev == named.st_dev &&
+        opened.st_ino == named.st_ino)
+        unlink(temporary);
+    close(fd);
+}
+
+/* Makes the temporary file, for this process alone. */
+static int make_temporary(const char *temporary)
+{
+    int fd;
+
+    remove_left(temporary);
+    fd = file_open(temporary, O_WRONLY | O_CREAT | O_EXCL);
+    /* A file system without locks has to do without. */
+    if (fd < 0 || flock(fd, LOCK_EX | LOCK_NB) == 0 || errno != EWOULDBLOCK)
+        return fd;
+    failed("lock", temporary);
+    close(fd);
+    return -1;
+}
+
+bool file_replace(const char *path, const char *temporary, struct bytes bytes)
+{
+    int fd = make_temporary(temporary);
     bool good;
 
     if (fd < 0)
         return false;
     good = file_write(fd, temporary, bytes.at, bytes.length) && file_sync(fd, temporary);
-    if (close(fd) != 0 && good)
-        good = failed("close", temporary);
     if (good && rename(temporary, path) != 0)
         good = failed("replace", path);
     if (!good)
         unlink(temporary);
+    close(fd);
     return good;
 }

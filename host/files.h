@@ -34,11 +34,12 @@ char *folder_of(const char *path);
 /* Makes the folder if it isn't there, for its owner alone, and syncs its name. */
 bool folder_make(const char *folder);
 
-/* A name beside the file for its next version, of this process alone; the caller frees it. */
+/* A name beside the file for its next version; the caller frees it. */
 char *file_beside(const char *path);
 /* Replaces the file: writes `temporary`, syncs it and renames it. On failure `path` is as it was
- * and `temporary` is gone. With `extra` O_EXCL a `temporary` that is there is left alone. The new
- * name lasts once the folder is synced. */
-bool file_replace(const char *path, const char *temporary, int extra, struct bytes bytes);
+ * and `temporary` is gone. A `temporary` that was left by one that was cut off is removed; one
+ * that is being written is left alone, and that is a failure. The new name lasts once the folder
+ * is synced. */
+bool file_replace(const char *path, const char *temporary, struct bytes bytes);
 
 #endif

@@ -84,9 +84,7 @@ void lock_take(struct lock *lock, const char *folder, enum lock_use use, bool wa
         fail(STATUS_FILES, "%s", file_failure());
     bytes.at = resized(bytes.at, bytes.length + 1);
     bytes.at[bytes.length] = '\0';
-    if (!parse(lock, (const char *)bytes.at))
-        fail(STATUS_STORE, "%s is damaged or from another program; put back a copy of it",
-             lock->path);
+    lock->whole = parse(lock, (const char *)bytes.at);
     bytes_free(&bytes);
 }
 
@@ -102,9 +100,11 @@ void lock_take_new(struct lock *lock, const char *folder, bool wait)
     take(lock, LOCK_EX, wait);
     if (!file_read(lock->fd, lock->path, sizeof ours - 1, &bytes))
         fail(STATUS_FILES, "%s", file_failure());
-    /* A format that was cut off leaves the file empty or whole. */
-    if (bytes.length > 0 && memcmp(bytes.at, ours, bytes.length) != 0)
-        fail(STATUS_USAGE, "%s is a file of something else; format another folder", lock->path);
+    /* A format that was cut off leaves zeros where the bytes weren't on disk yet. */
+    for (size_t i = 0; i < bytes.length; i++)
+        if (bytes.at[i] != 0 && bytes.at[i] != (uint8_t)ours[i])
+            fail(STATUS_USAGE, "%s is a file of something else; format another folder",
+                 lock->path);
     bytes_free(&bytes);
 }
 

@@ -16,12 +16,13 @@ enum lock_use {
 struct lock {
     char *path;
     int fd;
+    bool whole;                /* whether the file is as lock_fill writes it; only then is there: */
     long day_zero;             /* the date of day 0 */
     uint8_t id[STORE_ID_SIZE]; /* drawn by chance when the store was made */
 };
 
-/* Opens the store's lock, takes it and reads what the file keeps. Without `wait` a store that is
- * in use ends the program. */
+/* Opens the store's lock, takes it and reads what the file keeps; a format that was cut off may
+ * leave it not whole. Without `wait` a store that is in use ends the program. */
 void lock_take(struct lock *lock, const char *folder, enum lock_use use, bool wait);
 
 /* Takes the lock of a store that is to be made, making the file if there is none. */

@@ -5,7 +5,6 @@
 #include "prints.h"
 
 #include <aspen.h>
-#include <fcntl.h>
 #include <stdlib.h>
 #include <string.h>
 
@@ -100,7 +99,7 @@ bool state_save(const struct state *state, const struct store *store, uint16_t v
     memcpy(file.at + KNOWN_AT, state->known.at, state->known.length);
     memcpy(file.at + KNOWN_AT + cells, state->prints.at, state->prints.length);
     sha256(file.at, digest_at(cells), file.at + digest_at(cells));
-    good = file_replace(state->path, temporary, O_EXCL, file) && folder_sync(folder);
+    good = file_replace(state->path, temporary, file) && folder_sync(folder);
     bytes_free(&file);
     free(temporary);
     free(folder);

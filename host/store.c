@@ -58,6 +58,9 @@ void store_open(struct store *store, const struct request *request, enum lock_us
     name_files(store, request->words[0]);
     lock_take(&store->lock, store->folder, use, request->options[OPTION_NO_WAIT] == NULL);
     read_book(store, use);
+    if (!store->lock.whole)
+        fail(STATUS_STORE, "%s is damaged or from another program; put back a copy of it",
+             store->lock.path);
     number = aspen_form(store->book.at, store->book.length);
     if (number != ASPEN_OK)
         refuse_store(store, number);
@@ -161,7 +164,7 @@ void store_replace_book(const struct store *store)
 {
     char *temporary = join_text(store->book_path, ".new", "");
 
-    or_fail(file_replace(store->book_path, temporary, 0, store->book));
+    or_fail(file_replace(store->book_path, temporary, store->book));
     free(temporary);
     if (!folder_sync(store->folder))
         fail(STATUS_FILES,

@@ -41,6 +41,19 @@ expect 4 "Is a directory" restore box 3 2 box
 expect 2 "can't be standard output" restore box 3 2 - --json
 check "no temporary file is left" same "$(find . -name '*.new*')" ""
 
+# What a restore that was cut off left is removed; what another one is writing isn't.
+echo "half a volume" >left.aspenbox.new
+expect 0 "restored" restore box 3 2 left
+check "restored beside what was left" cmp left image.2
+echo "half a volume" >busy.aspenbox.new
+exec 9<busy.aspenbox.new
+flock 9
+expect 4 "can't create busy.aspenbox.new: File exists" restore box 3 2 busy
+check "what is being written is left alone" same "$(cat busy.aspenbox.new)" "half a volume"
+exec 9<&-
+expect 0 "restored" restore box 3 2 busy
+check "no temporary file stays" same "$(find . -name '*.new*')" ""
+
 # A disk that takes no more: here files may not grow past 1,024 bytes.
 limited() {
     (
@@ -53,7 +66,7 @@ limited() {
 }
 before=$(content)
 check "status of a restore on a full disk" same "$(limited restore box 3 2 cut)" 4
-check "its message" grep -q "can't write cut.new-.*: File too large" "$work/err"
+check "its message" grep -q "can't write cut.aspenbox.new: File too large" "$work/err"
 check "no half of a file is left" same "$(find . -name 'cut*')" ""
 check "status of a call on a full disk" same "$(limited enrol box 4 --keep 5)" 4
 check "its message" grep -q "can't write box/book.new: File too large" "$work/err"

@@ -82,3 +82,4 @@ pub mod Proved
 pub mod JournalAt
 pub mod KeptNumbers
 pub mod KeptBefores
+pub mod PowerCut

@@ -129,7 +129,7 @@ module _ (z : Sizes) (spare : ℕ) (enough : bookSize z ≤ spare) where
   unfolding oursShown plainShown
   stands-shown (stand x pool q g e) = rw (fit-book (g .fit)) (λ i. record { blocks = sym (g .blocks) i; maps = sym (maps-agree g) i })
 
-end-append : {S : Type 0} (step : S → Call → Step S) (s : S) (cs ds : List Call) → endOf step s (cs ++ ds) ≡ endOf step (endOf step s cs) ds
+pub end-append : {S : Type 0} (step : S → Call → Step S) (s : S) (cs ds : List Call) → endOf step s (cs ++ ds) ≡ endOf step (endOf step s cs) ds
 end-append step s [] ds = refl
 end-append step s (c ∷ cs) ds = end-append step (step s c .next) cs ds
 
@@ -138,7 +138,7 @@ end-append step s (c ∷ cs) ds = end-append step (step s c .next) cs ds
 sizes-fresh : (f : Fresh) → sizesOk (f .sizes) ≡ true
 sizes-fresh f = format-on-bytes (f .given) (f .sizes) (f .book) (f .formatted) .0
 
-fresh-stands : (f : Fresh) → Stand (f .sizes) (begin f) (start (f .sizes))
+pub fresh-stands : (f : Fresh) → Stand (f .sizes) (begin f) (start (f .sizes))
 unfolding fresh
 fresh-stands f =
     let a = format-on-bytes (f .given) (f .sizes) (f .book) (f .formatted) in

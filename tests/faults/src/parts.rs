@@ -1,0 +1,295 @@
+//! The parts of the test, each shared out to as many workers as there are processors.
+
+use std::num::NonZero;
+use std::path::PathBuf;
+use std::sync::atomic::{AtomicUsize, Ordering};
+use std::sync::Mutex;
+use std::thread;
+
+use crate::bench::{Bench, Reading};
+use crate::damage;
+use crate::level::Level;
+use crate::played::{learn, play, Scene};
+use crate::power;
+use crate::program::Program;
+use crate::report::Report;
+use crate::seen;
+use crate::soak;
+use crate::story::Story;
+use crate::sweep;
+
+#[derive(Clone, Copy, PartialEq, Eq)]
+pub enum Part {
+    Seen,
+    Sweep,
+    Power,
+    Damage,
+    Soak,
+}
+
+pub const ALL: [Part; 5] = [
+    Part::Seen,
+    Part::Sweep,
+    Part::Power,
+    Part::Damage,
+    Part::Soak,
+];
+
+impl Part {
+    pub fn named(name: &str) -> Option<Part> {
+        match name {
+            "seen" => Some(Part::Seen),
+            "sweep" => Some(Part::Sweep),
+            "power" => Some(Part::Power),
+            "damage" => Some(Part::Damage),
+            "soak" => Some(Part::Soak),
+            _ => None,
+        }
+    }
+}
+
+/// What a broken program has to be caught by.
+pub struct Hunt {
+    pub part: Part,
+    /// A text in the complaint.
+    pub says: String,
+    /// Only what has this text in its name is tried.
+    pub among: String,
+}
+
+/// What a part came to: how many passed, what the others complain about, and a line for people.
+#[derive(Default)]
+pub struct Outcome {
+    pub passed: usize,
+    pub complaints: Vec<String>,
+    pub words: String,
+    /// Faults, and states of a disk after a power cut, that were tried.
+    pub faults: usize,
+    pub states: usize,
+}
+
+impl Outcome {
+    /// Of something that couldn't be tried.
+    pub fn failed(words: &str, why: String) -> Self {
+        Outcome {
+            complaints: vec![why],
+            words: words.into(),
+            ..Outcome::default()
+        }
+    }
+}
+
+/// A program and a story as it plays it.
+pub struct Stage {
+    program: Program,
+    story: Story,
+    scenes: Vec<Scene>,
+    folder: PathBuf,
+    level: Level,
+}
+
+impl Stage {
+    pub fn new(
+        program: Program,
+        folder: PathBuf,
+        level: Level,
+        story: Story,
+    ) -> Result<Self, String> {
+        let first = folder.join("first");
+        let scenes = play(&Bench::new(&program, &story, first, Reading::One))?;
+        Ok(Stage {
+            program,
+            story,
+            scenes,
+            folder,
+            level,
+        })
+    }
+
+    /// The same with another program, or with another story.
+    pub fn with(&self, aspenbox: Option<PathBuf>, story: Story) -> Result<Self, String> {
+        let program = Program {
+            aspenbox: aspenbox.unwrap_or(self.program.aspenbox.clone()),
+            shim: self.program.shim.clone(),
+        };
+        Stage::new(program, self.folder.clone(), self.level, story)
+    }
+
+    pub fn run(&self, part: Part) -> Outcome {
+        self.search(part, None)
+    }
+
+    /// Runs the part up to the complaint that is hunted.
+    pub fn hunt(&self, hunt: &Hunt) -> Vec<String> {
+        self.search(hunt.part, Some(hunt)).complaints
+    }
+
+    fn search(&self, part: Part, hunt: Option<&Hunt>) -> Outcome {
+        match part {
+            Part::Seen => self.seen(hunt),
+            Part::Sweep => self.sweep(hunt),
+            Part::Power => self.power(hunt),
+            Part::Damage => self.damage(hunt),
+            Part::Soak => self.soak(hunt),
+        }
+    }
+
+    /// Tries every item and counts those that pass.
+    fn share<I: Sync>(
+        &self,
+        what: &str,
+        hunt: Option<&Hunt>,
+        items: &[I],
+        label: impl Fn(&I) -> String + Sync,
+        work: impl Fn(&mut Bench, &I) -> Result<(), String> + Sync,
+    ) -> Outcome {
+        let passed = AtomicUsize::new(0);
+        let wanted = |item: &&I| hunt.is_none_or(|hunt| label(item).contains(&hunt.among));
+        let items: Vec<&I> = items.iter().filter(wanted).collect();
+        let report = Report::new(what, items.len(), hunt.map(|hunt| hunt.says.as_str()));
+        let play = |worker: usize| {
+            let folder = self.folder.join(format!("worker{worker}"));
+            let reading = self.level.reading();
+            let mut bench = Bench::new(&self.program, &self.story, folder, reading);
+            learn(&mut bench, &self.scenes);
+            while let Some(next) = report.next() {
+                match work(&mut bench, items[next]) {
+                    Ok(()) => {
+                        passed.fetch_add(1, Ordering::Relaxed);
+                    }
+                    Err(why) => report.complain(label(items[next]), why),
+                }
+            }
+        };
+        thread::scope(|scope| {
+            for worker in 0..thread::available_parallelism().map_or(1, NonZero::get) {
+                let play = &play;
+                scope.spawn(move || play(worker));
+            }
+        });
+        Outcome {
+            passed: passed.into_inner(),
+            complaints: report.finish(),
+            ..Outcome::default()
+        }
+    }
+
+    fn seen(&self, hunt: Option<&Hunt>) -> Outcome {
+        let mut outcome = Outcome {
+            words: "calls: not run as the system sees them (no strace)".into(),
+            ..Outcome::default()
+        };
+        if seen::has_strace() {
+            let label = |scene: &Scene| scene.command.to_string();
+            outcome = self.share(
+                "what the system sees",
+                hunt,
+                &self.scenes,
+                label,
+                |bench, scene| seen::check_calls(bench, scene),
+            );
+            outcome.words = format!(
+                "calls: the shim sees all by which {} commands write",
+                outcome.passed
+            );
+        }
+        match seen::check_imports(&self.program) {
+            Ok(()) => outcome.passed += 1,
+            Err(why) => outcome.complaints.push(why),
+        }
+        outcome
+    }
+
+    fn sweep(&self, hunt: Option<&Hunt>) -> Outcome {
+        let cases = sweep::cases(&self.scenes, self.level.all);
+        let label = |case: &sweep::Case| sweep::label(&self.scenes, case);
+        let outcome = self.share("faults", hunt, &cases, label, |bench, case| {
+            sweep::try_case(bench, &self.scenes, case)
+        });
+        let words = format!(
+            "faults: {} in {} commands, {} recovered",
+            cases.len(),
+            self.scenes.len(),
+            outcome.passed
+        );
+        Outcome {
+            words,
+            faults: cases.len(),
+            ..outcome
+        }
+    }
+
+    fn power(&self, hunt: Option<&Hunt>) -> Outcome {
+        let chains = power::chains(&self.scenes, self.level.before_cuts);
+        let total = Mutex::new(power::Counts::default());
+        let label = |chain: &power::Chain| power::label(&self.scenes, chain);
+        let outcome = self.share(
+            "commands with power cuts",
+            hunt,
+            &chains,
+            label,
+            |bench, chain| {
+                let counts = power::try_chain(bench, &self.scenes, chain, self.level.bounds)?;
+                total.lock().expect("no worker panics").add(counts);
+                Ok(())
+            },
+        );
+        let total = total.into_inner().expect("no worker panics");
+        let words = format!(
+            "power cuts: {} states of the disk, {} of them opened by aspenbox; {} of {} sequences of commands recovered; \
+             after {} calls not all ways were tried",
+            total.cuts,
+            total.opened,
+            outcome.passed,
+            chains.len(),
+            total.partial
+        );
+        Outcome {
+            words,
+            states: total.cuts,
+            ..outcome
+        }
+    }
+
+    fn damage(&self, hunt: Option<&Hunt>) -> Outcome {
+        let whole = &self.scenes.last().expect("a story has commands").after;
+        let cases = damage::cases(whole, self.level.all);
+        let outcome = self.share(
+            "damaged stores",
+            hunt,
+            &cases,
+            damage::label,
+            damage::try_case,
+        );
+        let words = format!(
+            "damaged stores: {} shown, {} named and left alone",
+            cases.len(),
+            outcome.passed
+        );
+        Outcome { words, ..outcome }
+    }
+
+    fn soak(&self, hunt: Option<&Hunt>) -> Outcome {
+        let seeds: Vec<u64> = (1..=self.level.soaks).collect();
+        let total = Mutex::new(soak::Counts::default());
+        let label = |seed: &u64| format!("story by chance {seed}");
+        let outcome = self.share("stories by chance", hunt, &seeds, label, |bench, &seed| {
+            let counts = soak::try_seed(bench.program, bench.folder.clone(), seed)?;
+            total.lock().expect("no worker panics").add(counts);
+            Ok(())
+        });
+        let total = total.into_inner().expect("no worker panics");
+        let words = format!(
+            "stories by chance: {} of {} recovered, with {} commands and {} power cuts",
+            outcome.passed,
+            seeds.len(),
+            total.commands,
+            total.cuts
+        );
+        Outcome {
+            words,
+            states: total.cuts,
+            ..outcome
+        }
+    }
+}

@@ -1,0 +1,116 @@
+//! Every writing call of every command goes wrong in every way, or is the last one of its process;
+//! after each the store is whole and goes on.
+
+use crate::bench::Bench;
+use crate::fault::{Fault, How};
+use crate::played::Scene;
+use crate::program::{status, Ended};
+use crate::story::{Command, Standing};
+
+/// A fault in the command of this number.
+pub struct Case {
+    pub at: usize,
+    pub fault: Fault,
+    /// The call's name.
+    pub call: String,
+}
+
+/// Where `all` isn't wanted, a process isn't killed before a call if it is after the one before.
+pub fn cases(scenes: &[Scene], all: bool) -> Vec<Case> {
+    let mut cases = Vec::new();
+    for (at, scene) in scenes.iter().enumerate() {
+        for logged in scene.calls.iter().filter(|logged| logged.number > 0) {
+            let wanted = |how: &How| all || *how != How::Before || logged.number == 1;
+            for how in logged.ways().into_iter().filter(wanted) {
+                cases.push(Case {
+                    at,
+                    fault: Fault {
+                        at: logged.number,
+                        how,
+                    },
+                    call: logged.name.clone(),
+                });
+            }
+        }
+    }
+    cases
+}
+
+pub fn label(scenes: &[Scene], case: &Case) -> String {
+    let command = &scenes[case.at].command;
+    format!("{command}, {} ({})", case.fault, case.call)
+}
+
+pub fn try_case(bench: &mut Bench, scenes: &[Scene], case: &Case) -> Result<(), String> {
+    let scene = &scenes[case.at];
+    let story = bench.judge.story();
+    bench.store(&scene.tree)?;
+    let ended = bench.run(&scene.command, Some(case.fault))?;
+    ended_as_planned(&ended, case.fault.how)?;
+    let tree = bench.load()?;
+    let standing = bench.judge.stands(&tree)?;
+    let (before, after) = (story.standing(case.at), story.standing(case.at + 1));
+    if standing != before && standing != after {
+        return Err(format!("{standing}, and neither {before} nor {after}"));
+    }
+    if ended.status == Some(status::DONE) && standing != after {
+        return Err("the command says that it is done, and it isn't".into());
+    }
+    if !case.fault.how.may_leave_files() {
+        bench.nothing_left()?;
+    }
+    if standing == after {
+        again(bench, &scene.command, standing)?;
+    }
+    bench.goes_on(standing, case.at + 1)?;
+    if let Command::Backup { volume, .. } = scene.command {
+        let upto = (case.at + 1).min(story.0.len() - 1);
+        bench.next_backup(upto, volume)?;
+    }
+    // What a cut left, the commands since have removed.
+    bench.nothing_left()
+}
+
+/// The process was killed if the fault does that, went on if it is harmless, and else ended well
+/// or with a message about files.
+fn ended_as_planned(ended: &Ended, how: How) -> Result<(), String> {
+    let fine = match ended.status {
+        None => how.kills() && ended.killed(),
+        Some(status::DONE) => !how.kills(),
+        Some(status::FILES) => {
+            !how.kills() && !how.is_harmless() && ended.errors.starts_with("aspenbox: ")
+        }
+        Some(_) => false,
+    };
+    if fine {
+        Ok(())
+    } else {
+        Err(format!("it ends with {}", ended.words()))
+    }
+}
+
+/// A command that was taken is given again: it does nothing, or is refused and says why.
+fn again(bench: &mut Bench, command: &Command, standing: Standing) -> Result<(), String> {
+    let ended = bench.run(command, None)?;
+    let fine = match command {
+        Command::Format => {
+            ended.status == Some(status::USAGE) && ended.errors.contains("has a book already")
+        }
+        Command::Enrol { .. } => refused(&ended, 5),
+        Command::Backup { .. } => refused(&ended, 7),
+        Command::Collect { .. } | Command::Restore { .. } => ended.status == Some(status::DONE),
+    };
+    if !fine {
+        return Err(format!("given again, it ends with {}", ended.words()));
+    }
+    let tree = bench.load()?;
+    if bench.judge.stands(&tree)? != standing {
+        return Err("given again, it did something".into());
+    }
+    Ok(())
+}
+
+fn refused(ended: &Ended, number: u16) -> bool {
+    let text = format!("refused {number}:");
+    ended.status == Some(status::REFUSED) && ended.errors.contains(&text)
+}
