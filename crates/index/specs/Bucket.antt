@@ -18,9 +18,9 @@ use Rattle.index.specs.First.{firstFrom}
 abbrev pub tableSize : ℕ
 tableSize = 4096
 
--- the last byte, and the low half of the one before
+-- the two bytes at each end
 unfoldable pub bucketOf : List ℕ → ℕ
-bucketOf f = getD f (printSize - 1) 0 * 16 + getD f (printSize - 2) 0 % 16
+bucketOf f = (getD f 0 0 * 16 + getD f 1 0 + (getD f (printSize - 1) 0 * 16 + getD f (printSize - 2) 0)) % tableSize
 
 -- a held block whose fingerprint is in bucket h; one with fingerprint f, the test of step 1 of a backup
 unfoldable pub inBucket : ℕ → Entry → Bool

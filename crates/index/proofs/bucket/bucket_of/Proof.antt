@@ -1,11 +1,8 @@
--- The last byte is below 256, so the bucket is below the number of buckets.
+-- The code says the definition, operation by operation; the remainder is below the number of buckets.
 use Rattle.index.specs.Bucket.{bucketOf}
 use borrow.Author.Needs.{needs}
 use Rattle.index.proofs.bucket.bucket_of.Statement.{statement}
 use Rattle.index.proofs.bucket.bucket_of.Tie as tie
-
-sub-wide : tie.Need-sub-wide
-sub-wide c = search needs
 
 shared-slice-read-wide : tie.Need-shared-slice-read-wide
 shared-slice-read-wide c = search needs
@@ -13,8 +10,8 @@ shared-slice-read-wide c = search needs
 wide-requires : tie.Need-wide-requires
 wide-requires c κs = search needs
 
-sub-wide-2 : tie.Need-sub-wide-2
-sub-wide-2 c = search needs
+mul-first : tie.Need-mul-first
+mul-first c = search needs
 
 shared-slice-read-wide-2 : tie.Need-shared-slice-read-wide-2
 shared-slice-read-wide-2 c = search needs
@@ -22,8 +19,32 @@ shared-slice-read-wide-2 c = search needs
 wide-requires-2 : tie.Need-wide-requires-2
 wide-requires-2 c κs = search needs
 
-mul-result : tie.Need-mul-result
-mul-result c = search needs
+add-first : tie.Need-add-first
+add-first c = search needs
+
+sub-wide : tie.Need-sub-wide
+sub-wide c = search needs
+
+shared-slice-read-wide-3 : tie.Need-shared-slice-read-wide-3
+shared-slice-read-wide-3 c = search needs
+
+wide-requires-3 : tie.Need-wide-requires-3
+wide-requires-3 c κs = search needs
+
+mul-last : tie.Need-mul-last
+mul-last c = search needs
+
+sub-wide-2 : tie.Need-sub-wide-2
+sub-wide-2 c = search needs
+
+shared-slice-read-wide-4 : tie.Need-shared-slice-read-wide-4
+shared-slice-read-wide-4 c = search needs
+
+wide-requires-4 : tie.Need-wide-requires-4
+wide-requires-4 c κs = search needs
+
+add-last : tie.Need-add-last
+add-last c = search needs
 
 add-result : tie.Need-add-result
 add-result c = search needs
@@ -39,13 +60,20 @@ pub bucket-of-spec : {M : Type 1} → statement M
 bucket-of-spec =
     tie.close
     (tie.spec
-    sub-wide
     shared-slice-read-wide
     wide-requires
-    sub-wide-2
+    mul-first
     shared-slice-read-wide-2
     wide-requires-2
-    mul-result
+    add-first
+    sub-wide
+    shared-slice-read-wide-3
+    wide-requires-3
+    mul-last
+    sub-wide-2
+    shared-slice-read-wide-4
+    wide-requires-4
+    add-last
     add-result
     cast-result
     returns)
