@@ -12,7 +12,7 @@ host:
 	@scripts/archives
 	@scripts/host
 
-# Faults and power cuts, more of them than `make check` tries; a quarter of an hour.
+# Faults and power cuts, more of them than `make check` tries: both cores for many minutes.
 faults:
 	@scripts/archives
 	@tests/faults/run long
