@@ -20,7 +20,7 @@ soak:
 mutants:
 	@tests/mutants/run
 
-# Faults and power cuts, more of them than `make check` tries; a quarter of an hour.
+# Faults and power cuts, more of them than `make check` tries.
 faults:
 	@scripts/archives
 	@tests/faults/run long
