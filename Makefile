@@ -1,5 +1,5 @@
 # `make demo` builds and runs what there is to run; `make check` is all that the gate runs.
-.PHONY: demo check soak mutants bench install uninstall clean
+.PHONY: demo check soak mutants fuzz bench install uninstall clean
 
 demo:
 	@scripts/demo
@@ -14,6 +14,10 @@ soak:
 # The second implementation broken on purpose, to see that the comparison notices.
 mutants:
 	@tests/mutants/run
+
+# A million inputs from a fuzzer for each call, compared with the second implementation.
+fuzz:
+	@tests/fuzz/run 1000000
 
 # Speed, side by side with hand-written C in one run.
 bench:
