@@ -1,5 +1,5 @@
 # `make demo` builds and runs what there is to run; `make check` is all that the gate runs.
-.PHONY: demo check host soak mutants faults bench bench-month install uninstall clean
+.PHONY: demo check host soak mutants fuzz faults bench bench-month install uninstall clean
 
 demo:
 	@scripts/demo
@@ -19,6 +19,10 @@ soak:
 # The second implementation broken on purpose, to see that the comparison notices.
 mutants:
 	@tests/mutants/run
+
+# A million inputs from a fuzzer for each call, compared with the second implementation.
+fuzz:
+	@tests/fuzz/run 1000000
 
 # Faults and power cuts, more of them than `make check` tries.
 faults:

@@ -4,6 +4,8 @@ mod coverage;
 mod guarded;
 mod interface;
 mod lent;
+#[cfg(test)]
+mod notices;
 mod outcome;
 mod parts;
 mod request;

@@ -1,9 +1,13 @@
-//! The second implementation behind the C interface of `include/aspen.h`, each function under the
-//! name `reference_` in place of `aspen_`. `reference.h` declares them.
+//! The second implementation behind the C interface of `include/aspen.h`, each function under a
+//! name with `reference_` in place of `aspen_`. `reference.h` declares them.
 //!
 //! # Safety
 //! As the header says: pointers aren't null, buffers are as long as said and don't overlap.
 #![allow(clippy::missing_safety_doc, clippy::too_many_arguments)]
+
+mod make;
+
+pub use make::{reference_make, Made};
 
 use std::slice::{from_raw_parts, from_raw_parts_mut};
 

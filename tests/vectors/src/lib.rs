@@ -6,6 +6,7 @@ mod form_edits;
 mod form_slots;
 mod layout_edits;
 mod runs;
+pub mod seeds;
 mod sized;
 mod vector;
 

@@ -1,11 +1,15 @@
-//! Writes inputs for the program tally to a folder: NAME.book and, beside it, NAME.page
-//! with what tally must print.
+//! Writes the vectors to a folder.
+//!     vectors FOLDER        inputs of the program tally: NAME.book and, beside it, NAME.page
+//!                           with what tally must print
+//!     vectors seeds FOLDER  inputs that the fuzz targets start from
 
 use std::path::Path;
 use std::process::ExitCode;
 use std::{env, fs, io};
 
-fn write_all(folder: &Path) -> io::Result<usize> {
+use vectors::seeds;
+
+fn write_pages(folder: &Path) -> io::Result<usize> {
     fs::create_dir_all(folder)?;
     let vectors = vectors::all();
     for vector in &vectors {
@@ -15,14 +19,29 @@ fn write_all(folder: &Path) -> io::Result<usize> {
     Ok(vectors.len())
 }
 
+fn write_seeds(folder: &Path) -> io::Result<usize> {
+    fs::create_dir_all(folder)?;
+    let seeds = seeds::all();
+    for (name, input) in &seeds {
+        fs::write(folder.join(name), input)?;
+    }
+    Ok(seeds.len())
+}
+
 fn main() -> ExitCode {
-    let Some(folder) = env::args_os().nth(1) else {
-        eprintln!("usage: vectors FOLDER");
-        return ExitCode::from(2);
+    let arguments: Vec<String> = env::args().skip(1).collect();
+    let words: Vec<&str> = arguments.iter().map(String::as_str).collect();
+    let written = match words[..] {
+        ["seeds", folder] => write_seeds(Path::new(folder)),
+        [folder] => write_pages(Path::new(folder)),
+        _ => {
+            eprintln!("usage: vectors [seeds] FOLDER");
+            return ExitCode::from(2);
+        }
     };
-    match write_all(Path::new(&folder)) {
+    match written {
         Ok(number) => {
-            println!("{number} vectors");
+            println!("{number} written");
             ExitCode::SUCCESS
         }
         Err(error) => {

@@ -1,0 +1,116 @@
+//! The comparison notices what a wrong archive could do to memory that isn't its own.
+
+use std::slice::from_raw_parts_mut;
+
+use reference::call::{Call, Stored};
+use reference::cases;
+use reference::prng::Prng;
+
+use crate::coverage::Coverage;
+use crate::interface::{Interface, REFERENCE};
+use crate::request::Request;
+use crate::seen;
+
+const REFUSED: Call = Call::Collect { day: 0 };
+const ACCEPTED: Call = Call::Collect { day: 9 };
+
+/// What the comparison says of a call on the box after case d.
+fn compared(archive: &Interface, call: &Call) -> Result<(), String> {
+    let stored = &cases::after_d();
+    let request = Request::Call { stored, call };
+    let mut prng = Prng::seeded(0);
+    let ours = request.send(&mut prng, archive)?;
+    let expected = request.send(&mut prng, &REFERENCE)?;
+    seen::compare(&request.buffers(), &ours, &expected)
+}
+
+/// The reference's collect, and then a byte beside the book.
+unsafe extern "C" fn writes_past(book: *mut u8, length: usize, day: u16, freed: *mut u16) -> u16 {
+    let number = (REFERENCE.collect)(book, length, day, freed);
+    *book.add(length) ^= 1;
+    number
+}
+
+unsafe extern "C" fn writes_before(book: *mut u8, length: usize, day: u16, freed: *mut u16) -> u16 {
+    let number = (REFERENCE.collect)(book, length, day, freed);
+    *book.sub(1) ^= 1;
+    number
+}
+
+unsafe extern "C" fn writes_beside(book: *mut u8, length: usize, day: u16, freed: *mut u16) -> u16 {
+    let number = (REFERENCE.collect)(book, length, day, freed);
+    *freed.add(1) = 0;
+    number
+}
+
+unsafe extern "C" fn always_answers(
+    book: *mut u8,
+    length: usize,
+    day: u16,
+    freed: *mut u16,
+) -> u16 {
+    *freed = 0;
+    (REFERENCE.collect)(book, length, day, freed)
+}
+
+unsafe extern "C" fn spoils_the_book(
+    book: *mut u8,
+    length: usize,
+    day: u16,
+    freed: *mut u16,
+) -> u16 {
+    let number = (REFERENCE.collect)(book, length, day, freed);
+    from_raw_parts_mut(book, length)[length - 1] ^= 1;
+    number
+}
+
+#[test]
+fn the_reference_agrees_with_itself() {
+    for call in [ACCEPTED, REFUSED] {
+        assert_eq!(compared(&REFERENCE, &call), Ok(()));
+    }
+}
+
+#[test]
+fn what_is_written_elsewhere_is_noticed() {
+    for collect in [writes_past, writes_before, writes_beside, spoils_the_book] {
+        let archive = Interface {
+            collect,
+            ..REFERENCE
+        };
+        for call in [ACCEPTED, REFUSED] {
+            assert!(compared(&archive, &call).is_err());
+        }
+    }
+}
+
+#[test]
+fn an_answer_of_a_refused_call_is_noticed() {
+    let archive = Interface {
+        collect: always_answers,
+        ..REFERENCE
+    };
+    assert_eq!(compared(&archive, &ACCEPTED), Ok(()));
+    assert!(compared(&archive, &REFUSED).is_err());
+}
+
+/// Even if the reference did the same: a refused call changes nothing.
+#[test]
+fn a_refused_call_that_changes_the_book_is_noticed() {
+    let Stored { book, .. } = cases::after_d();
+    let mut changed = book.clone();
+    changed[0] ^= 1;
+    let request = Request::Form { book: &changed };
+    let seen = request.send(&mut Prng::seeded(0), &REFERENCE).unwrap();
+    assert_eq!(seen.number, 1);
+    assert!(seen::compare(&[("the book", &book)], &seen, &seen).is_err());
+}
+
+#[test]
+fn what_never_came_is_missing() {
+    let missing = Coverage::new().report();
+    for number in 0..=20 {
+        assert!(missing.contains(&format!("number {number}")));
+    }
+    assert!(missing.contains(&"audit 2".into()));
+}

@@ -1,0 +1,61 @@
+//! Inputs that the fuzz targets start from; `fuzz/fuzz.h` says how an input is read.
+
+use reference::cases;
+
+/// Longer books make slow inputs.
+const BOOK_MAX: usize = 2_048;
+
+/// What is XORed with a call's numbers: volumes, days, retentions, numbers of backups, LBNs.
+const NUMBERS: [[u16; 3]; 6] = [
+    [0, 0, 0],
+    [0, 10, 0],
+    [19, 0, 0],
+    [0, 1, 0],
+    [1, 2, 3],
+    [2, 5_000, 0],
+];
+
+/// The control at the start of an input, with no change of a length but one byte at hand.
+fn control(calls: u8, shape: u8, seed: u16, disturbed: u8, numbers: [u16; 3]) -> Vec<u8> {
+    let mut bytes = vec![calls, shape];
+    bytes.extend(seed.to_le_bytes());
+    bytes.extend([disturbed, 0]);
+    bytes.extend(numbers.iter().flat_map(|number| number.to_le_bytes()));
+    bytes.extend(
+        [1i16, -1, 1, -1]
+            .iter()
+            .flat_map(|longer| longer.to_le_bytes()),
+    );
+    bytes
+}
+
+/// Each input with a name.
+pub fn all() -> Vec<(String, Vec<u8>)> {
+    let mut seeds = Vec::new();
+    let vectors = crate::all().into_iter();
+    let short = vectors.filter(|vector| vector.book.len() <= BOOK_MAX);
+    for (index, vector) in short.enumerate() {
+        let numbers = NUMBERS[index % NUMBERS.len()];
+        seeds.push((vector.name, given(&vector.book, numbers)));
+    }
+    for (index, numbers) in NUMBERS.into_iter().enumerate() {
+        let book = cases::after_d().book;
+        seeds.push((format!("after-d-{index}"), given(&book, numbers)));
+    }
+    for shape in 0..5 {
+        for (calls, disturbed) in [(1, 0), (2, 0), (3, 0), (1, 1), (2, 3)] {
+            let name = format!("made-{shape}-{calls}-{disturbed}");
+            let seed = u16::from(3 * shape + calls);
+            seeds.push((name, control(calls, shape, seed, disturbed, [0; 3])));
+        }
+    }
+    seeds
+}
+
+/// A book as it is, and a list of one change.
+fn given(book: &[u8], numbers: [u16; 3]) -> Vec<u8> {
+    let mut input = control(0, 0, 0, 0, numbers);
+    input.extend(book);
+    input.extend(cases::list(&[(0, "X")]));
+    input
+}
