@@ -12,6 +12,7 @@ extern __typeof__(aspen_collect) reference_collect;
 extern __typeof__(aspen_read) reference_read;
 extern __typeof__(aspen_audit) reference_audit;
 extern __typeof__(aspen_form) reference_form;
+extern __typeof__(aspen_count) reference_count;
 extern __typeof__(aspen_write_list) reference_write_list;
 
 /* A box as a seeded run of calls leaves it, with what the run would send next; the pointers are

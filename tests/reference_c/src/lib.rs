@@ -16,6 +16,7 @@ use reference::form;
 use reference::layout::Sizes;
 use reference::refusal::Refusal;
 use reference::store;
+use reference::tally;
 
 /// The number of a result; an accepted one's answer goes to `write`.
 fn number<T>(result: Result<T, Refusal>, write: impl FnOnce(T)) -> u16 {
@@ -124,6 +125,24 @@ pub unsafe extern "C" fn reference_audit(book: *const u8, book_len: usize, sound
 pub unsafe extern "C" fn reference_form(book: *const u8, book_len: usize) -> u16 {
     let book = from_raw_parts(book, book_len);
     number(form::check(book), |_| {})
+}
+
+#[no_mangle]
+pub unsafe extern "C" fn reference_count(
+    book: *const u8,
+    book_len: usize,
+    blocks: *mut u16,
+    held: *mut u16,
+    waiting: *mut u16,
+    references: *mut u32,
+) -> u16 {
+    let book = from_raw_parts(book, book_len);
+    number(tally::counts(book), |counts| {
+        *blocks = counts.blocks;
+        *held = counts.held;
+        *waiting = counts.waiting;
+        *references = counts.references;
+    })
 }
 
 #[no_mangle]
