@@ -53,6 +53,7 @@ impl Shapes {
         match call {
             Call::Backup { volume, day, list } => {
                 let backup = backup::Backup::new(book, (*volume, *day), list, seen);
+                self.count("backup", backup.change_shapes());
                 self.count("backup", backup.accepted_shapes());
                 self.count("backup", backup.refused_shapes(pool));
             }

@@ -49,46 +49,40 @@ impl<'a> Backup<'a> {
         }
     }
 
-    pub fn accepted_shapes(&self) -> [Shape; 16] {
-        let accepted = self.number == 0;
-        let (day, day_before) = (self.day, self.before.header(Header::Day));
-        let retention = self.before.retention(self.volume);
-        let changed = !self.added.is_empty();
-        let sizes = self.after.sizes();
-        let slots_used = self.after.header(Header::SlotsUsed);
-        let records_used = self.after.header(Header::RecordsUsed);
-        let pairs = self
-            .bytes
-            .first_chunk()
-            .map_or(0, |two| u16::from_le_bytes(*two));
+    /// Of the blocks and cells of an accepted backup.
+    pub fn change_shapes(&self) -> [Shape; 9] {
+        let full_again = self.again_when_full();
         [
-            ("no changes", accepted && !changed),
             ("1,024 changes", self.added.len() == 1_024),
-            ("1,024 pairs that touch", accepted && pairs == 1_024),
             ("a block that another volume has too", self.shares()),
             ("a cell's own block again", self.added.iter().any(again)),
-            (
-                "a cell's own block again at count 255",
-                self.again_when_full(),
-            ),
+            ("a cell's own block again at count 255", full_again),
             ("a count comes to 255", self.fills_a_count()),
             ("an expiry stays, being the larger", self.leaves_an_expiry()),
             ("the cursor goes round", self.goes_round()),
             ("a freed block is taken again", self.takes_again()),
             ("the last free block is taken", self.fills_the_pool()),
-            (
-                "the last slot is used",
-                accepted && slots_used == sizes.slots,
-            ),
-            (
-                "the last record is used",
-                changed && records_used == sizes.records,
-            ),
+        ]
+    }
+
+    /// Of the list, the room left and the day of an accepted backup.
+    pub fn accepted_shapes(&self) -> [Shape; 7] {
+        let accepted = self.number == 0;
+        let (day, day_before) = (self.day, self.before.header(Header::Day));
+        let retention = self.before.retention(self.volume);
+        let changed = !self.added.is_empty();
+        let sizes = self.after.sizes();
+        let last_slot = self.after.header(Header::SlotsUsed) == sizes.slots;
+        let last_record = self.after.header(Header::RecordsUsed) == sizes.records;
+        let passes = accepted && day - day_before > retention;
+        let pairs = self.bytes.first_chunk().map(|two| u16::from_le_bytes(*two));
+        [
+            ("no changes", accepted && !changed),
+            ("1,024 pairs that touch", accepted && pairs == Some(1_024)),
+            ("the last slot is used", accepted && last_slot),
+            ("the last record is used", changed && last_record),
             ("the day stays", accepted && day == day_before),
-            (
-                "the day passes a retention",
-                accepted && day - day_before > retention,
-            ),
+            ("the day passes a retention", passes),
             ("the day is 60,000", accepted && day == DAY_MAX),
         ]
     }
