@@ -20,6 +20,7 @@ pub fn make(from: &Path, to: &Path, mutants: &[Mutant]) -> Result<()> {
         "vectors",
         "differential",
         "mutants",
+        "faults",
     ] {
         copy_folder(from, to, Path::new(folder), mutants)?;
     }
