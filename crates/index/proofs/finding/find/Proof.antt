@@ -40,8 +40,11 @@ loop-holds c =
 print-of-requires : tie.Need-print-of-requires Inv-loop μ-loop
 print-of-requires c κs = (c .before .before .before .before .before .before .before .pre .0, search needs)
 
-same-bytes-requires : tie.Need-same-bytes-requires Inv-loop μ-loop
-same-bytes-requires c κs = search needs
+same-print-requires : tie.Need-same-print-requires Inv-loop μ-loop
+same-print-requires c κs =
+    let s = c .before .before .before .before .before .before .before .before in
+    let l = c .before .before .loop in
+    (ap length (c .print-of .ensures) ∙ s .pre .0 .sized .prints (l .q) (omega arith), s .pre .1 .1)
 
 returns : tie.Need-returns Inv-loop μ-loop
 returns c =
@@ -49,7 +52,7 @@ returns c =
     let s = c .before .before .before .before .before .before .before .before .before .before in
     let o = c .before .before .print-of .ensures in
     sym (ap foundOf (search-stop _ (s .args .print .now) (l .q) (l .inv) (inside (c .before .before .before))
-    (rw o at (sym (c .before .same-bytes .ensures) ∙ c .if1 .taken))))
+    (rw o at (sym (c .before .same-print .ensures) ∙ c .if1 .taken))))
 
 cast-q : tie.Need-cast-q Inv-loop μ-loop
 cast-q c = search needs
@@ -71,7 +74,7 @@ loop-again c =
     let i = c .before .before .before .before in
     let s = i .before .before .before .before .before .before .before in
     search-more _ (s .args .print .now) _ _ (s .pre .1 .0) (i .before .loop .q) (i .before .loop .inv) (inside i)
-    (rw (c .before .before .before .print-of .ensures) at (sym (c .before .before .same-bytes .ensures) ∙ c .before .if1 .left))
+    (rw (c .before .before .before .print-of .ensures) at (sym (c .before .before .same-print .ensures) ∙ c .before .if1 .left))
 
 returns-2 : tie.Need-returns-2 Inv-loop μ-loop
 returns-2 c =
@@ -91,7 +94,7 @@ find-spec =
     element-copy-out-q
     loop-holds
     print-of-requires
-    same-bytes-requires
+    same-print-requires
     returns
     cast-q
     mul-q-2

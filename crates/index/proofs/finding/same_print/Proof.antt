@@ -1,0 +1,47 @@
+-- What is passed and what is left decide as the whole does.
+use Prim.Native.Nat.{_≤_, _-_}
+use mathlib.Core.Path.{_≡_, refl, sym, _∙_}
+use mathlib.Core.Bool.{_&&_}
+use lib.ListN.{drop}
+use native.Mathlib.Omega.{arith}
+use borrow.Author.Needs.{needs}
+use Rattle.words.specs.Blocks.{printSize}
+use Rattle.words.specs.Lists.{same}
+use Rattle.words.specs.Same.{same-turn, same-end}
+use Rattle.index.proofs.finding.same_print.Statement.{statement}
+use Rattle.index.proofs.finding.same_print.Tie as tie
+
+abbrev Inv-loop : tie.InvT-loop
+Inv-loop a b good₀ i₀ good i = (i ≤ printSize) × (same a b ≡ (good && same (drop i a) (drop i b)))
+
+abbrev μ-loop : tie.MeasureT-loop
+μ-loop a b good₀ i₀ good i = printSize - i
+
+loop-holds : tie.Need-loop-holds Inv-loop μ-loop
+loop-holds c = (omega arith, refl)
+
+shared-slice-read-good : tie.Need-shared-slice-read-good Inv-loop μ-loop
+shared-slice-read-good c = search needs
+
+shared-slice-read-good-2 : tie.Need-shared-slice-read-good-2 Inv-loop μ-loop
+shared-slice-read-good-2 c = search needs
+
+add-i : tie.Need-add-i Inv-loop μ-loop
+add-i c = search needs
+
+loop-less : tie.Need-loop-less Inv-loop μ-loop
+loop-less c = search needs
+
+loop-again : tie.Need-loop-again Inv-loop μ-loop
+loop-again c =
+    let l = c .before .before .before .loop in
+    (omega arith, l .inv .1 ∙ same-turn _ _ (l .i) (l .good) (omega (arith, c .before .before .before .before .pre .0)) (omega (arith, c .before .before .before .before .pre .1)))
+
+returns : tie.Need-returns Inv-loop μ-loop
+returns c =
+    let l = c .before .loop in
+    sym (l .inv .1 ∙ same-end _ _ (l .i) (l .good) (omega (arith, c .before .before .pre .0)) (omega (arith, c .before .before .pre .1)))
+
+pub same-print-spec : {M : Type 1} → statement M
+same-print-spec =
+    tie.close (tie.spec Inv-loop μ-loop loop-holds shared-slice-read-good shared-slice-read-good-2 add-i loop-less loop-again returns)
