@@ -7,7 +7,7 @@ use native.Mathlib.Numerals.{add-one}
 use lib.Dec.{eqb}
 use lib.ListN.{length, getD, drop, drop-of-length-le}
 use lib.Seq.{drop-cons}
-use borrow.Author.Tests.{eq-eqb, ne-eqb, eqb-true}
+use borrow.Author.Tests.{eq-eqb, eqb-true}
 use Rattle.words.specs.Choice.{and-true}
 use Rattle.words.specs.Lists.{same}
 
@@ -51,7 +51,3 @@ module _ (a b : List ℕ) (i : ℕ) (g : Bool) where
       go : (g : Bool) → (g && true) ≡ g
       go true = refl
       go false = refl
-
--- lists that differ at a place are not the same from there on
-pub same-stop : (a b : List ℕ) (i : ℕ) → i < length a → i < length b → (getD a i 0 ≡ getD b i 0 → ⊥) → same (drop i a) (drop i b) ≡ false
-same-stop a b i h k e = rw (drop-cons a i 0 h, drop-cons b i 0 k, ne-eqb (getD a i 0) (getD b i 0) e)
