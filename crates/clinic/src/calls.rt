@@ -77,15 +77,16 @@ fn answers(answer: Answer) {
 }
 
 // The first words of a backup's line.
-fn sending(case: &[u8], volume: u16, day: u16, prints: &[u8; 4], blocks: &[u8; 4]) {
-    word(case);
-    number(b" day ", day);
+fn sending(case: u8, volume: u16, day: u16, prints: &[u8; 4], blocks: &[u8; 4]) {
+    letter(case);
+    number(b". day ", day);
     number(b", volume ", volume);
     changes(prints, blocks);
 }
 
-pub fn backup(
-    case: &[u8],
+// A backup of blocks under fingerprints that may be of other letters.
+pub fn forged(
+    case: u8,
     book: &mut [u8; BOOK_SIZE],
     pool: &mut [u8; POOL_SIZE],
     volume: u16,
@@ -100,17 +101,29 @@ pub fn backup(
     facts::state(book);
 }
 
+pub fn backup(
+    case: u8,
+    book: &mut [u8; BOOK_SIZE],
+    pool: &mut [u8; POOL_SIZE],
+    volume: u16,
+    day: u16,
+    letters: &[u8; 4],
+) {
+    forged(case, book, pool, volume, day, letters, letters);
+}
+
 // A collection; the line goes on with a read.
-pub fn collect(case: &[u8], book: &mut [u8; BOOK_SIZE], day: u16) {
+pub fn collect(case: u8, book: &mut [u8; BOOK_SIZE], day: u16) {
     let mut freed = 0u16;
     let refusal = aspen_collect(book, day, &mut freed);
-    word(case);
-    number(b" collect on ", day);
-    if refusal == 0 {
-        number(b": freed ", freed);
-    } else {
+    letter(case);
+    number(b". collect on ", day);
+    if refusal != 0 {
         number(b": refused ", refusal);
+        return;
     }
+    number(b": freed ", freed);
+    word(b",");
 }
 
 fn compare(block: &[u8], letter: u8) {
@@ -139,8 +152,8 @@ fn found(
     letter(wanted);
 }
 
+// A read, to the end of its line.
 pub fn read(
-    case: &[u8],
     book: &[u8; BOOK_SIZE],
     pool: &[u8; POOL_SIZE],
     volume: u16,
@@ -148,7 +161,6 @@ pub fn read(
     lbn: u16,
     wanted: u8,
 ) {
-    word(case);
     number(b" read volume ", volume);
     number(b", number ", k);
     number(b", LBN ", lbn);

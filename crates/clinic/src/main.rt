@@ -7,28 +7,31 @@ use calls::BOOK_SIZE;
 use calls::POOL_SIZE;
 use calls::backup;
 use calls::collect;
+use calls::forged;
 use calls::read;
+use samples::word;
 
 fn a_to_d(book: &mut [u8; BOOK_SIZE], pool: &mut [u8; POOL_SIZE]) {
-    backup(b"a.", book, pool, 0, 5, b"AB--", b"AB--");
-    backup(b"b.", book, pool, 1, 6, b"---A", b"---A");
-    backup(b"c.", book, pool, 0, 8, b"C---", b"C---");
-    backup(b"d.", book, pool, 1, 9, b"---B", b"---B");
+    backup(b'a', book, pool, 0, 5, b"AB--");
+    backup(b'b', book, pool, 1, 6, b"---A");
+    backup(b'c', book, pool, 0, 8, b"C---");
+    backup(b'd', book, pool, 1, 9, b"---B");
     samples::page(book);
 }
 
 fn e_to_g(book: &mut [u8; BOOK_SIZE], pool: &[u8; POOL_SIZE]) {
-    collect(b"e.", book, 18);
-    read(b",", book, pool, 0, 1, 0, b'A');
-    read(b"f.", book, pool, 1, 1, 3, b'A');
-    collect(b"g.", book, 19);
-    read(b",", book, pool, 0, 1, 0, b'A');
+    collect(b'e', book, 18);
+    read(book, pool, 0, 1, 0, b'A');
+    word(b"f.");
+    read(book, pool, 1, 1, 3, b'A');
+    collect(b'g', book, 19);
+    read(book, pool, 0, 1, 0, b'A');
 }
 
 fn h_to_j(book: &mut [u8; BOOK_SIZE], pool: &mut [u8; POOL_SIZE]) {
-    backup(b"h.", book, pool, 0, 20, b"--DE", b"--DE");
-    backup(b"i.", book, pool, 1, 21, b"F---", b"F---");
-    backup(b"j.", book, pool, 1, 21, b"B---", b"F---");
+    backup(b'h', book, pool, 0, 20, b"--DE");
+    backup(b'i', book, pool, 1, 21, b"F---");
+    forged(b'j', book, pool, 1, 21, b"B---", b"F---");
 }
 
 fn main() {
