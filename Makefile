@@ -33,7 +33,7 @@ faults:
 bench:
 	@scripts/bench
 
-# A month of backups through aspenbox, and through borg and restic where they are installed: four minutes of processor time.
+# A month of backups through aspenbox, and through borg and restic where they are installed: some six minutes.
 bench-month: host
 	@bench/month/run
 

@@ -1,4 +1,4 @@
-// Audit (document 01, "Audit says yes exactly when"), in one pass over each section of the book.
+// Audit (document 01, "Audit says yes exactly when"), a pass over the book for each of its tests.
 pub mod audit;
 mod audit_counts;
 mod audit_expiries;
