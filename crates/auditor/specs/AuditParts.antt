@@ -1,16 +1,16 @@
--- Audit in five tests: where the counts are sound no current map names a free block, and the kept backups are judged by their befores.
--- Assumes nothing.
-use Prim.Native.Nat.{ℕ, _<_}
+-- Audit as its passes test it: the journal, the maps, the entries, the fingerprints. Where the counts are sound no current map names a free block,
+-- and the kept backups are judged by their befores. Assumes nothing.
+use Prim.Native.Nat.{ℕ, _≤_, _<_}
 use mathlib.Core.Path.{_≡_, refl, sym, _∙_}
 use mathlib.Core.Logic.{_⊎_, inl, inr}
 use mathlib.Core.Bool.{Bool, true, false, _&&_, _||_}
 use mathlib.Core.List.{List, []}
 use native.Mathlib.Omega.{arith}
 use lib.Dec.{eqb}
-use lib.ListN.{length, getD}
+use lib.ListN.{length, getD, replicate}
 use borrow.Author.Tests.{eqb-true, eq-eqb, not-true}
 use Rattle.words.specs.Blocks.{unmapped}
-use Rattle.words.specs.Choice.{and-yes, or-l, or-r, not-both}
+use Rattle.words.specs.Choice.{and-assoc, and-false, and-yes, or-l, or-r, not-both}
 use Rattle.words.specs.Each.{each-at, all-each}
 use Rattle.words.specs.Lists.{all, someOf, countOf, joined, upFrom}
 use Rattle.words.specs.Places.{place-some, place-all, countOf-none, someOf-joined}
@@ -22,16 +22,21 @@ use Rattle.book.specs.Formed.{Formed}
 use Rattle.model.specs.Journal.{journal}
 use Rattle.model.specs.Audit.{mapsSound, countSound, expirySound, printsSound, cellSound, currentSound, backupsSound, audit}
 use Rattle.model.specs.KeptBefores.{takenSound, kept-befores}
+use Rattle.auditor.specs.JournalRead.{journal-in}
 use Rattle.auditor.specs.MapsReplayed.{maps-replayed}
+use Rattle.auditor.specs.Table.{rowSize, tableSize, tableAfter, tableBefores}
+use Rattle.auditor.specs.TableMaps.{tableMatches, table-sound}
 
--- the five tests
-unfoldable pub auditParts : Book → Bool
-auditParts x =
-    mapsSound x
-    && (all (countSound x) (upFrom 0 (x .sizes .n))
-    && (all (expirySound x) (upFrom 0 (x .sizes .n))
-    && (printsSound x
-    && all (takenSound x) (journal x))))
+-- the cells that the journal is replayed in
+abbrev pub noCells : List ℕ
+noCells = replicate tableSize unmapped
+
+unfoldable pub auditPasses : Book → Bool
+auditPasses x =
+    (tableBefores noCells (journal x) && all (takenSound x) (journal x))
+    && (tableMatches (x .maps) (x .sizes .l) (tableAfter noCells (journal x))
+    && ((all (countSound x) (upFrom 0 (x .sizes .n)) && all (expirySound x) (upFrom 0 (x .sizes .n)))
+    && printsSound x))
 
 module _ (x : Book) (s : Sized x) (p : BookParts x) where
   -- a free block has count 0, so no cell names it
@@ -69,10 +74,25 @@ module _ (x : Book) (s : Sized x) (p : BookParts x) where
   counts-current e =
       place-all (all (cellSound x)) (x .maps) [] (λ v hv. place-all (cellSound x) (getD (x .maps) v []) unmapped (λ l hl. named-held e v l hv hl))
 
-  pub audit-parts : auditParts x ≡ audit x
-  unfolding auditParts audit
-  audit-parts =
-      go (mapsSound x) refl (all (countSound x) (upFrom 0 (x .sizes .n))) refl
+  -- the passes test the maps, the counts, the expiries, the fingerprints and the befores, in another order
+  passes-parts : x .sizes .l ≤ rowSize
+      → auditPasses x
+      ≡ (mapsSound x && (all (countSound x) (upFrom 0 (x .sizes .n)) && (all (expirySound x) (upFrom 0 (x .sizes .n)) && (printsSound x && all (takenSound x) (journal x)))))
+  unfolding auditPasses
+  passes-parts small =
+      order (tableBefores noCells (journal x)) (all (takenSound x) (journal x)) (tableMatches (x .maps) (x .sizes .l) (tableAfter noCells (journal x)))
+      (all (countSound x) (upFrom 0 (x .sizes .n))) (all (expirySound x) (upFrom 0 (x .sizes .n))) (printsSound x)
+      ∙ rw (table-sound x s small (journal-in x p s))
+    where
+      order : (b t m c e f : Bool) → ((b && t) && (m && ((c && e) && f))) ≡ ((b && m) && (c && (e && (f && t))))
+      order false t m c e f = refl
+      order true true m c e f = rw (and-assoc c e f, and-yes f)
+      order true false m c e f = rw (and-false f, and-false e, and-false c, and-false m)
+
+  audit-passes : x .sizes .l ≤ rowSize → auditPasses x ≡ audit x
+  unfolding audit
+  audit-passes small =
+      passes-parts small ∙ go (mapsSound x) refl (all (countSound x) (upFrom 0 (x .sizes .n))) refl
     where
       expiries : Bool
       expiries = all (expirySound x) (upFrom 0 (x .sizes .n))
@@ -90,5 +110,5 @@ module _ (x : Book) (s : Sized x) (p : BookParts x) where
           let now = counts-current f in
           rw (kept-befores x (maps-replayed x s p e) now) (last expiries (printsSound x) (currentSound x) (backupsSound x) now)
 
-pub formed-audit : {b : List ℕ} → Formed b → audit (bookOf b) ≡ auditParts (bookOf b)
-formed-audit {b} f = sym (audit-parts (bookOf b) (f .holds .sized) (f .parts))
+pub formed-audit : {b : List ℕ} → Formed b → audit (bookOf b) ≡ auditPasses (bookOf b)
+formed-audit {b} f = sym (audit-passes (bookOf b) (f .holds .sized) (f .parts) (f .holds .l))

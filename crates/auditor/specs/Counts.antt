@@ -60,6 +60,12 @@ pub counted-row : {a a′ a″ : List ℕ} (ms : List (List ℕ)) (v : ℕ) → 
 counted-row ms v h f g =
     rw (add-one v, take-suc ms v [] h, joined-append (take v ms) (getD ms v [] ∷ []), append-nil (getD ms v [])) (counted-append f g)
 
+-- .. all rows of a book in form
+pub counted-rows : {b : List ℕ} → Formed b → {a a′ : List ℕ} → Counted a (joined (take volumes (bookOf b .maps))) a′ → Counted a (joined (bookOf b .maps)) a′
+counted-rows {b} f c =
+    let whole : take volumes (bookOf b .maps) ≡ bookOf b .maps = take-all volumes (bookOf b .maps) (omega (arith, f .holds .sized .maps)) in
+    rw whole at c
+
 pub countOf-le : {A : Type 0} (f : A → Bool) (xs : List A) → countOf f xs ≤ length xs
 countOf-le f [] = omega arith
 countOf-le f (x ∷ xs) = go (f x) (countOf-le f xs)
@@ -80,14 +86,12 @@ countOfBlock es p = entryAt es p .count
 abbrev pub numberAt : List ℕ → ℕ → ℕ
 numberAt a p = getD a p 0
 
-pub counts-sound : {b : List ℕ} → Formed b → {a : List ℕ} {t : Bool} → Counted (replicate poolBlocks 0) (joined (take volumes (bookOf b .maps))) a
+pub counts-sound : {b : List ℕ} → Formed b → {a : List ℕ} {t : Bool} → Counted (replicate poolBlocks 0) (joined (bookOf b .maps)) a
     → t ≡ matching (countOfBlock (bookOf b .entries)) (numberAt a) (bookOf b .sizes .n) → t ≡ all (countSound (bookOf b)) (upFrom 0 (bookOf b .sizes .n))
 unfolding countSound
 counts-sound {b} f {a} c e =
     let x = bookOf b in
-    let whole : take volumes (x .maps) ≡ x .maps = take-all volumes (x .maps) (omega (arith, f .holds .sized .maps)) in
-    let c′ : Counted (replicate poolBlocks 0) (joined (x .maps)) a = rw whole at c in
     e ∙ matching-same (countOfBlock (x .entries)) (numberAt a) (λ p. countOf (eqb p) (joined (x .maps))) (x .sizes .n)
     (λ p h. let k : p < poolBlocks = omega (arith, f .holds .n) in
-    c′ .at p k ∙ ap (λ (z : ℕ). z + countOf (eqb p) (joined (x .maps))) (getD-replicate poolBlocks p 0 0 k) ∙ omega arith)
+    c .at p k ∙ ap (λ (z : ℕ). z + countOf (eqb p) (joined (x .maps))) (getD-replicate poolBlocks p 0 0 k) ∙ omega arith)
     ∙ sym (all-each (countSound x) (x .sizes .n))

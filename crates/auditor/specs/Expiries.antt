@@ -16,8 +16,6 @@ use Rattle.words.specs.Stores.{getD-set}
 use Rattle.words.specs.Tests.{eqb-swap}
 use Rattle.book.specs.Book.{Entry, Rec, Book, noRec, entryAt, recAt, retentionOf}
 use Rattle.book.specs.Layout.{bookOf}
-use Rattle.book.specs.Struct.{RecordIs}
-use Rattle.book.specs.declared.record.Record.{Record}
 use Rattle.book.specs.Formed.{Formed}
 use Rattle.model.specs.Journal.{Backup, journal}
 use Rattle.model.specs.Audit.{hasBefore, untilIn, expirySound}
@@ -73,10 +71,10 @@ module _ {a₀ : List ℕ} {f₀ : ℕ → ℕ} where
   pub raising-end : {a : List ℕ} {f : ℕ → ℕ} → ((p : ℕ) → f p ≡ 0) → Raising a₀ f₀ a f → Raised a₀ f₀ a
   raising-end e w = record { long = w .long; at = λ p h. omega (arith, e p, w .at p h) }
 
-pub until-more : (u : ℕ) (rs : List Rec) (q e : ℕ) {r : Record} → RecordIs (recAt rs q) r → q < e → e ≤ length rs → (p : ℕ)
-    → untilEach u (slice q e rs) p ≡ max (untilOne u (r .before .0) p) (untilEach u (slice (q + 1) e rs) p)
-until-more u rs q e i h k p =
-    rw (i .before, slice-cons q e rs noRec h k, add-one q) (go (eqb (recAt rs q .before) p) (hasBefore p (slice (suc q) e rs)))
+pub until-more : (u : ℕ) (rs : List Rec) (q e : ℕ) → q < e → e ≤ length rs → (p : ℕ)
+    → untilEach u (slice q e rs) p ≡ max (untilOne u (recAt rs q .before) p) (untilEach u (slice (q + 1) e rs) p)
+until-more u rs q e h k p =
+    rw (slice-cons q e rs noRec h k, add-one q) (go (eqb (recAt rs q .before) p) (hasBefore p (slice (suc q) e rs)))
   where
     go : (s t : Bool) → (if s || t then u else 0) ≡ max (if s then u else 0) (if t then u else 0)
     go true true = omega arith

@@ -1,8 +1,8 @@
 -- The journal as the audit reads it, slot by slot. Assumes nothing.
 use Prim.Native.Nat.{ℕ, _+_, _≤_, _<_}
-use mathlib.Core.Path.{_≡_, sym, ap, _∙_}
+use mathlib.Core.Path.{_≡_, sym, _∙_}
 use mathlib.Core.Bool.{Bool, true, _&&_}
-use mathlib.Core.List.{List, _∷_}
+use mathlib.Core.List.{List}
 use native.Mathlib.Omega.{arith}
 use lib.Dec.{ltb}
 use lib.ListN.{length, drop}
@@ -20,7 +20,7 @@ use Rattle.book.specs.Layout.{bookOf}
 use Rattle.book.specs.Struct.{SlotIs}
 use Rattle.book.specs.declared.slot.Slot as read
 use Rattle.model.specs.Journal.{Backup, journal}
-use Rattle.model.specs.JournalAt.{noBackup, backupAt, length-journal, journal-next, volume-at, day-at, records-at}
+use Rattle.model.specs.JournalAt.{noBackup, backupAt, length-journal, volume-at, day-at, records-at}
 use Rattle.auditor.specs.Bounds.{slot-bounds}
 
 -- a backup in form: its volume, and its records
@@ -70,6 +70,3 @@ module _ {b : List ℕ} (f : Formed b) (q : ℕ) (h : q < length (bookOf b .slot
       records-at x q (f .parts .pairs) h ∙ rw (i .first, i .number) (sym (drop-take (slotAt (x .slots) q .first) (slotAt (x .slots) q .number) (x .records)))
       in
       λ j. record { volume = v j; day = d j; records = rs j }
-
-  pub journal-read : drop q (journal (bookOf b)) ≡ readBackup (bookOf b .records) r ∷ drop (q + 1) (journal (bookOf b))
-  journal-read = journal-next (bookOf b) q h ∙ ap (λ (c : Backup). c ∷ drop (q + 1) (journal (bookOf b))) backup-read

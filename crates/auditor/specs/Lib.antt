@@ -5,9 +5,14 @@ pub mod Matching
 pub mod Table
 pub mod TableMaps
 pub mod Counts
+pub mod MapsTaken
 pub mod Expiries
+pub mod Entries
 pub mod Stamps
+pub mod Records
+pub mod Slots
 pub mod MapsReplayed
 pub mod AuditParts
+pub mod WaysOut
 pub mod LowestHeld
 pub mod AuditAnswers

@@ -15,14 +15,12 @@ use Rattle.words.specs.Lists.{all, same, upFrom}
 use Rattle.words.specs.Same.{same-self, same-equal}
 use Rattle.words.specs.Stores.{getD-set}
 use Rattle.book.specs.Book.{volumes, Sizes, Rec, Book, Sized, cellAt}
-use Rattle.book.specs.Layout.{bookOf}
 use Rattle.book.specs.Form.{pbnOk, recOk}
-use Rattle.book.specs.Formed.{Formed}
 use Rattle.model.specs.Journal.{Backup, journal}
 use Rattle.model.specs.Audit.{applied, replayed, beforesIn, befores, noMaps, sameMap, mapsSound}
-use Rattle.auditor.specs.JournalRead.{backupIn, journal-in}
+use Rattle.auditor.specs.JournalRead.{backupIn}
 use Rattle.auditor.specs.Matching.{matching, matching-same}
-use Rattle.auditor.specs.Table.{rowSize, tableSize, cellsAfter, cellsBefore, tableAfter, tableBefores, ReplaysAll}
+use Rattle.auditor.specs.Table.{rowSize, tableSize, cellsAfter, cellsBefore, tableAfter, tableBefores}
 
 -- ---- the maps are what the table holds
 
@@ -165,9 +163,3 @@ unfolding mapsSound
 table-sound x s small ok =
     let r = replayed-table (x .sizes .l) small (journal x) (x .sizes) refl (replicate tableSize unmapped) (noMaps x) ok (empty-table x small) in
     rw (r .0, table-matches (x .sizes .l) small (x .maps) (replayed (noMaps x) (journal x)) (tableAfter (replicate tableSize unmapped) (journal x)) (s .cells) (r .1))
-
--- .. as the two passes find it
-pub passes-sound : {b : List ℕ} → Formed b → {s t : Bool} {a : List ℕ} → ReplaysAll (replicate tableSize unmapped) (journal (bookOf b)) s a
-    → t ≡ tableMatches (bookOf b .maps) (bookOf b .sizes .l) a → (s && t) ≡ mapsSound (bookOf b)
-passes-sound {b} f r e =
-    rw (e, r .test, r .table) (table-sound (bookOf b) (f .holds .sized) (f .holds .l) (journal-in (bookOf b) (f .parts) (f .holds .sized)))

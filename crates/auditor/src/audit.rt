@@ -4,31 +4,31 @@ ghost use Rattle.book.specs.Layout.{bookOf};
 ghost use Rattle.book.specs.Formed.{Formed};
 ghost use Rattle.model.specs.Audit.{audit};
 ghost use Rattle.auditor.specs.Contracts.{Audited};
-use super::audit_counts::counts_sound;
-use super::audit_expiries::expiries_sound;
-use super::audit_kept::backups_held;
-use super::audit_maps::maps_sound;
-use super::audit_prints::prints_sound;
+use super::entries::entries_match;
+use super::maps::maps_match;
+use super::prints::prints_sound;
+use super::records::take_journal;
 use form::form_number;
+use words::UNMAPPED;
 
-// The tests in the order of document 01. That no current map names a free block follows from form and the counts.
+// The records leave cells and expiries, the maps leave counts. That no current map names a free block follows from form and the counts.
 fn is_sound(book: &[u8]) -> bool
     requires { ⌜ Formed (now book) ⌝ }
     ensures { λ r. ⌜ r ≡ audit (bookOf (now (book .entry))) ⌝ }
 {
-    if !maps_sound(book) {
+    let mut cells = [UNMAPPED; 8192];
+    let mut expiries = [0u16; 4096];
+    if !take_journal(book, &mut cells, &mut expiries) {
         return false;
     }
-    if !counts_sound(book) {
+    let mut counts = [0u16; 4096];
+    if !maps_match(book, &cells, &mut counts) {
         return false;
     }
-    if !expiries_sound(book) {
+    if !entries_match(book, &counts, &expiries) {
         return false;
     }
-    if !prints_sound(book) {
-        return false;
-    }
-    backups_held(book)
+    prints_sound(book)
 }
 
 // The number that refuses the book, or 0; then sound is 1 for yes and 0 for no.

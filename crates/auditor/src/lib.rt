@@ -1,7 +1,7 @@
-// Audit (document 01, "Audit says yes exactly when"), a pass over the book for each of its tests.
+// Audit (document 01, "Audit says yes exactly when"), in one pass each over the records, the maps, the entries and the held fingerprints.
 pub mod audit;
-mod audit_counts;
-mod audit_expiries;
-mod audit_kept;
-mod audit_maps;
-mod audit_prints;
+mod entries;
+mod maps;
+mod notes;
+mod prints;
+mod records;

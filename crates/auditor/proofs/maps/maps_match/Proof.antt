@@ -1,0 +1,52 @@
+-- `auditor::maps::maps_match` meets its contract: the rows passed are tested and counted.
+use Prim.Native.Nat.{_-_, _≤_}
+use Rattle.book.specs.Layout.{bookOf}
+use Rattle.auditor.specs.MapsTaken.{MapsTaking, taking-start, taking-long, taking-row, taking-end}
+use borrow.Author.Needs.{needs}
+use native.Mathlib.Omega.{arith}
+use Rattle.auditor.proofs.maps.maps_match.Statement.{statement}
+use Rattle.auditor.proofs.maps.maps_match.Tie as tie
+
+abbrev Inv-loop : tie.InvT-loop
+Inv-loop book cells counts₀ good₀ v₀ counts good v = (v ≤ 8) × MapsTaking (bookOf book) cells v good counts
+
+abbrev μ-loop : tie.MeasureT-loop
+μ-loop book cells counts₀ good₀ v₀ counts good v = 8 - v
+
+loop-holds : tie.Need-loop-holds Inv-loop μ-loop
+loop-holds c = (omega arith, taking-start _ _)
+
+take-row-requires : tie.Need-take-row-requires Inv-loop μ-loop
+take-row-requires c κs =
+    let s = c .before .before .before .before .before in
+    let w = c .before .before .loop .inv .1 in
+    (s .pre, (omega arith, taking-long w, w .few))
+
+add-v : tie.Need-add-v Inv-loop μ-loop
+add-v c = search needs
+
+loop-less : tie.Need-loop-less Inv-loop μ-loop
+loop-less c = search needs
+
+loop-again : tie.Need-loop-again Inv-loop μ-loop
+loop-again c =
+    let s = c .before .before .before .before .before .before in
+    (omega arith, taking-row (s .pre) (omega arith) (c .before .before .before .loop .inv .1) (c .take-row .ensures))
+
+returns : tie.Need-returns Inv-loop μ-loop
+returns c =
+    let s = c .before .before .before .before in
+    taking-end (s .pre) (omega arith) (c .before .loop .inv .1)
+
+pub maps-match-spec : {M : Type 1} → statement M
+maps-match-spec =
+    tie.close
+    (tie.spec
+    Inv-loop
+    μ-loop
+    loop-holds
+    take-row-requires
+    add-v
+    loop-less
+    loop-again
+    returns)

@@ -1,0 +1,62 @@
+-- `auditor::records::take_journal` meets its contract: what is left of the journal decides as the whole does.
+use Prim.Native.Nat.{ℕ, _-_, _≤_}
+use mathlib.Core.Path.{_≡_, refl, _∙_}
+use denote.Ref.{now}
+use Rattle.words.specs.Places.{getD-replicated}
+use Rattle.book.specs.Layout.{bookOf}
+use Rattle.auditor.specs.Records.{notes}
+use Rattle.auditor.specs.Slots.{SlotsLeft, slots-start, slots-more, slots-end}
+use Rattle.auditor.specs.Table.{rowSize}
+use borrow.Author.Needs.{needs}
+use native.Mathlib.Omega.{arith}
+use Rattle.auditor.proofs.records.take_journal.Statement.{statement}
+use Rattle.auditor.proofs.records.take_journal.Tie as tie
+
+abbrev Inv-loop : tie.InvT-loop
+Inv-loop book cells₀ expiries₀ stamps₀ used good₀ q₀ cells expiries stamps good q =
+    (q ≤ used) × SlotsLeft (bookOf book) cells₀ expiries₀ good (notes cells expiries stamps) q
+
+abbrev μ-loop : tie.MeasureT-loop
+μ-loop book cells₀ expiries₀ stamps₀ used good₀ q₀ cells expiries stamps good q = used - q
+
+used-slots-requires : tie.Need-used-slots-requires Inv-loop μ-loop
+used-slots-requires c κs = c .before .pre .0 .holds
+
+loop-holds : tie.Need-loop-holds Inv-loop μ-loop
+loop-holds c = (omega arith, slots-start _ _ _ _ refl (λ l. omega (arith, getD-replicated {A = ℕ} rowSize 0 l)))
+
+take-slot-requires : tie.Need-take-slot-requires Inv-loop μ-loop
+take-slot-requires c κs =
+    let l = c .before .before .before .before .loop in
+    let s = c .before .before .before .before .before .before .before in
+    (s .pre .0, (omega arith, l .inv .1 .expiries .long ∙ s .pre .1, l .inv .1 .long, l .inv .1 .low))
+
+add-q : tie.Need-add-q Inv-loop μ-loop
+add-q c = search needs
+
+loop-less : tie.Need-loop-less Inv-loop μ-loop
+loop-less c = search needs
+
+loop-again : tie.Need-loop-again Inv-loop μ-loop
+loop-again c =
+    let l = c .before .before .before .before .before .loop in
+    (omega arith, slots-more _ _ _ (l .q) (omega arith) (c .take-slot .ensures) (l .inv .1))
+
+returns : tie.Need-returns Inv-loop μ-loop
+returns c =
+    let l = c .before .loop in
+    slots-end _ _ _ (l .q) (omega arith) (l .inv .1)
+
+pub take-journal-spec : {M : Type 1} → statement M
+take-journal-spec =
+    tie.close
+    (tie.spec
+    Inv-loop
+    μ-loop
+    used-slots-requires
+    loop-holds
+    take-slot-requires
+    add-q
+    loop-less
+    loop-again
+    returns)

@@ -1,0 +1,47 @@
+-- `auditor::records::take_record` meets its contract: each of its calls does its part.
+use mathlib.Core.Path.{_≡_}
+use denote.Ref.{now}
+use borrow.Author.Needs.{needs}
+use Rattle.book.specs.Layout.{bookOf}
+use Rattle.auditor.specs.Bounds.{ReadIn, read-in}
+use Rattle.auditor.specs.Records.{record-taken}
+use Rattle.auditor.proofs.records.take_record.Statement.{statement}
+use Rattle.auditor.proofs.records.take_record.Tie as tie
+
+known : (c : tie.After-record-at) → ReadIn (bookOf (now (c .before .before .args .book))) (c .record-at .result)
+known c = let s = c .before .before in read-in (s .pre .0) (s .args .q) (s .pre .1 .2) (c .record-at .ensures)
+
+record-at-requires : tie.Need-record-at-requires
+record-at-requires c κs = search needs
+
+replace-requires : tie.Need-replace-requires
+replace-requires c κs = (c .before .before .before .pre .1 .0, known (c .before) .place)
+
+raise-requires : tie.Need-raise-requires
+raise-requires c κs = search needs
+
+meet-requires : tie.Need-meet-requires
+meet-requires c κs = known (c .before .before .before .before .before) .place
+
+unmapped-or-held-requires : tie.Need-unmapped-or-held-requires
+unmapped-or-held-requires c κs =
+    let k = c .before .before .before .before .before .before in
+    (k .before .before .pre .0, known k .before)
+
+returns : tie.Need-returns
+returns c =
+    let m = c .before .before in
+    let r = m .before .before in
+    let w = r .before .before in
+    record-taken (w .before .before .record-at .ensures) (w .replace .ensures .0) (w .replace .ensures .1) (r .raise .ensures) (m .meet .ensures .0) (m .meet .ensures .1) (c .before .unmapped-or-held .ensures)
+
+pub take-record-spec : {M : Type 1} → statement M
+take-record-spec =
+    tie.close
+    (tie.spec
+    record-at-requires
+    replace-requires
+    raise-requires
+    meet-requires
+    unmapped-or-held-requires
+    returns)

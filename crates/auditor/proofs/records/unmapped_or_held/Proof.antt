@@ -1,0 +1,21 @@
+-- `auditor::records::unmapped_or_held` meets its contract.
+use mathlib.Core.Logic.{⊎-elim}
+use borrow.Author.Tests.{eq-eqb, ne-eqb}
+use Rattle.words.specs.Blocks.{unmapped}
+use Rattle.model.specs.Audit.{cellSound}
+use Rattle.auditor.proofs.records.unmapped_or_held.Statement.{statement}
+use Rattle.auditor.proofs.records.unmapped_or_held.Tie as tie
+
+returns : tie.Need-returns
+unfolding cellSound
+returns c = rw (eq-eqb (c .before .before .before .args .p .0) unmapped (c .if1 .taken))
+
+is-held-requires : tie.Need-is-held-requires
+is-held-requires c κs = (c .before .before .before .pre .0 .holds, ⊎-elim (λ h. h) (λ h. absurd (c .if1 .left h)) (c .before .before .before .pre .1))
+
+returns-2 : tie.Need-returns-2
+unfolding cellSound
+returns-2 c = rw (ne-eqb (c .before .before .before .before .args .p .0) unmapped (c .before .if1 .left)) (c .is-held .ensures)
+
+pub unmapped-or-held-spec : {M : Type 1} → statement M
+unmapped-or-held-spec = tie.close (tie.spec returns is-held-requires returns-2)

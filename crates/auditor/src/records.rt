@@ -1,0 +1,137 @@
+// Audit: the records, once. Each is replayed in a table of all cells and raises the expiry of its before. Where maps and counts are sound, no kept
+// backup names a free block exactly when each backup that still reaches the day has, in the first record of each LBN, a before that is unmapped
+// or held.
+ghost use mathlib.Core.Path.{_≡_};
+ghost use mathlib.Core.Logic.{_⊎_};
+ghost use Prim.Native.Nat.{ℕ, _+_, _≤_, _<_};
+ghost use lib.ListN.{length, getD};
+ghost use lib.Seq.{slice};
+ghost use Rattle.words.specs.Blocks.{unmapped};
+ghost use Rattle.book.specs.Book.{volumes, recAt};
+ghost use Rattle.book.specs.Layout.{bookOf};
+ghost use Rattle.book.specs.Formed.{Formed};
+ghost use Rattle.model.specs.Audit.{cellSound};
+ghost use Rattle.model.specs.JournalAt.{backupAt};
+ghost use Rattle.auditor.specs.Counts.{poolBlocks};
+ghost use Rattle.auditor.specs.Records.{notes, RecordTaken, RecordsTaken};
+ghost use Rattle.auditor.specs.Slots.{SlotTaken, JournalTaken};
+ghost use Rattle.auditor.specs.Table.{rowSize};
+use super::notes::meet;
+use super::notes::raise;
+use super::notes::replace;
+use book::entry::is_held;
+use book::header;
+use book::header::retention;
+use book::header::used_slots;
+use book::record::record_at;
+use book::slot::slot_at;
+use words::PBN;
+use words::UNMAPPED;
+
+// What the records of a backup are taken with: the last day that keeps what they replace, whether that day is past, and the backup's stamp.
+pub struct Taking {
+    pub volume: u16,
+    pub until: u16,
+    pub past: bool,
+    pub stamp: u16,
+}
+
+fn unmapped_or_held(book: &[u8], p: PBN) -> bool
+    requires { ⌜ Formed (now book) ⌝ }
+    requires { ⌜ (p .0 < bookOf (now book) .sizes .n) ⊎ (p .0 ≡ unmapped) ⌝ }
+    ensures { λ r. ⌜ r ≡ cellSound (bookOf (now (book .entry))) (p .0) ⌝ }
+{
+    if p.0 == UNMAPPED {
+        return true;
+    }
+    is_held(book, p)
+}
+
+fn take_record(
+    book: &[u8],
+    cells: &mut [u16; 8192],
+    expiries: &mut [u16; 4096],
+    stamps: &mut [u16; 1024],
+    t: Taking,
+    q: u16,
+) -> bool
+    requires { ⌜ Formed (now book) ⌝ }
+    requires { ⌜ (t .volume < volumes) × (length (now expiries) ≡ poolBlocks) × (q < length (bookOf (now book) .records)) ⌝ }
+    ensures { λ r. ⌜ RecordTaken (bookOf (now (book .entry))) t (recAt (bookOf (now (book .entry)) .records) q) r (notes (now (cells .entry)) (now (expiries .entry)) (now (stamps .entry))) (notes (now (cells .exit)) (now (expiries .exit)) (now (stamps .exit))) ⌝ }
+{
+    let change = record_at(book, q);
+    let same = replace(cells, t.volume, change);
+    raise(expiries, change.before, t.until);
+    let met = meet(stamps, change.lbn, t.stamp);
+    let held = unmapped_or_held(book, change.before);
+    same & (t.past | met | held)
+}
+
+// The records of one backup, from one up to another.
+fn take_records(
+    book: &[u8],
+    cells: &mut [u16; 8192],
+    expiries: &mut [u16; 4096],
+    stamps: &mut [u16; 1024],
+    t: Taking,
+    from: u16,
+    end: u16,
+) -> bool
+    requires { ⌜ Formed (now book) ⌝ }
+    requires { ⌜ (t .volume < volumes) × (length (now expiries) ≡ poolBlocks) × (from ≤ end) × (end ≤ length (bookOf (now book) .records)) ⌝ }
+    ensures { λ r. ⌜ RecordsTaken (bookOf (now (book .entry))) t (slice from end (bookOf (now (book .entry)) .records)) r (notes (now (cells .entry)) (now (expiries .entry)) (now (stamps .entry))) (notes (now (cells .exit)) (now (expiries .exit)) (now (stamps .exit))) ⌝ }
+{
+    let mut good = true;
+    let mut q = from;
+    while q < end {
+        let taken = take_record(book, cells, expiries, stamps, t, q);
+        good = good & taken;
+        q += 1;
+    }
+    good
+}
+
+// The backup of slot q, whose stamp is q + 1.
+fn take_slot(
+    book: &[u8],
+    cells: &mut [u16; 8192],
+    expiries: &mut [u16; 4096],
+    stamps: &mut [u16; 1024],
+    q: u16,
+) -> bool
+    requires { ⌜ Formed (now book) ⌝ }
+    requires { ⌜ (q < length (bookOf (now book) .slots)) × (length (now expiries) ≡ poolBlocks) × (length (now stamps) ≡ rowSize) × ((l : ℕ) → getD (now stamps) l 0 ≤ q) ⌝ }
+    ensures { λ r. ⌜ SlotTaken (bookOf (now (book .entry))) (backupAt (bookOf (now (book .entry))) q) (q + 1) r (notes (now (cells .entry)) (now (expiries .entry)) (now (stamps .entry))) (notes (now (cells .exit)) (now (expiries .exit)) (now (stamps .exit))) ⌝ }
+{
+    let slot = slot_at(book, q);
+    let volume = slot.volume;
+    let until = slot.day + retention(book, volume);
+    let past = until < header::day(book);
+    let stamp = q + 1;
+    let end = slot.first + slot.number;
+    let t = Taking {
+        volume,
+        until,
+        past,
+        stamp,
+    };
+    take_records(book, cells, expiries, stamps, t, slot.first, end)
+}
+
+// The whole journal, replayed in the cells and gathered in the expiries.
+pub fn take_journal(book: &[u8], cells: &mut [u16; 8192], expiries: &mut [u16; 4096]) -> bool
+    requires { ⌜ Formed (now book) ⌝ }
+    requires { ⌜ length (now expiries) ≡ poolBlocks ⌝ }
+    ensures { λ r. ⌜ JournalTaken (bookOf (now (book .entry))) r (now (cells .entry)) (now (expiries .entry)) (now (cells .exit)) (now (expiries .exit)) ⌝ }
+{
+    let mut stamps = [0u16; 1024];
+    let used = used_slots(book);
+    let mut good = true;
+    let mut q = 0;
+    while q < used {
+        let taken = take_slot(book, cells, expiries, &mut stamps, q);
+        good = good & taken;
+        q += 1;
+    }
+    good
+}
