@@ -12,7 +12,7 @@ pub mod Stamps
 pub mod Records
 pub mod Slots
 pub mod MapsReplayed
-pub mod AuditParts
+pub mod AuditPasses
 pub mod WaysOut
 pub mod LowestHeld
 pub mod AuditAnswers

@@ -11,7 +11,7 @@ use Rattle.book.specs.Layout.{bookOf}
 use Rattle.model.specs.Audit.{countSound, expirySound, printsSound, audit}
 use Rattle.model.specs.Journal.{journal}
 use Rattle.model.specs.KeptBefores.{takenSound}
-use Rattle.auditor.specs.AuditParts.{noCells, auditPasses, formed-audit}
+use Rattle.auditor.specs.AuditPasses.{noCells, auditPasses, formed-audit}
 use Rattle.auditor.specs.Counts.{poolBlocks}
 use Rattle.auditor.specs.Entries.{entriesMatch, entries-sound}
 use Rattle.auditor.specs.MapsTaken.{MapsTaken}
