@@ -35,13 +35,13 @@ pub record MapsTaking (x : Book) (cells : List ℕ) (v : ℕ) (good : Bool) (a :
   pub counts : Counted (replicate poolBlocks 0) (joined (take v (x .maps))) a
   pub few : AtMost (v * rowSize) a
 
-pub taking-start : (x : Book) (cells : List ℕ) → MapsTaking x cells 0 true (replicate poolBlocks 0)
-taking-start x cells =
-    record {
+pub taking-start : (x : Book) (cells : List ℕ) {n : ℕ} → n ≡ 0 → MapsTaking x cells 0 true (replicate poolBlocks n)
+taking-start x cells {n} z =
+    rw z (record {
       test = sym (each-none (rowMatches (x .maps) (x .sizes .l) cells) 0 0 (omega arith));
       counts = counted-none (replicate poolBlocks 0);
       few = λ p h. omega (arith, getD-replicate {A = ℕ} poolBlocks p 0 0 h);
-    }
+    })
 
 pub taking-long : {x : Book} {cells : List ℕ} {v : ℕ} {good : Bool} {a : List ℕ} → MapsTaking x cells v good a → length a ≡ poolBlocks
 taking-long w = w .counts .long ∙ length-replicate {A = ℕ} poolBlocks 0

@@ -14,7 +14,7 @@ abbrev μ-loop : tie.MeasureT-loop
 μ-loop book cells counts₀ good₀ v₀ counts good v = 8 - v
 
 loop-holds : tie.Need-loop-holds Inv-loop μ-loop
-loop-holds c = (omega arith, taking-start _ _)
+loop-holds c = (omega arith, taking-start _ _ (omega arith))
 
 take-row-requires : tie.Need-take-row-requires Inv-loop μ-loop
 take-row-requires c κs =
