@@ -1,12 +1,12 @@
 -- Laws of numbers 1 to 10: what each test that the code makes says of the whole call. Assumes nothing.
-use Prim.Native.Nat.{ℕ, zero, suc, _+_, _*_, _≤_, _<_}
+use Prim.Native.Nat.{ℕ, suc, _+_, _*_, _≤_, _<_}
 use mathlib.Core.Path.{_≡_, refl, sym, ap, _∙_}
 use mathlib.Core.Bool.{Bool, true, false}
 use mathlib.Core.List.{List, [], _∷_}
 use native.Mathlib.Omega.{arith}
 use lib.Dec.{leb, eqb}
 use lib.ListN.{length, length-map}
-use borrow.Author.Tests.{lt-ltb, le-ltb, le-leb, lt-leb, eq-eqb, ne-eqb, eqb-true, ltb-false, not-false}
+use borrow.Author.Tests.{lt-ltb, le-ltb, le-leb, lt-leb, eq-eqb, ne-eqb, ltb-false}
 use Rattle.words.specs.Accepted.{unless-refused}
 use Rattle.words.specs.Blocks.{blockSize}
 use Rattle.words.specs.Choice.{if_then_else_}
@@ -20,47 +20,33 @@ use Rattle.model.specs.Days.{badDay, notAfter}
 use Rattle.model.specs.Journal.{Backup, journal, backups, days, noVolume}
 use Rattle.model.specs.Backup.{Work, Backed, runChanges, begun, closed, backupNumber, backup}
 use Rattle.model.specs.JournalAt.{length-journal}
-use Rattle.model.specs.OnBytes.{poolNumber, spareNumber, BackedBytes, backedBytes, backupBytes}
-use Rattle.intake.specs.Allowing.{orNumber, bufferNumber, dayRefused, roomNumber, goesOn}
+use Rattle.model.specs.OnBytes.{spareNumber, BackedBytes, backedBytes, backupBytes}
+use Rattle.buffers.specs.Buffers.{buffersNumber}
+use Rattle.buffers.specs.BuffersLaws.{or-first, or-zero, if-zero, unless-or, buffers-facts, buffers-order}
+use Rattle.intake.specs.Allowing.{lentNumber, dayRefused, roomNumber, goesOn}
 
 -- ---- numbers 1 to 4
 
-or-first : (j k : ℕ) → (j ≡ 0 → ⊥) → orNumber j k ≡ j
-or-first zero k h = absurd (h refl)
-or-first (suc j) k h = refl
-
-or-zero : (j k : ℕ) → orNumber j k ≡ 0 → (j ≡ 0) × (k ≡ 0)
-or-zero zero k e = (refl, e)
-or-zero (suc j) k e = absurd (omega arith)
-
-if-zero : (t : Bool) (k : ℕ) → (if t then suc k else 0) ≡ 0 → t ≡ false
-if-zero true k e = absurd (omega arith)
-if-zero false k e = refl
-
 module _ (b pool : List ℕ) (spare : ℕ) where
-  pub buffer-form : (k : ℕ) → k ≡ formNumber b → (k ≡ 0 → ⊥) → k ≡ bufferNumber b pool spare
-  unfolding bufferNumber
-  buffer-form k e n = e ∙ sym (or-first (formNumber b) _ (λ z. n (e ∙ z)))
+  pub lent-first : (k : ℕ) → k ≡ buffersNumber b pool → (k ≡ 0 → ⊥) → k ≡ lentNumber b pool spare
+  unfolding lentNumber
+  lent-first k e n = e ∙ sym (or-first (buffersNumber b pool) _ (λ z. n (e ∙ z)))
 
-  module _ (form : formNumber b ≡ 0) where
-    pub buffer-three : (length pool ≡ bookOf b .sizes .n * blockSize → ⊥) → 3 ≡ bufferNumber b pool spare
-    unfolding bufferNumber poolNumber bookOf
-    buffer-three n = rw (form, ne-eqb _ _ n)
+  module _ (good : buffersNumber b pool ≡ 0) where
+    pub lent-four : spare < length b → 4 ≡ lentNumber b pool spare
+    unfolding lentNumber spareNumber
+    lent-four h = rw (good, lt-ltb _ _ h)
 
-    pub buffer-four : length pool ≡ bookOf b .sizes .n * blockSize → spare < length b → 4 ≡ bufferNumber b pool spare
-    unfolding bufferNumber poolNumber spareNumber bookOf
-    buffer-four e h = rw (form, eq-eqb _ _ e, lt-ltb _ _ h)
+    pub lent-none : length b ≤ spare → 0 ≡ lentNumber b pool spare
+    unfolding lentNumber spareNumber
+    lent-none h = rw (good, le-ltb _ _ h)
 
-    pub buffer-none : length pool ≡ bookOf b .sizes .n * blockSize → length b ≤ spare → 0 ≡ bufferNumber b pool spare
-    unfolding bufferNumber poolNumber spareNumber bookOf
-    buffer-none e h = rw (form, eq-eqb _ _ e, le-ltb _ _ h)
-
-  pub buffer-facts : bufferNumber b pool spare ≡ 0 → (formNumber b ≡ 0) × (length pool ≡ bookOf b .sizes .n * blockSize) × (length b ≤ spare)
-  unfolding bufferNumber poolNumber spareNumber bookOf
-  buffer-facts e =
-      let f = or-zero (formNumber b) (orNumber (poolNumber b pool) (spareNumber b spare)) e in
-      let g = or-zero (poolNumber b pool) (spareNumber b spare) (f .1) in
-      (f .0, eqb-true _ _ (not-false _ (if-zero _ 2 (g .0))), ltb-false _ _ (if-zero _ 3 (g .1)))
+  pub lent-facts : lentNumber b pool spare ≡ 0 → (formNumber b ≡ 0) × (length pool ≡ bookOf b .sizes .n * blockSize) × (length b ≤ spare)
+  unfolding lentNumber spareNumber
+  lent-facts e =
+      let f = or-zero (buffersNumber b pool) (spareNumber b spare) e in
+      let g = buffers-facts b pool (f .0) in
+      (g .0, g .1, ltb-false _ _ (if-zero _ 3 (f .1)))
 
 -- ---- numbers 5 to 10, in order
 
@@ -126,10 +112,6 @@ module _ (x : Book) (n : ℕ) where
 
 -- ---- the call
 
-unless-or : {A : Type 0} (j k : ℕ) (o : Outcome A) → unless j (unless k o) ≡ unless (orNumber j k) o
-unless-or zero k o = refl
-unless-or (suc j) k o = refl
-
 then-then : {A B C : Type 0} (o : Outcome A) (f : A → B) (g : B → C) → andThen (andThen o (λ a. accepted (f a))) (λ b. accepted (g b)) ≡ andThen o (λ a. accepted (g (f a)))
 then-then (refused k) f g = refl
 then-then (accepted a) f g = refl
@@ -138,27 +120,25 @@ module _ (b pool : List ℕ) (spare v t : ℕ) (list : List ℕ) where
   abbrev inner : Outcome BackedBytes
   inner = andThen (backup (bookOf b) pool v t list) (λ (d : Backed). accepted (backedBytes d))
 
-  by-buffers : backupBytes b pool spare v t list ≡ unless (bufferNumber b pool spare) (andThen (backup (bookOf b) pool v t list) (λ (d : Backed). accepted (backedBytes d)))
-  unfolding backupBytes bufferNumber
-  by-buffers =
-      ap (λ (o : Outcome BackedBytes). unless (formNumber b) o) (unless-or (poolNumber b pool) (spareNumber b spare) inner)
-      ∙ unless-or (formNumber b) (orNumber (poolNumber b pool) (spareNumber b spare)) inner
+  by-lent : backupBytes b pool spare v t list ≡ unless (lentNumber b pool spare) (andThen (backup (bookOf b) pool v t list) (λ (d : Backed). accepted (backedBytes d)))
+  unfolding backupBytes lentNumber
+  by-lent = buffers-order b pool (unless (spareNumber b spare) inner) ∙ unless-or (buffersNumber b pool) (spareNumber b spare) inner
 
-  pub buffers-refused : (k : ℕ) → k ≡ bufferNumber b pool spare → (k ≡ 0 → ⊥) → backupBytes b pool spare v t list ≡ refused k
-  buffers-refused k e n = by-buffers ∙ rw (← e) (unless-refused k inner n)
+  pub lent-refused : (k : ℕ) → k ≡ lentNumber b pool spare → (k ≡ 0 → ⊥) → backupBytes b pool spare v t list ≡ refused k
+  lent-refused k e n = by-lent ∙ rw (← e) (unless-refused k inner n)
 
-  module _ (e : bufferNumber b pool spare ≡ 0) where
+  module _ (e : lentNumber b pool spare ≡ 0) where
     pub number-refused : (k : ℕ) → backupNumber (bookOf b) v t list ≡ k → (k ≡ 0 → ⊥) → backupBytes b pool spare v t list ≡ refused k
     unfolding backup
     number-refused k f n =
-        by-buffers ∙ rw (e, f)
+        by-lent ∙ rw (e, f)
         (ap (λ (o : Outcome Backed). andThen o (λ (d : Backed). accepted (backedBytes d)))
         (unless-refused k (andThen (runChanges v (t + retentionOf (bookOf b) v) (changes list) (begun (bookOf b) pool)) (λ (w : Work). accepted (closed (bookOf b) v t (changeCount list) w))) n))
 
     pub goes-on : backupNumber (bookOf b) v t list ≡ 0 → backupBytes b pool spare v t list ≡ goesOn (bookOf b) pool v t list
     unfolding backup
     goes-on f =
-        by-buffers ∙ rw (e, f)
+        by-lent ∙ rw (e, f)
         (then-then (runChanges v (t + retentionOf (bookOf b) v) (changes list) (begun (bookOf b) pool)) (closed (bookOf b) v t (changeCount list)) backedBytes)
 
 -- ---- a volume has no more backups than slots are used

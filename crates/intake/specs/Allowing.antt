@@ -1,5 +1,5 @@
 -- Numbers 1 to 10 of a backup, as the code checks them, and what it knows when none refuses. Assumes nothing.
-use Prim.Native.Nat.{ℕ, zero, suc, _+_, _≤_, _<_}
+use Prim.Native.Nat.{ℕ, suc, _+_, _≤_, _<_}
 use mathlib.Core.Path.{_≡_}
 use mathlib.Core.Bool.{Bool, _||_}
 use mathlib.Core.List.{List}
@@ -10,25 +10,20 @@ use Rattle.words.specs.Outcome.{Outcome, refused, accepted, andThen}
 use Rattle.list.specs.Changes.{changeCount, changes}
 use Rattle.book.specs.Book.{volumes, Book, retentionOf}
 use Rattle.book.specs.Layout.{bookOf}
-use Rattle.book.specs.Form.{formNumber}
 use Rattle.book.specs.Formed.{Formed}
 use Rattle.model.specs.Days.{badDay, notAfter}
 use Rattle.model.specs.Journal.{days}
 use Rattle.model.specs.Backup.{Work, runChanges, begun, closed}
-use Rattle.model.specs.OnBytes.{poolNumber, spareNumber, BackedBytes, backedBytes, backupBytes}
+use Rattle.model.specs.OnBytes.{spareNumber, BackedBytes, backedBytes, backupBytes}
+use Rattle.buffers.specs.Buffers.{orNumber, buffersNumber}
 use Rattle.mover.specs.Working.{Job}
 use Rattle.intake.specs.declared.allowing.Plan.{Plan}
 use Rattle.intake.specs.declared.allowing.Allowed.{Allowed}
 use Rattle.intake.specs.declared.allowing.Allowed.the-variants.{Go, Refused}
 
--- the first number that isn't 0
-abbrev pub orNumber : ℕ → ℕ → ℕ
-orNumber zero k = k
-orNumber (suc j) k = suc j
-
 -- numbers 1 to 4
-unfoldable pub bufferNumber : List ℕ → List ℕ → ℕ → ℕ
-bufferNumber b pool spare = orNumber (formNumber b) (orNumber (poolNumber b pool) (spareNumber b spare))
+unfoldable pub lentNumber : List ℕ → List ℕ → ℕ → ℕ
+lentNumber b pool spare = orNumber (buffersNumber b pool) (spareNumber b spare)
 
 -- number 7
 unfoldable pub dayRefused : Book → ℕ → ℕ → Bool

@@ -1,13 +1,12 @@
 // Numbers 1 to 10 of a backup.
 ghost use mathlib.Core.Path.{_≡_};
 ghost use Rattle.book.specs.Layout.{bookOf, Holds};
-ghost use Rattle.intake.specs.Allowing.{bufferNumber, dayRefused, roomNumber, AllowedBy};
+ghost use Rattle.intake.specs.Allowing.{lentNumber, dayRefused, roomNumber, AllowedBy};
 ghost use Rattle.intake.specs.Backups.{BackupsAre};
 use super::slots::Backups;
 use super::slots::backups_of;
 use book::header;
-use form::form_number;
-use list::BLOCK_SIZE;
+use buffers::buffers_number;
 use list::Checked;
 use list::Shape;
 
@@ -24,15 +23,12 @@ pub enum Allowed {
 }
 
 // Numbers 1 to 4, or 0.
-fn buffers(book: &[u8], pool: &[u8], spare: usize) -> u16
-    ensures { λ r. ⌜ r ≡ bufferNumber (now (book .entry)) (now (pool .entry)) spare ⌝ }
+fn lent_number(book: &[u8], pool: &[u8], spare: usize) -> u16
+    ensures { λ r. ⌜ r ≡ lentNumber (now (book .entry)) (now (pool .entry)) spare ⌝ }
 {
-    let refusal = form_number(book);
-    if refusal != 0 {
-        return refusal;
-    }
-    if pool.len() != header::blocks(book) as usize * BLOCK_SIZE {
-        return 3;
+    let number = buffers_number(book, pool);
+    if number != 0 {
+        return number;
     }
     if spare < book.len() {
         return 4;
@@ -75,7 +71,7 @@ fn room(book: &[u8], changes: u16) -> u16
 pub fn allow(book: &[u8], pool: &[u8], spare: usize, v: u16, day: u16, list: &[u8]) -> Allowed
     ensures { λ r. ⌜ AllowedBy (now (book .entry)) (now (pool .entry)) spare v day (now (list .entry)) r ⌝ }
 {
-    let refusal = buffers(book, pool, spare);
+    let refusal = lent_number(book, pool, spare);
     if refusal != 0 {
         return Allowed::Refused(refusal);
     }

@@ -16,12 +16,14 @@ use Rattle.book.specs.InForm.{book-form}
 use Rattle.model.specs.OnBytes.{numberOf, poolNumber, readBytes, readNumberBytes, readPlaceBytes, blockAfter}
 use Rattle.model.specs.Pool.{blockAt}
 use Rattle.model.specs.Read.{image, readNumber, read}
+use Rattle.buffers.specs.Buffers.{buffersNumber}
+use Rattle.buffers.specs.BuffersLaws.{pool-size, buffers-order}
 use Rattle.restorer.specs.declared.read.Sought.{Sought}
 use Rattle.restorer.specs.declared.read.Sought.the-variants.{At, Refused}
 use Rattle.restorer.specs.Contracts.{Located}
 use Rattle.restorer.specs.ImageIn.{image-in}
-use Rattle.restorer.specs.Reading.{buffersNumber, soughtOf, soughtNumber, soughtIn, soughtBytes}
-use Rattle.restorer.specs.ReadingLaws.{buffers-order, pool-size, number-mapped}
+use Rattle.restorer.specs.Reading.{soughtOf, soughtNumber, soughtIn, soughtBytes}
+use Rattle.restorer.specs.ReadingLaws.{number-mapped}
 
 then-unless : {A B : Type 0} (n : ℕ) (o : Outcome A) (f : A → Outcome B) → andThen (unless n o) f ≡ unless n (andThen o f)
 then-unless zero o f = refl

@@ -22,10 +22,6 @@ use Rattle.restorer.specs.declared.read.Kept.the-variants as kept-is
 use Rattle.restorer.specs.declared.read.Sought.the-variants as sought-is
 use Rattle.restorer.specs.Befores.{imageFrom}
 
--- numbers 1 and 2 of the book, then 3: "The pool isn't 512N bytes"
-unfoldable pub buffersNumber : List ℕ → List ℕ → ℕ
-buffersNumber b pool = if eqb (formNumber b) 0 then poolNumber b pool else formNumber b
-
 -- 5: "or not enrolled"; 15: "The number is 0 or above the volume's backups"; 16: "That backup isn't kept"
 unfoldable pub keptNumber : Book → ℕ → ℕ → ℕ
 keptNumber x v k =

@@ -1,68 +1,24 @@
 -- Laws of a read's checks: each way out of the code gives the number, or the block, that the definitions give. Assumes nothing.
-use Prim.Native.Nat.{ℕ, zero, suc, _*_, _≤_, _<_}
+use Prim.Native.Nat.{ℕ, zero, suc, _≤_, _<_}
 use mathlib.Core.Path.{_≡_, refl, _∙_}
 use mathlib.Core.Bool.{Bool, true, false, not, _||_}
-use mathlib.Core.List.{List}
 use native.Mathlib.Omega.{arith}
 use lib.Dec.{leb, ltb, eqb}
 use lib.ListN.{length}
-use borrow.Author.Tests.{eqb-true, eq-eqb, ne-eqb, lt-ltb, le-ltb, eqb-false, le-leb, lt-leb}
-use Rattle.words.specs.Blocks.{blockSize, unmapped}
+use borrow.Author.Tests.{eq-eqb, ne-eqb, lt-ltb, le-ltb, eqb-false, le-leb, lt-leb}
+use Rattle.words.specs.Blocks.{unmapped}
 use Rattle.words.specs.Choice.{if_then_else_, or-l, or-r}
 use Rattle.words.specs.Outcome.{Outcome, refused, accepted, unless}
 use Rattle.book.specs.Book.{volumes, Book, retentionOf}
-use Rattle.book.specs.Layout.{bookOf}
-use Rattle.book.specs.Form.{formNumber}
 use Rattle.model.specs.AgreeLaws.{volume-inside}
 use Rattle.model.specs.Days.{kept}
 use Rattle.model.specs.Journal.{days, noVolume}
-use Rattle.model.specs.OnBytes.{poolNumber}
 use Rattle.model.specs.Read.{image, readNumber}
 use Rattle.restorer.specs.declared.image.After.{After}
 use Rattle.restorer.specs.declared.read.Kept.the-variants as kept-is
 use Rattle.restorer.specs.After.{AfterIs, keptFrom, kept-from}
 use Rattle.restorer.specs.Befores.{imageFrom}
-use Rattle.restorer.specs.Reading.{buffersNumber, keptNumber, KeptIs, mappedNumber, soughtFrom, soughtIn}
-
--- ---- numbers 1 to 3
-
-module _ (b pool : List ℕ) where
-  pub buffers-form : (formNumber b ≡ 0 → ⊥) → buffersNumber b pool ≡ formNumber b
-  unfolding buffersNumber
-  buffers-form n = rw (ne-eqb (formNumber b) 0 n)
-
-  pub buffers-pool : formNumber b ≡ 0 → (length pool ≡ bookOf b .sizes .n * blockSize → ⊥) → buffersNumber b pool ≡ 3
-  unfolding buffersNumber poolNumber bookOf
-  buffers-pool e n = rw (eq-eqb (formNumber b) 0 e, ne-eqb (length pool) (bookOf b .sizes .n * blockSize) n)
-
-  pub buffers-good : formNumber b ≡ 0 → length pool ≡ bookOf b .sizes .n * blockSize → buffersNumber b pool ≡ 0
-  unfolding buffersNumber poolNumber bookOf
-  buffers-good e h = rw (eq-eqb (formNumber b) 0 e, eq-eqb (length pool) (bookOf b .sizes .n * blockSize) h)
-
-  -- the same as the two checks in order
-  pub buffers-order : {A : Type 0} (o : Outcome A) → unless (formNumber b) (unless (poolNumber b pool) o) ≡ unless (buffersNumber b pool) o
-  unfolding buffersNumber
-  buffers-order {A} o = go (formNumber b)
-    where
-      go : (n : ℕ) → unless n (unless (poolNumber b pool) o) ≡ unless (if eqb n 0 then poolNumber b pool else n) o
-      go zero = refl
-      go (suc n) = rw (ne-eqb (suc n) 0 (λ e. omega arith))
-
-  pub buffers-passed : buffersNumber b pool ≡ 0 → formNumber b ≡ 0
-  unfolding buffersNumber
-  buffers-passed e = go (eqb (formNumber b) 0) refl e
-    where
-      go : (t : Bool) → eqb (formNumber b) 0 ≡ t → (if t then poolNumber b pool else formNumber b) ≡ 0 → formNumber b ≡ 0
-      go true f g = eqb-true (formNumber b) 0 f
-      go false f g = g
-
-  pub pool-size : poolNumber b pool ≡ 0 → length pool ≡ bookOf b .sizes .n * blockSize
-  unfolding poolNumber bookOf
-  pool-size e = go (eqb (length pool) (bookOf b .sizes .n * blockSize)) refl e
-    where
-      go : (t : Bool) → eqb (length pool) (bookOf b .sizes .n * blockSize) ≡ t → _≡_ {A = ℕ} (if not t then 3 else 0) 0 → length pool ≡ bookOf b .sizes .n * blockSize
-      go true f g = eqb-true (length pool) (bookOf b .sizes .n * blockSize) f
-      go false f g = absurd (omega arith)
+use Rattle.restorer.specs.Reading.{keptNumber, KeptIs, mappedNumber, soughtFrom, soughtIn}
 
 -- ---- numbers 5, 15 and 16
 

@@ -7,12 +7,12 @@ ghost use Rattle.book.specs.Layout.{bookOf, Holds};
 ghost use Rattle.book.specs.Formed.{Formed};
 ghost use Rattle.model.specs.OnBytes.{readBytes, readNumberBytes, blockAfter};
 ghost use Rattle.restorer.specs.Contracts.{Located};
-ghost use Rattle.restorer.specs.Reading.{buffersNumber, KeptIs, soughtOf, soughtNumber, soughtFrom, soughtBytes};
+ghost use Rattle.restorer.specs.Reading.{KeptIs, soughtOf, soughtNumber, soughtFrom, soughtBytes};
 use super::image::backups_after;
 use super::image::image_at;
 use super::image::is_kept;
 use book::header;
-use form::form_number;
+use buffers::buffers_number;
 use list::BLOCK_SIZE;
 use words::LBN;
 use words::PBN;
@@ -28,20 +28,6 @@ enum Kept {
 enum Sought {
     At(PBN),
     Refused(u16),
-}
-
-// Numbers 1 to 3, 0 for none.
-fn buffers_number(book: &[u8], pool: &[u8]) -> u16
-    ensures { λ r. ⌜ r ≡ buffersNumber (now (book .entry)) (now (pool .entry)) ⌝ }
-{
-    let number = form_number(book);
-    if number != 0 {
-        return number;
-    }
-    if pool.len() != (header::blocks(book) as usize) * BLOCK_SIZE {
-        return 3;
-    }
-    0
 }
 
 // Numbers 5, 15 and 16.

@@ -12,18 +12,18 @@ use Rattle.book.specs.Layout.{bookOf}
 use Rattle.book.specs.Formed.{Formed, formed}
 use Rattle.model.specs.Backup.{backupNumber}
 use Rattle.model.specs.BackupAllowed.{Allowed, number-zero}
-use Rattle.intake.specs.Allowing.{bufferNumber, dayRefused, roomNumber, AllowedBy}
-use Rattle.intake.specs.AllowLaws.{buffer-facts, buffers-refused, number-refused, goes-on, five-above, five-none, seven, eight, by-room, days-bound}
+use Rattle.intake.specs.Allowing.{lentNumber, dayRefused, roomNumber, AllowedBy}
+use Rattle.intake.specs.AllowLaws.{lent-facts, lent-refused, number-refused, goes-on, five-above, five-none, seven, eight, by-room, days-bound}
 use borrow.Author.Needs.{needs}
 use Rattle.intake.proofs.allowing.allow.Statement.{statement}
 use Rattle.intake.proofs.allowing.allow.Tie as tie
 
-buffers : (c : tie.Else1) → bufferNumber (c .before .before .before .before .before .args .book .now) (c .before .before .before .before .before .args .pool .now) (c .before .before .before .before .before .args .spare) ≡ 0
-buffers c = sym (c .before .buffers .ensures) ∙ c .if1 .left
+lent : (c : tie.Else1) → lentNumber (c .before .before .before .before .before .args .book .now) (c .before .before .before .before .before .args .pool .now) (c .before .before .before .before .before .args .spare) ≡ 0
+lent c = sym (c .before .lent-number .ensures) ∙ c .if1 .left
 
 -- the book is in form
 form : (c : tie.Else1) → Formed (c .before .before .before .before .before .args .book .now)
-form c = formed (c .before .before .before .before .before .args .book .now) (λ i. c .before .before .before .before .shared-slice-known .given i .fits) (buffer-facts _ _ _ (buffers c) .0)
+form c = formed (c .before .before .before .before .before .args .book .now) (λ i. c .before .before .before .before .shared-slice-known .given i .fits) (lent-facts _ _ _ (lent c) .0)
 
 own : (c : tie.Else3) → retentionOf (bookOf (c .before .before .before .before .before .before .before .before .args .book .now)) (c .before .before .before .before .before .before .before .before .args .v) ≡ 0 → ⊥
 own c e = c .if3 .left (c .before .retention .ensures ∙ e)
@@ -49,18 +49,18 @@ number c =
 allowed : (c : tie.Else5) → Allowed (bookOf (c .before .before .before .before .before .before .before .before .before .before .before .before .before .before .before .before .before .before .args .book .now)) (c .before .before .before .before .before .before .before .before .before .before .before .before .before .before .before .before .before .before .args .v) (c .before .before .before .before .before .before .before .before .before .before .before .before .before .before .before .before .before .before .args .day) (c .before .before .before .before .before .before .before .before .before .before .before .before .before .before .before .before .before .before .args .list .now)
 allowed c = number-zero (bookOf (c .before .before .before .before .before .before .before .before .before .before .before .before .before .before .before .before .before .before .args .book .now)) (c .before .before .before .before .before .before .before .before .before .before .before .before .before .before .before .before .before .before .args .v) (c .before .before .before .before .before .before .before .before .before .before .before .before .before .before .before .before .before .before .args .day) (c .before .before .before .before .before .before .before .before .before .before .before .before .before .before .before .before .before .before .args .list .now) (number (c .before) ∙ c .if5 .left)
 
-buffers-requires : tie.Need-buffers-requires
-buffers-requires c κs = search needs
+lent-number-requires : tie.Need-lent-number-requires
+lent-number-requires c κs = search needs
 
 returns : tie.Need-returns
 unfolding AllowedBy
-returns c = buffers-refused (c .before .before .before .before .before .args .book .now) (c .before .before .before .before .before .args .pool .now) (c .before .before .before .before .before .args .spare) _ _ _ _ (c .before .buffers .ensures) (c .if1 .taken)
+returns c = lent-refused (c .before .before .before .before .before .args .book .now) (c .before .before .before .before .before .args .pool .now) (c .before .before .before .before .before .args .spare) _ _ _ _ (c .before .lent-number .ensures) (c .if1 .taken)
 
 returns-2 : tie.Need-returns-2
 unfolding AllowedBy
 returns-2 c =
     let a = c .before .before .before .before .before .before .args in
-    number-refused (a .book .now) (a .pool .now) (a .spare) _ _ _ (buffers (c .before)) 5 (five-above (bookOf (a .book .now)) (a .v) (a .day) (a .list .now) (c .if2 .taken)) (λ e. omega arith)
+    number-refused (a .book .now) (a .pool .now) (a .spare) _ _ _ (lent (c .before)) 5 (five-above (bookOf (a .book .now)) (a .v) (a .day) (a .list .now) (c .if2 .taken)) (λ e. omega arith)
 
 retention-requires : tie.Need-retention-requires
 retention-requires c κs = (form (c .before) .holds, omega (arith, c .if2 .left))
@@ -69,7 +69,7 @@ returns-3 : tie.Need-returns-3
 unfolding AllowedBy
 returns-3 c =
     let a = c .before .before .before .before .before .before .before .before .args in
-    number-refused (a .book .now) (a .pool .now) (a .spare) _ _ _ (buffers (c .before .before .before)) 5
+    number-refused (a .book .now) (a .pool .now) (a .spare) _ _ _ (lent (c .before .before .before)) 5
     (five-none (bookOf (a .book .now)) (a .v) (a .day) (a .list .now) (c .before .before .if2 .left) (sym (c .before .retention .ensures) ∙ c .if3 .taken)) (λ e. omega arith)
 
 backups-of-requires : tie.Need-backups-of-requires
@@ -82,7 +82,7 @@ returns-4 : tie.Need-returns-4
 unfolding AllowedBy
 returns-4 c =
     let a = c .before .before .before .before .before .before .before .before .before .before .before .args in
-    number-refused (a .book .now) (a .pool .now) (a .spare) _ _ _ (buffers (c .before .before .before .before .before .before)) 7
+    number-refused (a .book .now) (a .pool .now) (a .spare) _ _ _ (lent (c .before .before .before .before .before .before)) 7
     (seven (bookOf (a .book .now)) (a .v) (a .day) (a .list .now) (c .before .before .before .before .before .if2 .left) (own (c .before .before .before)) (sym (c .before .bad-day .ensures) ∙ c .if4 .taken)) (λ e. omega arith)
 
 cells-requires : tie.Need-cells-requires
@@ -102,7 +102,7 @@ unfolding AllowedBy
 returns-5 c =
     let a = c .before .before .before .before .before .before .before .before .before .before .before .before .before .before .before .args in
     let x = bookOf (a .book .now) in
-    number-refused (a .book .now) (a .pool .now) (a .spare) _ _ _ (buffers (c .before .before .before .before .before .before .before .before .before .before)) 8
+    number-refused (a .book .now) (a .pool .now) (a .spare) _ _ _ (lent (c .before .before .before .before .before .before .before .before .before .before)) 8
     (eight x (a .v) (a .day) (a .list .now) (c .before .before .before .before .before .before .before .before .before .if2 .left) (own (c .before .before .before .before .before .before .before)) (day (c .before .before .before .before)) (refused-number (x .sizes .l) (a .list .now) (checks (c .before .before) ∙ c .enum-told .given .1))) (λ e. omega arith)
 
 room-requires : tie.Need-room-requires
@@ -112,7 +112,7 @@ returns-6 : tie.Need-returns-6
 unfolding AllowedBy
 returns-6 c =
     let a = c .before .before .before .before .before .before .before .before .before .before .before .before .before .before .before .before .before .before .args in
-    number-refused (a .book .now) (a .pool .now) (a .spare) _ _ _ (buffers (c .before .before .before .before .before .before .before .before .before .before .before .before .before)) _ (number (c .before)) (c .if5 .taken)
+    number-refused (a .book .now) (a .pool .now) (a .spare) _ _ _ (lent (c .before .before .before .before .before .before .before .before .before .before .before .before .before)) _ (number (c .before)) (c .if5 .taken)
 
 add-until : tie.Need-add-until
 add-until c =
@@ -132,7 +132,7 @@ returns-7 c =
     let x = bookOf (a .book .now) in
     let l = allowed (c .before) in
     let g = checks (c .before .before .before .before .before .before) ∙ c .before .before .before .before .checked .given .1 in
-    let f = buffer-facts (a .book .now) (a .pool .now) (a .spare) (buffers (c .before .before .before .before .before .before .before .before .before .before .before .before .before .before)) in
+    let f = lent-facts (a .book .now) (a .pool .now) (a .spare) (lent (c .before .before .before .before .before .before .before .before .before .before .before .before .before .before)) in
     record {
       formed = form (c .before .before .before .before .before .before .before .before .before .before .before .before .before .before);
       spared = f .2;
@@ -147,14 +147,14 @@ returns-7 c =
       room = l .slots;
       until = ap (λ (r : ℕ). a .day + r) (c .before .before .before .before .before .before .before .before .before .before .before .before .retention .ensures);
       number = rw add-one (ap suc (c .before .before .before .before .before .before .before .before .before .before .backups-of .ensures .count));
-      goes = goes-on (a .book .now) (a .pool .now) (a .spare) (a .v) (a .day) (a .list .now) (buffers (c .before .before .before .before .before .before .before .before .before .before .before .before .before .before)) (number (c .before .before) ∙ c .before .if5 .left);
+      goes = goes-on (a .book .now) (a .pool .now) (a .spare) (a .v) (a .day) (a .list .now) (lent (c .before .before .before .before .before .before .before .before .before .before .before .before .before .before)) (number (c .before .before) ∙ c .before .if5 .left);
     }
 
 pub allow-spec : {M : Type 1} → statement M
 allow-spec =
     tie.close
     (tie.spec
-    buffers-requires
+    lent-number-requires
     returns
     returns-2
     retention-requires

@@ -4,8 +4,10 @@ use mathlib.Core.Path.{_≡_, sym, _∙_, subst}
 use denote.Ref.{now}
 use Rattle.book.specs.Layout.{bookOf}
 use Rattle.book.specs.Formed.{Formed, formed}
-use Rattle.restorer.specs.Reading.{buffersNumber, KeptIs}
-use Rattle.restorer.specs.ReadingLaws.{buffers-passed, kept-volume, sought-before, sought-refused}
+use Rattle.buffers.specs.Buffers.{buffersNumber}
+use Rattle.buffers.specs.BuffersLaws.{buffers-facts}
+use Rattle.restorer.specs.Reading.{KeptIs}
+use Rattle.restorer.specs.ReadingLaws.{kept-volume, sought-before, sought-refused}
 use Rattle.restorer.specs.ReadCalls.{sought-stopped, sought-on}
 use Rattle.restorer.proofs.read.locate.Statement.{statement}
 use Rattle.restorer.proofs.read.locate.Tie as tie
@@ -15,7 +17,7 @@ none : (c : tie.Else1) → buffersNumber (now (c .before .before .before .before
 none c = sym (c .before .buffers-number .ensures) ∙ c .if1 .left
 
 ready : (c : tie.Else1) → Formed (now (c .before .before .before .before .args .book))
-ready c = formed _ (λ i. c .before .before .before .shared-slice-known .given i .fits) (buffers-passed _ _ (none c))
+ready c = formed _ (λ i. c .before .before .before .shared-slice-known .given i .fits) (buffers-facts _ _ (none c) .0)
 
 buffers-number-requires : tie.Need-buffers-number-requires
 buffers-number-requires c κs = search needs
