@@ -13,8 +13,6 @@ pub const ENTRIES_FROM: usize = 36;
 
 pub const ENTRY_SIZE: usize = 20;
 
-pub const PRINT_SIZE: usize = 16;
-
 pub const SLOT_SIZE: usize = 8;
 
 pub const REC_SIZE: usize = 6;

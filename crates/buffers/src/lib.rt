@@ -3,7 +3,7 @@ ghost use mathlib.Core.Path.{_≡_};
 ghost use Rattle.buffers.specs.Buffers.{buffersNumber};
 use book::header;
 use form::form_number;
-use list::BLOCK_SIZE;
+use words::BLOCK_SIZE;
 
 // Numbers 1 to 3, or 0.
 pub fn buffers_number(book: &[u8], pool: &[u8]) -> u16

@@ -4,7 +4,7 @@ ghost use Prim.Native.Nat.{_<_};
 ghost use lib.ListN.{length};
 ghost use Rattle.words.specs.Blocks.{printSize};
 ghost use Rattle.index.specs.Bucket.{tableSize, bucketOf};
-use book::place::PRINT_SIZE;
+use words::PRINT_SIZE;
 use words::wide;
 
 // By both ends: clients put the clinic's salt at one of them. Cheap, since a backup asks it for every held block.

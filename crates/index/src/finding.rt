@@ -10,8 +10,8 @@ ghost use Rattle.index.specs.Indexed.{Indexed};
 use super::bucket::bucket_of;
 use book::entry;
 use book::header;
-use book::place::PRINT_SIZE;
 use words::PBN;
+use words::PRINT_SIZE;
 
 // A block of the pool, where there is one.
 pub enum Found {

@@ -11,8 +11,8 @@ ghost use Rattle.mover.specs.Working.{poolNow, Storable};
 ghost use Rattle.intake.specs.Storing.{storedBlock};
 use book::entry;
 use book::header;
-use list::BLOCK_SIZE;
 use list::Shape;
+use words::BLOCK_SIZE;
 use words::PBN;
 use words::put_bytes;
 

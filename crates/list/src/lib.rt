@@ -6,14 +6,12 @@ ghost use Rattle.words.specs.Sections.{part};
 ghost use Rattle.list.specs.Changes.{pairCount, changeAt, pairSize, printsFrom};
 ghost use Rattle.words.specs.Blocks.{printSize};
 ghost use Rattle.list.specs.Answers.{pairFits, countedOf, checkedOf, Whole, indexOf, Valid};
+use words::BLOCK_SIZE;
 use words::LBN;
+use words::PRINT_SIZE;
 use words::u16_at;
 
 pub const PAIR_SIZE: usize = 4;
-
-pub const PRINT_SIZE: usize = 16;
-
-pub const BLOCK_SIZE: usize = 512;
 
 // The numbers of a list that is well formed: E and n.
 pub struct Shape {

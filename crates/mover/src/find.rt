@@ -12,10 +12,10 @@ ghost use Rattle.index.specs.Indexed.{Indexed};
 ghost use Rattle.mover.specs.Search.{placeIn};
 use book::entry;
 use book::header;
-use book::place::PRINT_SIZE;
 use index::Found;
 use index::find;
 use words::PBN;
+use words::PRINT_SIZE;
 
 // The lowest held block with fingerprint i of the fingerprints.
 pub fn find_held(

@@ -18,8 +18,8 @@ use book::entry;
 use book::header;
 use index::Found;
 use index::hold;
-use list::BLOCK_SIZE;
 use list::Shape;
+use words::BLOCK_SIZE;
 use words::PBN;
 use words::same_bytes;
 

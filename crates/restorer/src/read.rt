@@ -13,7 +13,7 @@ use super::image::image_at;
 use super::image::is_kept;
 use book::header;
 use buffers::buffers_number;
-use list::BLOCK_SIZE;
+use words::BLOCK_SIZE;
 use words::LBN;
 use words::PBN;
 use words::UNMAPPED;

@@ -1,5 +1,5 @@
 // Sample blocks and fingerprints. Each is made from a tag of one byte, so that what is read can be compared with what was sent.
-use list::BLOCK_SIZE;
+use words::BLOCK_SIZE;
 use words::wide;
 
 // The byte at a place of the bytes that are made from a tag: with slope 0 the tag everywhere, else another byte at each place.

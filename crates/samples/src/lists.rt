@@ -2,8 +2,8 @@
 ghost use Prim.Native.Nat.{_≤_};
 ghost use lib.ListN.{length};
 use super::blocks::paint;
-use book::place::PRINT_SIZE;
-use list::BLOCK_SIZE;
+use words::BLOCK_SIZE;
+use words::PRINT_SIZE;
 use writer::aspen_write_list;
 
 // The tag of an LBN that doesn't change.

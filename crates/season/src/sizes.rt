@@ -4,7 +4,7 @@ use book::place::ENTRY_SIZE;
 use book::place::REC_SIZE;
 use book::place::SLOT_SIZE;
 use book::place::VOLUMES;
-use list::BLOCK_SIZE;
+use words::BLOCK_SIZE;
 
 // N, L, S and J.
 pub const BLOCKS: u16 = 98;

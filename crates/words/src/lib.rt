@@ -16,6 +16,11 @@ pub struct PBN(pub u16);
 
 pub const UNMAPPED: u16 = 65535;
 
+// The sizes of a block and of a fingerprint, in bytes.
+pub const BLOCK_SIZE: usize = 512;
+
+pub const PRINT_SIZE: usize = 16;
+
 // A byte as a wider number, which keeps its bound.
 pub fn wide(x: u8) -> u16
     ensures { λ r. ⌜ (r ≡ x) × (r < 256) ⌝ }

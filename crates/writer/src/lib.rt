@@ -8,6 +8,8 @@ ghost use Rattle.words.specs.Lists.{all};
 ghost use Rattle.words.specs.Laying.{Stored};
 ghost use Rattle.writer.specs.Passes.{rowAfter, pairOf, pairsFrom, ifMarked, markedElements, counted, Counted, Passed, Room};
 ghost use Rattle.writer.specs.Writer.{Wrote, markedList, inputOk};
+use words::BLOCK_SIZE;
+use words::PRINT_SIZE;
 
 // What a pass over the marks counts: runs that ended, marked blocks, and marked blocks in a row up to here.
 struct Tally {
@@ -49,10 +51,10 @@ fn input_ok(l: u16, marks: &[u8], prints: &[u8], image: &[u8]) -> bool
     if marks.len() != n {
         return false;
     }
-    if prints.len() != n * 16 {
+    if prints.len() != n * PRINT_SIZE {
         return false;
     }
-    if image.len() != n * 512 {
+    if image.len() != n * BLOCK_SIZE {
         return false;
     }
     marks_ok(marks)
@@ -183,8 +185,8 @@ fn put_list(list: &mut [u8], runs: u16, marks: &[u8], prints: &[u8], image: &[u8
 {
     words::put_u16(list, 0, runs);
     let prints_from = put_runs(list, 2, marks);
-    let blocks_from = put_marked(list, prints_from, marks, prints, 16);
-    put_marked(list, blocks_from, marks, image, 512);
+    let blocks_from = put_marked(list, prints_from, marks, prints, PRINT_SIZE);
+    put_marked(list, blocks_from, marks, image, BLOCK_SIZE);
 }
 
 // Writes the list of the marked blocks and answers its length in bytes.
