@@ -10,9 +10,9 @@ use lib.ListN.{length}
 use borrow.Author.Tests.{leb-true, eqb-true}
 use Rattle.words.specs.Choice.{and-true, true-and, true-or-false}
 use Rattle.words.specs.Numbers.{num}
-use Rattle.book.specs.Book.{Sizes}
 use Rattle.book.specs.Layout.{layoutNumber, headerSize, bookSize, sizesOf, bookOf}
-use Rattle.book.specs.Form.{between, sizesOk, layoutOk, bookOk, rawOk, formNumber}
+use Rattle.book.specs.Form.{sizesOk, layoutOk, bookOk, rawOk, formNumber}
+use Rattle.book.specs.SizesIn.{SizesIn, sizes-facts}
 
 -- 1 without the layout; then 2 or 0
 pub number-1 : (b : List ℕ) → layoutOk b ≡ false → formNumber b ≡ 1
@@ -53,41 +53,11 @@ parts-form b e r f = number-0 b e (true-and (rawOk b) (bookOk (bookOf b)) r f)
 
 -- ---- number 1
 
-pub record SizesIn (z : Sizes) : Type 0 where
-  pub n₀ : 1 ≤ z .n
-  pub n : z .n ≤ 4096
-  pub l₀ : 1 ≤ z .l
-  pub l : z .l ≤ 1024
-  pub s₀ : 1 ≤ z .s
-  pub s : z .s ≤ 1024
-  pub j₀ : 1 ≤ z .j
-  pub j : z .j ≤ 16384
-
 pub record Laid (b : List ℕ) : Type 0 where
   pub header : headerSize ≤ length b
   pub layout : num b 0 ≡ layoutNumber
   pub sizes : SizesIn (sizesOf b)
   pub len : length b ≡ bookSize (sizesOf b)
-
-between-facts : (low high k : ℕ) → between low high k ≡ true → (low ≤ k) × (k ≤ high)
-unfolding between
-between-facts low high k e = let t = and-true (leb low k) (leb k high) e in (leb-true low k (t .0), leb-true k high (t .1))
-
-pub sizes-facts : (z : Sizes) → sizesOk z ≡ true → SizesIn z
-unfolding sizesOk
-sizes-facts z e =
-    let n = between 1 4096 (z .n) in
-    let l = between 1 1024 (z .l) in
-    let s = between 1 1024 (z .s) in
-    let j = between 1 16384 (z .j) in
-    let t₁ = and-true (n && l && s) j e in
-    let t₂ = and-true (n && l) s (t₁ .0) in
-    let t₃ = and-true n l (t₂ .0) in
-    let fn = between-facts 1 4096 (z .n) (t₃ .0) in
-    let fl = between-facts 1 1024 (z .l) (t₃ .1) in
-    let fs = between-facts 1 1024 (z .s) (t₂ .1) in
-    let fj = between-facts 1 16384 (z .j) (t₁ .1) in
-    record { n₀ = fn .0; n = fn .1; l₀ = fl .0; l = fl .1; s₀ = fs .0; s = fs .1; j₀ = fj .0; j = fj .1 }
 
 pub layout-facts : (b : List ℕ) → layoutOk b ≡ true → Laid b
 unfolding layoutOk

@@ -1,15 +1,13 @@
 -- When bytes hold a book: from their shape, or as the bytes of a given book. Assumes nothing.
 use mathlib.Core.Path.{_≡_, refl, ap, _∙_}
-use mathlib.Core.Bool.{true, _&&_}
+use mathlib.Core.Bool.{true}
 use mathlib.Core.List.{List}
-use Prim.Native.Nat.{ℕ, _<_, _≤_}
-use lib.Dec.{leb}
+use Prim.Native.Nat.{ℕ, _<_}
 use lib.ListN.{length, getD}
-use borrow.Author.Tests.{leb-true}
-use Rattle.words.specs.Choice.{and-true}
 use Rattle.book.specs.Book.{Sizes, Book, Sized}
 use Rattle.book.specs.Layout.{bytes, sizesOf, bookOf, Holds, Is}
-use Rattle.book.specs.Form.{between, sizesOk}
+use Rattle.book.specs.Form.{sizesOk}
+use Rattle.book.specs.SizesIn.{SizesIn, sizes-facts}
 use Rattle.book.specs.Bytes.{length-bytes}
 use Rattle.book.specs.Laws.{book-bytes}
 use Rattle.book.specs.Shape.{Shape, Bounds}
@@ -53,18 +51,8 @@ pub is-holds : {b : List ℕ} → Holds b → Is b (bookOf b)
 is-holds h = record { holds = h; book = refl }
 
 -- sizes in range are within the bounds
-below : (a b k : ℕ) → between a b k ≡ true → k ≤ b
-unfolding between
-below a b k e = leb-true k b (and-true (leb a k) (leb k b) e .1)
+pub bounds-in : {z : Sizes} → SizesIn z → Bounds z
+bounds-in i = record { n = i .n; l = i .l; s = i .s; j = i .j }
 
 pub bounds-ok : (z : Sizes) → sizesOk z ≡ true → Bounds z
-unfolding sizesOk
-bounds-ok z e =
-    let n = between 1 4096 (z .n) in
-    let l = between 1 1024 (z .l) in
-    let s = between 1 1024 (z .s) in
-    let j = between 1 16384 (z .j) in
-    let nls = and-true (n && l && s) j e in
-    let nl = and-true (n && l) s (nls .0) in
-    let two = and-true n l (nl .0) in
-    record { n = below 1 4096 (z .n) (two .0); l = below 1 1024 (z .l) (two .1); s = below 1 1024 (z .s) (nl .1); j = below 1 16384 (z .j) (nls .1) }
+bounds-ok z e = bounds-in (sizes-facts z e)

@@ -11,15 +11,16 @@ use Rattle.words.specs.Each.{each-at, at-each, all-each, zeros-each}
 use Rattle.words.specs.Lists.{allZero}
 use Rattle.words.specs.Numbers.{num}
 use Rattle.words.specs.Sections.{part}
-use Rattle.book.specs.Book.{Sizes, Book, Sized}
+use Rattle.book.specs.Book.{Book, Sized}
 use Rattle.book.specs.Layout.{layoutNumber, headerSize, nPlace, sPlace, jPlace, bPlace, uPlace, entryPlace, slotSize, slotPlace, recSize, recPlace, bookSize, bytes, sizesOf, bookOf, Holds}
-use Rattle.book.specs.Form.{between, sizesOk, layoutOk, stateOk, secondOk, bookOk, formNumber}
-use Rattle.book.specs.FormNumber.{SizesIn, Laid, layout-facts, form-parts, parts-form}
+use Rattle.book.specs.Form.{sizesOk, layoutOk, stateOk, secondOk, bookOk, formNumber}
+use Rattle.book.specs.SizesIn.{sizes-in}
+use Rattle.book.specs.FormNumber.{Laid, layout-facts, form-parts, parts-form}
 use Rattle.book.specs.FormParts.{RawParts, raw-parts, parts-raw}
 use Rattle.book.specs.Laws.{sizes-bytes, book-bytes}
-use Rattle.book.specs.Shape.{Shape, Bounds}
+use Rattle.book.specs.Shape.{Shape}
 use Rattle.book.specs.Shaped.{shape-bytes}
-use Rattle.book.specs.Holding.{holds-shape}
+use Rattle.book.specs.Holding.{holds-shape, bounds-in}
 
 -- ---- zero bytes, as one test and place by place
 
@@ -73,15 +74,6 @@ layout-shape b h z =
     let len = h .len in
     rw (le-leb headerSize (length b) (omega arith), eq-eqb (num b 0) layoutNumber (h .layout), z) (eq-eqb (length b) (bookSize (sizesOf b)) len)
 
-sizes-in : (z : Sizes) → SizesIn z → sizesOk z ≡ true
-unfolding sizesOk between
-sizes-in z h =
-    rw (le-leb 1 (z .n) (h .n₀), le-leb (z .n) 4096 (h .n), le-leb 1 (z .l) (h .l₀), le-leb (z .l) 1024 (h .l), le-leb 1 (z .s) (h .s₀), le-leb (z .s) 1024 (h .s), le-leb 1 (z .j) (h .j₀))
-    (le-leb (z .j) 16384 (h .j))
-
-bounds-sizes : (z : Sizes) → SizesIn z → Bounds z
-bounds-sizes z s = record { n = s .n; l = s .l; s = s .s; j = s .j }
-
 -- ---- what callers use
 
 -- bytes in form are the bytes of the book that they say, and that book meets its conditions
@@ -90,7 +82,7 @@ unfolding bookOf
 holds-form b small e =
     let t = form-parts b e in
     let l = layout-facts b (t .0) in
-    holds-shape b small (shape-parts b l (raw-parts b (t .1))) (bounds-sizes (sizesOf b) (l .sizes))
+    holds-shape b small (shape-parts b l (raw-parts b (t .1))) (bounds-in (l .sizes))
 
 pub book-form : (b : List ℕ) → formNumber b ≡ 0 → (sizesOk (bookOf b .sizes) ≡ true) × (bookOk (bookOf b) ≡ true)
 unfolding bookOf

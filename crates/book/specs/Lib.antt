@@ -1,6 +1,7 @@
 pub mod Book
 pub mod Layout
 pub mod Form
+pub mod SizesIn
 pub mod Next
 pub mod Bytes
 pub mod Laws

@@ -1,30 +1,22 @@
 -- A fresh book is fit. Assumes nothing.
-use Prim.Native.Nat.{_≤_, zero-le}
+use Prim.Native.Nat.{zero-le}
 use mathlib.Core.Path.{_≡_, refl}
-use mathlib.Core.Bool.{true, _&&_}
-use lib.Dec.{leb, eqb}
+use mathlib.Core.Bool.{true}
+use lib.Dec.{eqb}
 use lib.ListN.{length, replicate, length-replicate}
-use borrow.Author.Tests.{leb-true, eq-eqb}
+use borrow.Author.Tests.{eq-eqb}
 use Rattle.words.specs.Blocks.{unmapped}
-use Rattle.words.specs.Choice.{and-true, true-and}
+use Rattle.words.specs.Choice.{true-and}
 use Rattle.words.specs.Lists.{all}
 use Rattle.words.specs.Places.{all-replicate}
 use Rattle.book.specs.Book.{volumes, Sizes, freeEntry}
-use Rattle.book.specs.Form.{between, sizesOk, retentionOk, pbnOk}
+use Rattle.book.specs.Form.{sizesOk, retentionOk, pbnOk}
+use Rattle.book.specs.SizesIn.{sizes-facts}
 use Rattle.book.specs.Next.{fresh}
 use Rattle.model.specs.Agree.{Fit}
 use Rattle.model.specs.Bounds.{unmapped-ok}
 use Rattle.model.specs.FitParts.{entryFit, mapFit, parts-fit}
 use Rattle.model.specs.EntriesFit.{free-fit}
-
--- "N pool blocks, 1 to 4,096"
-some-blocks : (z : Sizes) → sizesOk z ≡ true → 1 ≤ z .n
-unfolding sizesOk between
-some-blocks z ok =
-    let nls = and-true (between 1 4096 (z .n) && between 1 1024 (z .l) && between 1 1024 (z .s)) (between 1 16384 (z .j)) ok .0 in
-    let nl = and-true (between 1 4096 (z .n) && between 1 1024 (z .l)) (between 1 1024 (z .s)) nls .0 in
-    let n = and-true (between 1 4096 (z .n)) (between 1 1024 (z .l)) nl .0 in
-    leb-true 1 (z .n) (and-true (leb 1 (z .n)) (leb (z .n) 4096) n .0)
 
 unmapped-fit : (z : Sizes) → mapFit z (replicate (z .l) unmapped) ≡ true
 unfolding mapFit
@@ -38,7 +30,7 @@ unfolding fresh retentionOk
 fresh-fit z ok = parts-fit (record {
   sizes = ok;
   day = zero-le;
-  cursor = some-blocks z ok;
+  cursor = sizes-facts z ok .n₀;
   retentionCount = refl;
   retentions = refl;
   entryCount = length-replicate (z .n) freeEntry;

@@ -10,11 +10,12 @@ use lib.Dec.{leb, ltb, eqb}
 use lib.ListN.{getD}
 use borrow.Author.Tests.{eqb-true, ne-eqb, leb-true, leb-false, lt-ltb, le-ltb}
 use Rattle.words.specs.Blocks.{unmapped}
-use Rattle.words.specs.Choice.{and-true, and-false, same-test, not-both}
+use Rattle.words.specs.Choice.{and-false, same-test, not-both}
 use Rattle.words.specs.Lists.{someOf, joined}
 use Rattle.words.specs.Places.{some-place, place-some, getD-replicated, countOf-none, someOf-joined}
 use Rattle.book.specs.Book.{volumes, Book, entryAt, cellAt, retentionOf}
-use Rattle.book.specs.Form.{sizesOk, between}
+use Rattle.book.specs.Form.{sizesOk}
+use Rattle.book.specs.SizesIn.{sizes-facts}
 use Rattle.model.specs.Journal.{journal, backupsIn}
 use Rattle.model.specs.Audit.{noMaps, untilIn}
 use Rattle.model.specs.Plain
@@ -40,15 +41,7 @@ ltb-not-leb a b = go (leb b a) refl
 
 -- "N pool blocks, 1 to 4,096"
 pub pbn-mapped : (x : Book) (p : ℕ) → sizesOk (x .sizes) ≡ true → p < x .sizes .n → p ≢ unmapped
-unfolding sizesOk between
-pbn-mapped x p ok h q =
-    let nls =
-    and-true (between 1 4096 (x .sizes .n) && between 1 1024 (x .sizes .l) && between 1 1024 (x .sizes .s)) (between 1 16384 (x .sizes .j)) ok .0
-    in
-    let nl = and-true (between 1 4096 (x .sizes .n) && between 1 1024 (x .sizes .l)) (between 1 1024 (x .sizes .s)) nls .0 in
-    let n = and-true (between 1 4096 (x .sizes .n)) (between 1 1024 (x .sizes .l)) nl .0 in
-    let most = leb-true (x .sizes .n) 4096 (and-true (leb 1 (x .sizes .n)) (leb (x .sizes .n) 4096) n .1) in
-    omega arith
+pbn-mapped x p ok h q = omega (arith, sizes-facts (x .sizes) ok .n)
 
 -- a backup of the volume that is kept on day d names p
 abbrev keptIn : ℕ → ℕ → Volume → Bool
