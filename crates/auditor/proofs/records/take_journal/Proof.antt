@@ -1,7 +1,6 @@
 -- `auditor::records::take_journal` meets its contract: what is left of the journal decides as the whole does.
 use Prim.Native.Nat.{ℕ, _-_, _≤_}
-use mathlib.Core.Path.{_≡_, refl, _∙_}
-use denote.Ref.{now}
+use mathlib.Core.Path.{refl, _∙_}
 use Rattle.words.specs.Places.{getD-replicated}
 use Rattle.book.specs.Layout.{bookOf}
 use Rattle.auditor.specs.Records.{notes}

@@ -1,5 +1,4 @@
 -- `auditor::records::take_record` meets its contract: each of its calls does its part.
-use mathlib.Core.Path.{_≡_}
 use denote.Ref.{now}
 use borrow.Author.Needs.{needs}
 use Rattle.book.specs.Layout.{bookOf}

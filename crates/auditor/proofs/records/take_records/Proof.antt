@@ -1,5 +1,5 @@
 -- `auditor::records::take_records` meets its contract: what is left of the records decides as the whole does.
-use Prim.Native.Nat.{_+_, _-_, _≤_}
+use Prim.Native.Nat.{_-_, _≤_}
 use mathlib.Core.Path.{_≡_, _∙_}
 use lib.Seq.{slice}
 use denote.Ref.{now}
