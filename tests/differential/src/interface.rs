@@ -1,8 +1,8 @@
 //! The functions of `include/aspen.h` on both sides: the archives', and the reference's.
 
 use reference_c::{
-    reference_audit, reference_backup, reference_collect, reference_enrol, reference_form,
-    reference_format, reference_read, reference_write_list,
+    reference_audit, reference_backup, reference_collect, reference_count, reference_enrol,
+    reference_form, reference_format, reference_read, reference_write_list,
 };
 
 type Format = unsafe extern "C" fn(*mut u8, usize, u16, u16, u16, u16) -> u16;
@@ -27,6 +27,7 @@ type Read =
     unsafe extern "C" fn(*const u8, usize, *const u8, usize, u16, u16, u16, *mut u32) -> u16;
 type Audit = unsafe extern "C" fn(*const u8, usize, *mut u16) -> u16;
 type Form = unsafe extern "C" fn(*const u8, usize) -> u16;
+type Count = unsafe extern "C" fn(*const u8, usize, *mut u16, *mut u16, *mut u16, *mut u32) -> u16;
 type WriteList = unsafe extern "C" fn(
     l: u16,
     marks: *const u8,
@@ -48,6 +49,7 @@ pub struct Interface {
     pub read: Read,
     pub audit: Audit,
     pub form: Form,
+    pub count: Count,
     pub write_list: WriteList,
 }
 
@@ -83,6 +85,14 @@ mod archive {
         ) -> u16;
         pub fn aspen_audit(book: *const u8, len: usize, sound: *mut u16) -> u16;
         pub fn aspen_form(book: *const u8, len: usize) -> u16;
+        pub fn aspen_count(
+            book: *const u8,
+            len: usize,
+            blocks: *mut u16,
+            held: *mut u16,
+            waiting: *mut u16,
+            references: *mut u32,
+        ) -> u16;
         pub fn aspen_write_list(
             l: u16,
             marks: *const u8,
@@ -106,6 +116,7 @@ pub const ARCHIVE: Interface = Interface {
     read: archive::aspen_read,
     audit: archive::aspen_audit,
     form: archive::aspen_form,
+    count: archive::aspen_count,
     write_list: archive::aspen_write_list,
 };
 
@@ -117,5 +128,6 @@ pub const REFERENCE: Interface = Interface {
     read: reference_read,
     audit: reference_audit,
     form: reference_form,
+    count: reference_count,
     write_list: reference_write_list,
 };

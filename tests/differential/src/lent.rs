@@ -11,6 +11,7 @@ use crate::seen::Seen;
 /// The answers of four bytes.
 pub const PLACE: &str = "the block's place";
 pub const LENGTH: &str = "the list's length";
+pub const REFERENCES: &str = "references";
 
 pub struct Lent {
     buffers: Vec<(&'static str, Guarded)>,
@@ -50,6 +51,14 @@ impl Lent {
         let (book, length) = self.part(0);
         // SAFETY: the buffer is as long as said.
         unsafe { (side.form)(book, length) }
+    }
+
+    pub fn count(&mut self, side: &Interface) -> u16 {
+        let (book, length) = self.part(0);
+        let [blocks, held, waiting] = std::array::from_fn(|index| self.answer(index));
+        let references = self.wide.mut_pointer();
+        // SAFETY: the buffer is as long as said, and the answers are lent numbers.
+        unsafe { (side.count)(book, length, blocks, held, waiting, references) }
     }
 
     pub fn call(&mut self, side: &Interface, call: &Call) -> u16 {
@@ -104,11 +113,12 @@ impl Lent {
     /// What the caller sees; fails if a number beside an answer was written.
     pub fn seen(self, number: u16, answers: &[&'static str]) -> Result<Seen, String> {
         let wide = self.wide.value()?;
+        let mut narrow = self.narrow.iter();
         let mut values = Vec::new();
-        for (name, narrow) in answers.iter().zip(&self.narrow) {
+        for name in answers {
             let value = match *name {
-                PLACE | LENGTH => wide,
-                _ => narrow.value()?,
+                PLACE | LENGTH | REFERENCES => wide,
+                _ => narrow.next().expect("three are lent").value()?,
             };
             values.push((*name, value));
         }

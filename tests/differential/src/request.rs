@@ -5,7 +5,7 @@ use reference::layout::Sizes;
 use reference::prng::Prng;
 
 use crate::interface::Interface;
-use crate::lent::{Lent, LENGTH, PLACE};
+use crate::lent::{Lent, LENGTH, PLACE, REFERENCES};
 use crate::seen::{Seen, SPARE};
 
 /// The inputs of the aid's writer.
@@ -21,12 +21,13 @@ pub struct WriteList {
 pub enum Request<'a> {
     Format { book: &'a [u8], sizes: Sizes },
     Form { book: &'a [u8] },
+    Count { book: &'a [u8] },
     Call { stored: &'a Stored, call: &'a Call },
     WriteList(&'a WriteList),
 }
 
 /// The names of the calls, in the order of the coverage table.
-pub const NAMES: [&str; 8] = [
+pub const NAMES: [&str; 9] = [
     "format",
     "enrol",
     "backup",
@@ -34,6 +35,7 @@ pub const NAMES: [&str; 8] = [
     "read",
     "audit",
     "form",
+    "count",
     "write_list",
 ];
 
@@ -44,6 +46,7 @@ impl<'a> Request<'a> {
         match self {
             Request::Format { .. } => "format",
             Request::Form { .. } => "form",
+            Request::Count { .. } => "count",
             Request::Call { call, .. } => match call {
                 Call::Enrol { .. } => "enrol",
                 Call::Backup { .. } => "backup",
@@ -58,7 +61,9 @@ impl<'a> Request<'a> {
     /// The buffers that the call takes, in order.
     pub fn buffers(&self) -> Sent<'a> {
         match *self {
-            Request::Format { book, .. } | Request::Form { book } => vec![("the book", book)],
+            Request::Format { book, .. } | Request::Form { book } | Request::Count { book } => {
+                vec![("the book", book)]
+            }
             Request::Call { stored, call } => {
                 let mut buffers: Sent = vec![("the book", &stored.book)];
                 if matches!(call, Call::Read { .. } | Call::Backup { .. }) {
@@ -85,6 +90,7 @@ impl<'a> Request<'a> {
         let number = match *self {
             Request::Format { sizes, .. } => lent.format(side, sizes),
             Request::Form { .. } => lent.form(side),
+            Request::Count { .. } => lent.count(side),
             Request::Call { call, .. } => lent.call(side, call),
             Request::WriteList(input) => lent.write_list(side, input.lbns),
         };
@@ -98,6 +104,7 @@ impl<'a> Request<'a> {
             "collect" => &["freed"],
             "audit" => &["the audit's answer"],
             "read" => &[PLACE],
+            "count" => &["blocks", "held", "waiting", REFERENCES],
             "write_list" => &[LENGTH],
             _ => &[],
         }

@@ -32,6 +32,9 @@ impl Shapes {
             Request::Format { sizes, .. } if seen.number == 0 => {
                 self.count("format", others::format(sizes));
             }
+            Request::Count { .. } if seen.number == 0 => {
+                self.count("count", others::count(seen));
+            }
             Request::WriteList(input) => {
                 self.count("write_list", writer::Written::new(input, seen).shapes());
             }

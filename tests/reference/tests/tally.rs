@@ -3,7 +3,7 @@
 use reference::call::Stored;
 use reference::cases::after_d;
 use reference::layout::{Book, Header, Sizes};
-use reference::tally::page;
+use reference::tally::{counts, page};
 
 /// A fresh book of 65,536 bytes.
 fn longest() -> Vec<u8> {
@@ -35,6 +35,22 @@ fn longer_input_is_refused_1() {
     let mut input = longest();
     input.push(0);
     assert_eq!(page(&input), b"refused 1\n");
+}
+
+/// Tally's limit isn't the count's.
+#[test]
+fn a_longer_book_is_counted() {
+    let sizes = Sizes {
+        blocks: 4_096,
+        lbns: 1_024,
+        slots: 1_024,
+        records: 16_384,
+    };
+    let book = Stored::new(sizes, Vec::new()).unwrap().book;
+    assert_eq!(page(&book), b"refused 1\n");
+    let counts = counts(&book).unwrap();
+    assert_eq!((counts.blocks, counts.held), (4_096, 0));
+    assert_eq!((counts.waiting, counts.references), (0, 0));
 }
 
 #[test]

@@ -92,4 +92,5 @@ fn send_all(outcome: &mut Outcome, label: &dyn Fn() -> String, book: &[u8]) {
         outcome.compare(&mut prng, label, Request::Call { stored, call });
     }
     outcome.compare(&mut prng, label, Request::Form { book });
+    outcome.compare(&mut prng, label, Request::Count { book });
 }

@@ -16,31 +16,57 @@ const BACKUP: &[u16] = &[1, 2, 3, 4, 5, 7, 8, 9, 10, 11, 13, 14];
 const READ: &[u16] = &[1, 2, 3, 5, 15, 16, 17, 18];
 const ENROL: &[u16] = &[1, 2, 5, 6];
 const COLLECT: &[u16] = &[1, 2, 7];
+const BOOK: &[u16] = &[1, 2];
+
+const PART: &str = "sets of faults";
 
 type Make = fn(&Faults) -> Call;
 
 pub fn jobs() -> Vec<Job> {
-    let calls: [(&[u16], Make); 4] = [
+    let calls: [(&[u16], Make); 5] = [
         (BACKUP, Faults::backup),
         (READ, Faults::read),
         (ENROL, Faults::enrol),
         (COLLECT, Faults::collect),
+        (BOOK, |_| Call::Audit),
     ];
-    let job = |(numbers, make)| Job::new("sets of faults", move |o| send_sets(o, numbers, make));
-    calls.into_iter().map(job).collect()
+    let job = |(numbers, make)| Job::new(PART, move |o| send_calls(o, numbers, make));
+    let mut jobs: Vec<Job> = calls.into_iter().map(job).collect();
+    jobs.push(Job::new(PART, send_books));
+    jobs
 }
 
-fn send_sets(outcome: &mut Outcome, numbers: &[u16], make: Make) {
-    let mut prng = Prng::seeded(0);
-    for set in 0..1u32 << numbers.len() {
+/// Every set of faults with these numbers.
+fn sets(numbers: &[u16]) -> impl Iterator<Item = Faults> + '_ {
+    (0..1u32 << numbers.len()).map(|set| {
         let chosen = numbers.iter().enumerate();
         let chosen = chosen.filter(|(bit, _)| set >> bit & 1 == 1);
-        let faults = Faults(chosen.map(|(_, number)| *number).collect());
+        Faults(chosen.map(|(_, number)| *number).collect())
+    })
+}
+
+fn send_calls(outcome: &mut Outcome, numbers: &[u16], make: Make) {
+    let mut prng = Prng::seeded(0);
+    for faults in sets(numbers) {
         let (stored, call) = (&faults.stored(), &make(&faults));
-        let label = || format!("faults {:?}", faults.0);
-        let Some(seen) = outcome.compare(&mut prng, &label, Request::Call { stored, call }) else {
-            return;
-        };
+        send(outcome, &mut prng, &faults, Request::Call { stored, call });
+    }
+}
+
+/// What lists of calls don't have, and takes the book alone.
+fn send_books(outcome: &mut Outcome) {
+    let mut prng = Prng::seeded(0);
+    for faults in sets(BOOK) {
+        let book = &faults.stored().book;
+        for request in [Request::Form { book }, Request::Count { book }] {
+            send(outcome, &mut prng, &faults, request);
+        }
+    }
+}
+
+fn send(outcome: &mut Outcome, prng: &mut Prng, faults: &Faults, request: Request) {
+    let label = || format!("faults {:?}", faults.0);
+    if let Some(seen) = outcome.compare(prng, &label, request) {
         let lowest = faults.0.first().copied().unwrap_or(0);
         outcome.check(&label, equal("the lowest number", seen.number, lowest));
     }

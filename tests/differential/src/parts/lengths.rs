@@ -46,6 +46,7 @@ fn send_box(outcome: &mut Outcome, buffer: usize) {
         let [book, pool, spare, list] = sent;
         let label = || format!("lengths, buffer {buffer} of {length} bytes");
         outcome.compare(&mut prng, &label, Request::Form { book: &book });
+        outcome.compare(&mut prng, &label, Request::Count { book: &book });
         let request = Request::Format {
             book: &book,
             sizes: cases::SIZES,

@@ -5,6 +5,7 @@ use std::ops::Range;
 
 use reference::agreement;
 use reference::call::{Answer, Call, Stored};
+use reference::layout::{UNMAPPED, VOLUMES};
 use reference::plain::Plain;
 use reference::prng::Prng;
 use reference::random_books::disturb;
@@ -55,8 +56,29 @@ fn run(outcome: &mut Outcome, shape: Shape, seed: u64) {
         outcome.check(&label, answers_agree(&answer, &seen, pool));
         if matches!(answer, Answer::Freed(_)) || index + 1 == shape.calls() {
             outcome.check(&label, agreement::check(book, pool, &plain));
+            send_count(outcome, &mut prng, &label, book, &plain);
         }
         calls.learn(&call, &answer);
+    }
+}
+
+/// Counts as many held blocks as the plain store has, and a reference for each of its cells that
+/// names a block.
+fn send_count(
+    outcome: &mut Outcome,
+    prng: &mut Prng,
+    label: &dyn Fn() -> String,
+    book: &[u8],
+    plain: &Plain,
+) {
+    let Some(seen) = outcome.compare(prng, label, Request::Count { book }) else {
+        return;
+    };
+    let cells = (0..VOLUMES).flat_map(|volume| plain.current_map(volume));
+    let named = cells.filter(|&pbn| pbn != UNMAPPED).count() as u32;
+    for (index, expected) in [(1, plain.held().count() as u32), (3, named)] {
+        let (name, answer) = seen.answers[index];
+        outcome.check(label, equal(name, answer, Some(expected)));
     }
 }
 
@@ -98,6 +120,7 @@ fn send_disturbed(
     }
     let book = &stored.book;
     outcome.compare(prng, &label, Request::Form { book });
+    outcome.compare(prng, &label, Request::Count { book });
 }
 
 /// A copy with another book, and now and then other lengths of the buffers.

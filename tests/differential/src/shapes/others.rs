@@ -129,6 +129,21 @@ pub fn audit(book: &[u8]) -> [Shape; 7] {
     ]
 }
 
+/// Of an accepted count.
+pub fn count(seen: &Seen) -> [Shape; 8] {
+    let [blocks, held, waiting, references] = std::array::from_fn(|index| seen.answer(index));
+    [
+        ("4,096 blocks", blocks == 4_096),
+        ("no block held", held == 0),
+        ("some held and some free", 0 < held && held < blocks),
+        ("all blocks held", held == blocks),
+        ("held, and none waits", held > 0 && waiting == 0),
+        ("some wait and some don't", 0 < waiting && waiting < held),
+        ("all that are held wait", held > 0 && waiting == held),
+        ("references above 65,535", references > 65_535),
+    ]
+}
+
 pub fn format(sizes: Sizes) -> [Shape; 10] {
     let bytes = sizes.book_bytes();
     [
