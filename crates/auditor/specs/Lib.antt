@@ -14,5 +14,5 @@ pub mod Slots
 pub mod MapsReplayed
 pub mod AuditPasses
 pub mod WaysOut
-pub mod LowestHeld
+pub mod HeldPrints
 pub mod AuditAnswers

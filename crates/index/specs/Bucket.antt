@@ -1,18 +1,19 @@
 -- The bucket of a fingerprint, and the blocks in a bucket. Assumes nothing.
-use Prim.Native.Nat.{ℕ, _+_, _*_, _-_, _%_}
+use Prim.Native.Nat.{ℕ, _+_, _*_, _-_, _%_, _<_}
 use mathlib.Core.Path.{_≡_, refl, ap}
-use mathlib.Core.Bool.{Bool, true, false, _&&_}
+use mathlib.Core.Bool.{Bool, true, false, not, _&&_}
 use mathlib.Core.List.{List}
+use native.Mathlib.Omega.{arith}
 use lib.Dec.{eqb}
-use lib.ListN.{getD}
+use lib.ListN.{length, getD, drop}
 use borrow.Author.Tests.{eqb-true, eq-eqb, ne-eqb}
 use Rattle.words.specs.Blocks.{printSize}
 use Rattle.words.specs.Choice.{and-true, true-and, and-false, not-both}
-use Rattle.words.specs.Lists.{same}
+use Rattle.words.specs.Lists.{someOf, same}
 use Rattle.words.specs.Same.{same-equal}
 use Rattle.words.specs.Tests.{surely-not}
-use Rattle.book.specs.Book.{Entry, freeEntry}
-use Rattle.index.specs.First.{firstFrom}
+use Rattle.book.specs.Book.{Entry, freeEntry, entryAt}
+use Rattle.index.specs.First.{firstFrom, first-none}
 
 -- the places of each table: one for each bucket, and one for each block of the largest pool
 abbrev pub tableSize : ℕ
@@ -28,6 +29,10 @@ inBucket h e = e .held && eqb (bucketOf (e .print)) h
 
 unfoldable pub hasPrint : List ℕ → Entry → Bool
 hasPrint f e = e .held && same (e .print) f
+
+-- block p is free, or no held block above it has its fingerprint
+unfoldable pub apart : List Entry → ℕ → Bool
+apart es p = not (entryAt es p .held && someOf (hasPrint (entryAt es p .print)) (drop (p + 1) es))
 
 -- the lowest block of bucket h from a on, or their number where there is none
 abbrev pub firstIn : List Entry → ℕ → ℕ → ℕ
@@ -68,7 +73,7 @@ module _ (f : List ℕ) (e : Entry) where
   unfolding hasPrint
   held-print k l = true-and (e .held) (same (e .print) f) k l
 
-  pub print-held : hasPrint f e ≡ true → (e .held ≡ true) × (e .print ≡ f)
+  print-held : hasPrint f e ≡ true → (e .held ≡ true) × (e .print ≡ f)
   unfolding hasPrint
   print-held k =
       let w = and-true (e .held) (same (e .print) f) k in
@@ -84,3 +89,14 @@ out-print f e k = surely-not (hasPrint f e) (λ y. not-both (inBucket (bucketOf 
   where
     inside : (e .held ≡ true) × (e .print ≡ f) → inBucket (bucketOf f) e ≡ true
     inside w = held-in (bucketOf f) e (w .0) (ap bucketOf (w .1))
+
+module _ (es : List Entry) (p : ℕ) where
+  pub apart-free : entryAt es p .held ≡ false → apart es p ≡ true
+  unfolding apart
+  apart-free k = rw k
+
+  -- by the first block above with its fingerprint
+  pub apart-held : p < length es → entryAt es p .held ≡ true → {f : List ℕ} → f ≡ entryAt es p .print → {r n : ℕ} → r ≡ firstFrom (hasPrint f) es (p + 1) → n ≡ length es
+      → eqb r n ≡ apart es p
+  unfolding apart
+  apart-held l k e i m = rw (k, m, i, e) (first-none (hasPrint (entryAt es p .print)) es freeEntry (p + 1) (omega arith))

@@ -11,49 +11,26 @@ use lib.Seq.{getD-set-same, getD-set-other}
 use borrow.Author.Tests.{eqb-true, eqb-false}
 use Rattle.words.specs.Choice.{not-both}
 use Rattle.book.specs.Book.{Entry, freeEntry, entryAt}
-use Rattle.index.specs.First.{First, first-is, first-at}
+use Rattle.index.specs.First.{first-past, first-here, first-end}
 use Rattle.index.specs.Bucket.{tableSize, bucketOf, inBucket, firstIn, free-out, other-out, held-in}
 use Rattle.index.specs.Indexed.{IndexedFrom}
 
 -- no block yet
-pub linked-none : (es : List Entry) (n : ℕ) → length es ≡ n → n ≤ tableSize → IndexedFrom n es (replicate tableSize n) (replicate tableSize n)
-linked-none es n e s = record {
-  head = λ h k. getD-replicate tableSize h n 0 k ∙ sym (first-at (inBucket h) es freeEntry (none h));
-  next = λ q l k m. absurd (omega arith);
+pub linked-none : (es : List Entry) (n : ℕ) {m : ℕ} → length es ≡ m → n ≡ m → m ≤ tableSize → IndexedFrom m es (replicate tableSize n) (replicate tableSize n)
+linked-none es n e k s = record {
+  head = λ h l. getD-replicate tableSize h n 0 l ∙ k ∙ sym (rw e at (first-end (inBucket h) es freeEntry));
+  next = λ q l i m. absurd (omega arith);
   buckets = length-replicate tableSize n;
   blocks = length-replicate tableSize n;
   small = omega arith;
 }
-  where
-    none : (h : ℕ) → First (inBucket h) es freeEntry n n
-    none h = record { above = omega arith; within = omega arith; skips = λ q l k. absurd (omega arith); passes = λ l. absurd (omega arith) }
 
 module _ (es : List Entry) (p : ℕ) (l : p < length es) where
-  -- a bucket that p isn't in starts where it did
-  past : (h : ℕ) → inBucket h (entryAt es p) ≡ false → firstIn es h p ≡ firstIn es h (p + 1)
-  past h k =
-      let m = first-is (inBucket h) es freeEntry (p + 1) (omega arith) in
-      first-at (inBucket h) es freeEntry (record {
-        above = omega (arith, m .above);
-        within = m .within;
-        skips = λ q a b. go (m .skips q) b (decLt p q) a;
-        passes = m .passes;
-      })
-    where
-      go : {q : ℕ} → (p + 1 ≤ q → q < firstIn es h (p + 1) → inBucket h (entryAt es q) ≡ false) → q < firstIn es h (p + 1) → Dec (p < q) → p ≤ q
-          → inBucket h (entryAt es q) ≡ false
-      go s b (yes a) c = s (omega arith) b
-      go {q} s b (no a) c = let z : q ≡ p = omega arith in rw z k
-
-  here : (h : ℕ) → inBucket h (entryAt es p) ≡ true → firstIn es h p ≡ p
-  here h k =
-      first-at (inBucket h) es freeEntry (record { above = omega arith; within = omega arith; skips = λ q a b. absurd (omega arith); passes = λ a. k })
-
   module _ (heads nexts : List ℕ) (x : IndexedFrom (p + 1) es heads nexts) where
     -- a free block is in no bucket
     pub linked-free : entryAt es p .held ≡ false → IndexedFrom p es heads nexts
     linked-free k = record {
-      head = λ h m. x .head h m ∙ sym (past h (free-out h (entryAt es p) k));
+      head = λ h m. x .head h m ∙ sym (first-past (inBucket h) es freeEntry p l (free-out h (entryAt es p) k));
       next = λ q a m n. go q a m n (decLt p q);
       buckets = x .buckets;
       blocks = x .blocks;
@@ -78,10 +55,10 @@ module _ (es : List Entry) (p : ℕ) (l : p < length es) where
         first : (g : ℕ) → g < tableSize → (t : Bool) → eqb g h ≡ t → getD (set heads h p) g 0 ≡ firstIn es g p
         first g m true i =
             let z = eqb-true g h i in
-            rw z (getD-set-same heads h p 0 (omega (arith, x .buckets)) ∙ sym (here h (held-in h (entryAt es p) k (sym e))))
+            rw z (getD-set-same heads h p 0 (omega (arith, x .buckets)) ∙ sym (first-here (inBucket h) es freeEntry p l (held-in h (entryAt es p) k (sym e))))
         first g m false i =
             let z = eqb-false g h i in
-            getD-set-other heads h g p 0 z ∙ x .head g m ∙ sym (past g (other-out g (entryAt es p) (λ c. z (sym c ∙ sym e))))
+            getD-set-other heads h g p 0 z ∙ x .head g m ∙ sym (first-past (inBucket g) es freeEntry p l (other-out g (entryAt es p) (λ c. z (sym c ∙ sym e))))
 
         after : (q : ℕ) → p ≤ q → q < length es → entryAt es q .held ≡ true → Dec (p < q)
             → getD (set nexts p (getD heads h 0)) q 0 ≡ firstIn es (bucketOf (entryAt es q .print)) (q + 1)

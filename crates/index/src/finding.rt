@@ -6,6 +6,9 @@ ghost use Rattle.words.specs.Lists.{same};
 ghost use Rattle.book.specs.Layout.{bookOf, Holds};
 ghost use Rattle.model.specs.Backup.{findHeld};
 ghost use Rattle.index.specs.Answers.{foundOf};
+ghost use Rattle.index.specs.First.{firstFrom};
+ghost use Rattle.index.specs.Bucket.{bucketOf, hasPrint};
+ghost use Rattle.index.specs.Finding.{Chain};
 ghost use Rattle.index.specs.Indexed.{Indexed};
 use super::bucket::bucket_of;
 use book::entry;
@@ -33,21 +36,34 @@ fn same_print(a: &[u8], b: &[u8]) -> bool
     good
 }
 
-// Goes up through the blocks of the fingerprint's bucket, all of which are held.
+// The lowest block with the fingerprint from a block of its bucket on, or N. Goes up through the bucket, whose blocks are all held.
+pub fn search(book: &[u8], nexts: &[u16; 4096], from: u16, print: &[u8]) -> u16
+    requires { ⌜ Holds (now book) ⌝ }
+    requires { ⌜ length (now print) ≡ printSize ⌝ }
+    requires { ⌜ Chain (bookOf (now book) .entries) (bucketOf (now print)) (now nexts) from ⌝ }
+    ensures { λ r. ⌜ r ≡ firstFrom (hasPrint (now (print .entry))) (bookOf (now (book .entry)) .entries) from ⌝ }
+{
+    let n = header::blocks(book);
+    let mut q = from;
+    while q < n {
+        let own = entry::print_of(book, PBN(q));
+        if same_print(own, print) {
+            return q;
+        }
+        q = nexts[q as usize];
+    }
+    q
+}
+
 pub fn find(book: &[u8], heads: &[u16; 4096], nexts: &[u16; 4096], print: &[u8]) -> Found
     requires { ⌜ Holds (now book) ⌝ }
     requires { ⌜ Indexed (bookOf (now book) .entries) (now heads) (now nexts) ⌝ }
     requires { ⌜ length (now print) ≡ printSize ⌝ }
     ensures { λ r. ⌜ r ≡ foundOf (findHeld (bookOf (now (book .entry)) .entries) (now (print .entry))) ⌝ }
 {
-    let n = header::blocks(book);
-    let mut q = heads[bucket_of(print)];
-    while q < n {
-        let own = entry::print_of(book, PBN(q));
-        if same_print(own, print) {
-            return Found::At(PBN(q));
-        }
-        q = nexts[q as usize];
+    let q = search(book, nexts, heads[bucket_of(print)], print);
+    if q < header::blocks(book) {
+        return Found::At(PBN(q));
     }
     Found::Nothing
 }

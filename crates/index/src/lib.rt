@@ -9,3 +9,5 @@ pub use finding::Found;
 pub use finding::find;
 pub use inserting::hold;
 pub use linking::build;
+pub use linking::clear;
+pub use linking::link_apart;

@@ -1,13 +1,37 @@
 // The index of a book: its held blocks linked one after the other, from the last down.
+ghost use mathlib.Core.Path.{_≡_};
 ghost use Prim.Native.Nat.{_+_, _<_};
+ghost use lib.ListN.{getD, set};
 ghost use Rattle.book.specs.Layout.{bookOf, Holds};
+ghost use Rattle.index.specs.Bucket.{tableSize, apart};
 ghost use Rattle.index.specs.Indexed.{IndexedFrom, Indexed};
 use super::bucket::bucket_of;
+use super::finding::search;
 use book::entry;
 use book::header;
 use words::PBN;
 
-// A held block becomes the first of its bucket, before those above it.
+// No block is linked yet, whatever the tables had.
+pub fn clear(book: &[u8], heads: &mut [u16; 4096], nexts: &mut [u16; 4096])
+    requires { ⌜ Holds (now book) ⌝ }
+    ensures { λ _. ⌜ IndexedFrom (bookOf (now (book .entry)) .sizes .n) (bookOf (now (book .entry)) .entries) (now (heads .exit)) (now (nexts .exit)) ⌝ }
+{
+    let n = header::blocks(book);
+    *heads = [n; 4096];
+    *nexts = [n; 4096];
+}
+
+// A block becomes the first of a bucket.
+fn prepend(heads: &mut [u16; 4096], nexts: &mut [u16; 4096], home: usize, p: PBN)
+    requires { ⌜ (home < tableSize) × (p .0 < tableSize) ⌝ }
+    ensures { λ _. ⌜ (now (heads .exit) ≡ set (now (heads .entry)) home (p .0)) × (now (nexts .exit) ≡ set (now (nexts .entry)) (p .0) (getD (now (heads .entry)) home 0)) ⌝ }
+{
+    let at = p.0 as usize;
+    nexts[at] = heads[home];
+    heads[home] = p.0;
+}
+
+// A held block comes before those above it.
 fn link(book: &[u8], heads: &mut [u16; 4096], nexts: &mut [u16; 4096], p: PBN)
     requires { ⌜ Holds (now book) ⌝ }
     requires { ⌜ p .0 < bookOf (now book) .sizes .n ⌝ }
@@ -18,20 +42,34 @@ fn link(book: &[u8], heads: &mut [u16; 4096], nexts: &mut [u16; 4096], p: PBN)
         return;
     }
     let home = bucket_of(entry::print_of(book, p));
-    let at = p.0 as usize;
-    nexts[at] = heads[home];
-    heads[home] = p.0;
+    prepend(heads, nexts, home, p);
 }
 
-// The index of all held blocks, whatever the tables had.
+// .. which are first asked for its fingerprint. Whether none has it.
+pub fn link_apart(book: &[u8], heads: &mut [u16; 4096], nexts: &mut [u16; 4096], p: PBN) -> bool
+    requires { ⌜ Holds (now book) ⌝ }
+    requires { ⌜ p .0 < bookOf (now book) .sizes .n ⌝ }
+    requires { ⌜ IndexedFrom (p .0 + 1) (bookOf (now book) .entries) (now heads) (now nexts) ⌝ }
+    ensures { λ r. ⌜ r ≡ apart (bookOf (now (book .entry)) .entries) (p .0) ⌝ }
+    ensures { λ _. ⌜ IndexedFrom (p .0) (bookOf (now (book .entry)) .entries) (now (heads .exit)) (now (nexts .exit)) ⌝ }
+{
+    if !entry::is_held(book, p) {
+        return true;
+    }
+    let print = entry::print_of(book, p);
+    let home = bucket_of(print);
+    let found = search(book, nexts, heads[home], print);
+    prepend(heads, nexts, home, p);
+    found == header::blocks(book)
+}
+
+// The index of all held blocks.
 pub fn build(book: &[u8], heads: &mut [u16; 4096], nexts: &mut [u16; 4096])
     requires { ⌜ Holds (now book) ⌝ }
     ensures { λ _. ⌜ Indexed (bookOf (now (book .entry)) .entries) (now (heads .exit)) (now (nexts .exit)) ⌝ }
 {
-    let n = header::blocks(book);
-    *heads = [n; 4096];
-    *nexts = [n; 4096];
-    let mut p = n;
+    clear(book, heads, nexts);
+    let mut p = header::blocks(book);
     while 0 < p {
         p -= 1;
         link(book, heads, nexts, PBN(p));

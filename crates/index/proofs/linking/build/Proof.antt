@@ -1,28 +1,27 @@
 -- The loop's invariant: the tables index the blocks from p on.
 use Prim.Native.Nat.{_+_, _-_, _≤_}
-use mathlib.Core.Path.{_≡_, sym, _∙_}
+use mathlib.Core.Path.{_≡_}
 use native.Mathlib.Omega.{arith}
 use borrow.Author.Needs.{needs}
 use Rattle.book.specs.Layout.{bookOf}
 use Rattle.index.specs.Indexed.{IndexedFrom}
-use Rattle.index.specs.Linking.{linked-none}
 use Rattle.index.proofs.linking.build.Statement.{statement}
 use Rattle.index.proofs.linking.build.Tie as tie
 
 abbrev Inv-loop : tie.InvT-loop
-Inv-loop book heads₀ nexts₀ n p₀ heads nexts p = (p ≤ n) × IndexedFrom p (bookOf book .entries) heads nexts
+Inv-loop book heads₀ nexts₀ p₀ heads nexts p = (p ≤ p₀) × IndexedFrom p (bookOf book .entries) heads nexts
 
 abbrev μ-loop : tie.MeasureT-loop
-μ-loop book heads₀ nexts₀ n p₀ heads nexts p = p
+μ-loop book heads₀ nexts₀ p₀ heads nexts p = p
+
+clear-requires : tie.Need-clear-requires Inv-loop μ-loop
+clear-requires c κs = search needs
 
 blocks-requires : tie.Need-blocks-requires Inv-loop μ-loop
-blocks-requires c κs = search needs
+blocks-requires c κs = c .before .before .before .before .pre
 
 loop-holds : tie.Need-loop-holds Inv-loop μ-loop
-loop-holds c =
-    let n = c .before .before .blocks2 in
-    let z = c .before .before .before .before .pre in
-    (omega arith, linked-none _ (n .result) (z .sized .entries ∙ sym (n .ensures)) (omega (arith, z .n, n .ensures)))
+loop-holds c = (omega arith, rw (c .blocks2 .ensures) (c .before .clear .ensures))
 
 sub-p : tie.Need-sub-p Inv-loop μ-loop
 sub-p c = search needs
@@ -30,9 +29,9 @@ sub-p c = search needs
 link-requires : tie.Need-link-requires Inv-loop μ-loop
 link-requires c κs =
     let l = c .before .before .before .loop in
-    let z = c .before .before .before .before .before .before .before .before .pre in
+    let n = c .before .before .before .before .blocks2 in
     let e : l .p - 1 + 1 ≡ l .p = omega arith in
-    (z, (omega arith, rw e (l .inv .1)))
+    (c .before .before .before .before .before .before .before .before .before .pre, (omega (arith, n .ensures, l .inv .0), rw e (l .inv .1)))
 
 loop-less : tie.Need-loop-less Inv-loop μ-loop
 loop-less c = search needs
@@ -52,6 +51,7 @@ build-spec =
     (tie.spec
     Inv-loop
     μ-loop
+    clear-requires
     blocks-requires
     loop-holds
     sub-p

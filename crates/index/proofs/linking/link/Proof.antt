@@ -31,35 +31,18 @@ bucket-of-requires c κs =
     let s = c .before .before .before .before in
     ap length (c .print-of .ensures) ∙ s .pre .0 .sized .prints (s .args .p .0) (s .pre .1 .0)
 
-cast-at : tie.Need-cast-at
-cast-at c = search needs
-
-mul-nexts : tie.Need-mul-nexts
-mul-nexts c = search needs
-
-element-copy-out-nexts : tie.Need-element-copy-out-nexts
-element-copy-out-nexts c = search needs
-
-mul-nexts-2 : tie.Need-mul-nexts-2
-mul-nexts-2 c = search needs
-
-element-write-nexts : tie.Need-element-write-nexts
-element-write-nexts c = search needs
-
-mul-heads : tie.Need-mul-heads
-mul-heads c = search needs
-
-element-write-heads : tie.Need-element-write-heads
-element-write-heads c = search needs
+prepend-requires : tie.Need-prepend-requires
+prepend-requires c κs = search needs
 
 returns-2 : tie.Need-returns-2
 returns-2 c =
-    let b = c .before .before in
+    let b = c .before .before .before in
     let s = b .before .before .before .before .before in
     let es = bookOf (s .args .book .now) .entries in
-    linked-held es (s .args .p .0) (inside s) _ _ (s .pre .1 .1) (b .bucket-of .result) (b .bucket-of .ensures .1)
+    rw (c .prepend .ensures .0, c .prepend .ensures .1)
+    (linked-held es (s .args .p .0) (inside s) _ _ (s .pre .1 .1) (b .bucket-of .result) (b .bucket-of .ensures .1)
     (passed (b .before .before .before .is-held .ensures) (b .before .before .if1 .left))
-    (b .bucket-of .ensures .0 ∙ ap bucketOf (b .before .print-of .ensures))
+    (b .bucket-of .ensures .0 ∙ ap bucketOf (b .before .print-of .ensures)))
 
 pub link-spec : {M : Type 1} → statement M
 link-spec =
@@ -69,11 +52,5 @@ link-spec =
     returns
     print-of-requires
     bucket-of-requires
-    cast-at
-    mul-nexts
-    element-copy-out-nexts
-    mul-nexts-2
-    element-write-nexts
-    mul-heads
-    element-write-heads
+    prepend-requires
     returns-2)

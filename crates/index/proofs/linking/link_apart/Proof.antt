@@ -1,0 +1,93 @@
+-- A free block is passed; a held one becomes the first of its bucket, and what the search of the blocks above finds decides.
+use Prim.Native.Nat.{_+_, _<_}
+use mathlib.Core.Path.{_≡_, sym, ap, _∙_}
+use mathlib.Core.Bool.{true}
+use native.Mathlib.Omega.{arith}
+use lib.ListN.{length}
+use Rattle.words.specs.Choice.{failed, passed}
+use Rattle.book.specs.Book.{entryAt}
+use Rattle.book.specs.Layout.{bookOf}
+use Rattle.index.specs.Bucket.{bucketOf, apart-free, apart-held}
+use Rattle.index.specs.Finding.{chain-start, search-start}
+use Rattle.index.specs.Linking.{linked-free, linked-held}
+use borrow.Author.Needs.{needs}
+use Rattle.index.proofs.linking.link_apart.Statement.{statement}
+use Rattle.index.proofs.linking.link_apart.Tie as tie
+
+inside : (s : tie.Start) → s .args .p .0 < length (bookOf (s .args .book .now) .entries)
+inside s = omega (arith, s .pre .0 .sized .entries)
+
+abbrev start : tie.After-bucket-of → tie.Start
+start c = c .before .before .before .before .before
+
+held : (c : tie.After-bucket-of) → entryAt (bookOf (start c .args .book .now) .entries) (start c .args .p .0) .held ≡ true
+held c = passed (c .before .before .before .is-held .ensures) (c .before .before .if1 .left)
+
+is-held-requires : tie.Need-is-held-requires
+is-held-requires c κs = search needs
+
+returns : tie.Need-returns
+returns c =
+    let s = c .before .before .before in
+    let es = bookOf (s .args .book .now) .entries in
+    let k = failed (c .before .is-held .ensures) (c .if1 .taken) in
+    (sym (apart-free es (s .args .p .0) k), linked-free es (s .args .p .0) (inside s) _ _ (s .pre .1 .1) k)
+
+print-of-requires : tie.Need-print-of-requires
+print-of-requires c κs = search needs
+
+bucket-of-requires : tie.Need-bucket-of-requires
+bucket-of-requires c κs =
+    let s = c .before .before .before .before in
+    ap length (c .print-of .ensures) ∙ s .pre .0 .sized .prints (s .args .p .0) (s .pre .1 .0)
+
+mul-search : tie.Need-mul-search
+mul-search c = search needs
+
+element-copy-out-search : tie.Need-element-copy-out-search
+element-copy-out-search c = search needs
+
+search-requires : tie.Need-search-requires
+search-requires c κs =
+    let b = c .before .before in
+    let s = start b in (
+      s .pre .0,
+      (
+        ap length (b .before .print-of .ensures) ∙ s .pre .0 .sized .prints (s .args .p .0) (s .pre .1 .0),
+        chain-start _ _ (s .args .p .0 + 1) (s .pre .1 .1) (omega (arith, inside s)) (b .bucket-of .result) (b .bucket-of .ensures .0) (b .bucket-of .ensures .1),
+      ),
+    )
+
+prepend-requires : tie.Need-prepend-requires
+prepend-requires c κs = search needs
+
+blocks-requires : tie.Need-blocks-requires
+blocks-requires c κs = search needs
+
+returns-2 : tie.Need-returns-2
+returns-2 c =
+    let f = c .before .before .before .before in
+    let b = f .before .before .before in
+    let s = start b in
+    let es = bookOf (s .args .book .now) .entries in
+    let first = search-start es _ (s .args .p .0 + 1) (s .pre .1 .1) (omega (arith, inside s)) (b .bucket-of .result) (b .bucket-of .ensures .0) (b .bucket-of .ensures .1) in (
+      apart-held es (s .args .p .0) (inside s) (held b) (b .before .print-of .ensures) (f .search .ensures ∙ first) (c .blocks2 .ensures ∙ sym (s .pre .0 .sized .entries)),
+      rw (c .before .prepend .ensures .0, c .before .prepend .ensures .1)
+          (linked-held es (s .args .p .0) (inside s) _ _ (s .pre .1 .1) (b .bucket-of .result) (b .bucket-of .ensures .1) (held b)
+          (b .bucket-of .ensures .0 ∙ ap bucketOf (b .before .print-of .ensures))),
+    )
+
+pub link-apart-spec : {M : Type 1} → statement M
+link-apart-spec =
+    tie.close
+    (tie.spec
+    is-held-requires
+    returns
+    print-of-requires
+    bucket-of-requires
+    mul-search
+    element-copy-out-search
+    search-requires
+    prepend-requires
+    blocks-requires
+    returns-2)
