@@ -1,27 +1,174 @@
--- Held in the book, then put into the index of the book without it.
+-- The block is held in the book first, and the index is then that of the book without it. The loop's invariant: q is a block of p's bucket below p, and
+-- next is what follows it.
+use Prim.Native.Nat.{_-_, _<_}
+use mathlib.Core.Path.{_≡_, refl, _∙_}
+use mathlib.Core.List.{List}
 use native.Mathlib.Omega.{arith}
-use Rattle.index.specs.Holding.{held-sizes, held-here, held-without}
 use borrow.Author.Needs.{needs}
+use lib.ListN.{length, getD}
+use Rattle.book.specs.Book.{Entry}
+use Rattle.book.specs.Layout.{bookOf, Is}
+use Rattle.book.specs.Next.{heldAs, withEntry}
+use Rattle.index.specs.Bucket.{tableSize}
+use Rattle.index.specs.Indexed.{Indexed, without}
+use Rattle.index.specs.Joining.{Joins, homeOf}
+use Rattle.index.specs.Holding.{held-joins, held-home, held-without}
+use Rattle.index.specs.Inserting.{Before, walk-start, walk-up, walk-more, insert-first, insert-after}
 use Rattle.index.proofs.inserting.hold.Statement.{statement}
 use Rattle.index.proofs.inserting.hold.Tie as tie
 
-hold-requires : tie.Need-hold-requires
+abbrev Inv-loop : tie.InvT-loop
+Inv-loop book heads nexts p print at home first q₀ next₀ q next = Before (bookOf book .entries) (p .0) q × (next ≡ getD nexts q 0)
+
+abbrev μ-loop : tie.MeasureT-loop
+μ-loop book heads nexts p print at home first q₀ next₀ q next = p .0 - q
+
+-- what stands when the bucket is known
+abbrev start : tie.After-bucket-of Inv-loop μ-loop → tie.Start Inv-loop μ-loop
+start c = c .before .before .before .before .before .before .before .before
+
+abbrev entries : tie.After-bucket-of Inv-loop μ-loop → List Entry
+entries c = bookOf (c .before .before .before .before .hold .last .0) .entries
+
+module _ (c : tie.After-bucket-of Inv-loop μ-loop) where
+  held : Is (c .before .before .before .before .hold .last .0) (withEntry (heldAs (start c .args .print .now)) (start c .args .p .0) (bookOf (start c .args .book .now)))
+  held = c .before .before .before .before .hold .ensures
+
+  inside : start c .args .p .0 < length (bookOf (start c .args .book .now) .entries)
+  inside = omega (arith, start c .pre .1 .0 .0, start c .pre .0 .sized .entries)
+
+  room : start c .args .p .0 < tableSize
+  room = omega (arith, start c .pre .1 .0 .0, start c .pre .0 .n)
+
+  joins : Joins (entries c) (start c .args .p .0)
+  joins = held-joins (start c .args .print .now) (start c .args .p .0) (start c .args .book .now) held inside
+
+  home : c .bucket-of .result ≡ homeOf (entries c) (start c .args .p .0)
+  home = c .bucket-of .ensures .0 ∙ held-home (start c .args .print .now) (start c .args .p .0) (start c .args .book .now) held inside
+
+  index : Indexed (without (start c .args .p .0) (entries c)) (start c .args .heads .now) (start c .args .nexts .now)
+  index = held-without (start c .args .print .now) (start c .args .p .0) (start c .args .book .now) held (start c .pre .1 .0 .1) (start c .pre .1 .1 .1)
+
+hold-requires : tie.Need-hold-requires Inv-loop μ-loop
 hold-requires c κs = search needs
 
-insert-requires : tie.Need-insert-requires
-insert-requires c κs =
-    let h = c .before .before .before .before .before .hold .ensures in
-    let s = c .before .before .before .before .before .before .before .before .before in
-    let a = s .args in
-    let n = held-sizes (a .print .now) (a .p .0) (a .book .now) h in
-    let here = held-here (a .print .now) (a .p .0) (a .book .now) h (omega (arith, s .pre .1 .0 .0, s .pre .0 .sized .entries)) in
-    (h .holds, ((rw n (s .pre .1 .0 .0), here), held-without (a .print .now) (a .p .0) (a .book .now) h (s .pre .1 .0 .1) (s .pre .1 .1 .1)))
+cast-at : tie.Need-cast-at Inv-loop μ-loop
+cast-at c = search needs
 
-same-length : tie.Need-same-length
+bucket-of-requires : tie.Need-bucket-of-requires Inv-loop μ-loop
+bucket-of-requires c κs = search needs
+
+mul-first : tie.Need-mul-first Inv-loop μ-loop
+mul-first c = search needs
+
+element-copy-out-first : tie.Need-element-copy-out-first Inv-loop μ-loop
+element-copy-out-first c = search needs
+
+mul-nexts : tie.Need-mul-nexts Inv-loop μ-loop
+mul-nexts c = search needs
+
+element-write-nexts : tie.Need-element-write-nexts Inv-loop μ-loop
+element-write-nexts c = room (c .before .before .before)
+
+mul-heads : tie.Need-mul-heads Inv-loop μ-loop
+mul-heads c = search needs
+
+element-write-heads : tie.Need-element-write-heads Inv-loop μ-loop
+element-write-heads c = search needs
+
+same-length : tie.Need-same-length Inv-loop μ-loop
 same-length c = search needs
 
-returns : tie.Need-returns
-returns c = search needs
+returns : tie.Need-returns Inv-loop μ-loop
+returns c =
+    let b = c .before .before .before in
+    (held b, insert-first (joins b) (index b) (b .bucket-of .result) (b .bucket-of .ensures .1) (home b) (omega (arith, c .if1 .taken)))
+
+cast-q : tie.Need-cast-q Inv-loop μ-loop
+cast-q c = search needs
+
+mul-next : tie.Need-mul-next Inv-loop μ-loop
+mul-next c = search needs
+
+element-copy-out-next : tie.Need-element-copy-out-next Inv-loop μ-loop
+element-copy-out-next c = omega (arith, c .if1 .left, room (c .before .before .before))
+
+loop-holds : tie.Need-loop-holds Inv-loop μ-loop
+loop-holds c =
+    let b = c .before .before .before .before in
+    (walk-start (joins b) (index b) (b .bucket-of .result) (b .bucket-of .ensures .1) (home b) (omega (arith, c .before .if1 .left)), refl)
+
+cast-q-2 : tie.Need-cast-q-2 Inv-loop μ-loop
+cast-q-2 c = search needs
+
+mul-next-2 : tie.Need-mul-next-2 Inv-loop μ-loop
+mul-next-2 c = search needs
+
+element-copy-out-next-2 : tie.Need-element-copy-out-next-2 Inv-loop μ-loop
+element-copy-out-next-2 c = omega (arith, c .if2 .taken, room (c .before .before .before .before .before .before .before))
+
+loop-less : tie.Need-loop-less Inv-loop μ-loop
+loop-less c =
+    let l = c .before .before .before .loop in
+    let b = c .before .before .before .before .before .before .before .before in
+    omega (arith, c .before .if2 .taken, l .inv .1, walk-up (joins b) (index b) (l .q) (l .inv .0))
+
+loop-again : tie.Need-loop-again Inv-loop μ-loop
+loop-again c =
+    let l = c .before .before .before .loop in
+    let b = c .before .before .before .before .before .before .before .before in
+    (rw (l .inv .1) (walk-more (joins b) (index b) (l .q) (l .inv .0) (rw (l .inv .1) at (c .before .if2 .taken))), refl)
+
+mul-nexts-2 : tie.Need-mul-nexts-2 Inv-loop μ-loop
+mul-nexts-2 c = search needs
+
+element-write-nexts-2 : tie.Need-element-write-nexts-2 Inv-loop μ-loop
+element-write-nexts-2 c = room (c .before .before .before .before .before .before .before)
+
+mul-nexts-3 : tie.Need-mul-nexts-3 Inv-loop μ-loop
+mul-nexts-3 c = search needs
+
+element-write-nexts-3 : tie.Need-element-write-nexts-3 Inv-loop μ-loop
+element-write-nexts-3 c = omega (arith, c .before .before .loop .inv .0 .below, room (c .before .before .before .before .before .before .before))
+
+same-length-2 : tie.Need-same-length-2 Inv-loop μ-loop
+same-length-2 c = search needs
+
+returns-2 : tie.Need-returns-2 Inv-loop μ-loop
+returns-2 c =
+    let l = c .before .before .loop in
+    let b = c .before .before .before .before .before .before .before in
+    (held b, insert-after (joins b) (index b) (l .q) (l .next) (l .inv .0) (l .inv .1) (omega (arith, c .if2 .left)))
 
 pub hold-spec : {M : Type 1} → statement M
-hold-spec = tie.close (tie.spec hold-requires insert-requires same-length returns)
+hold-spec =
+    tie.close
+    (tie.spec
+    Inv-loop
+    μ-loop
+    hold-requires
+    cast-at
+    bucket-of-requires
+    mul-first
+    element-copy-out-first
+    mul-nexts
+    element-write-nexts
+    mul-heads
+    element-write-heads
+    same-length
+    returns
+    cast-q
+    mul-next
+    element-copy-out-next
+    loop-holds
+    cast-q-2
+    mul-next-2
+    element-copy-out-next-2
+    loop-less
+    loop-again
+    mul-nexts-2
+    element-write-nexts-2
+    mul-nexts-3
+    element-write-nexts-3
+    same-length-2
+    returns-2)
