@@ -1,15 +1,16 @@
 -- The bucket of a fingerprint, and the blocks in a bucket. Assumes nothing.
-use Prim.Native.Nat.{ℕ, _+_, _*_, _-_, _%_, _<_}
+use Prim.Native.Nat.{ℕ, _+_, _*_, _-_, _/_, _%_, _<_}
 use mathlib.Core.Path.{_≡_, refl, ap}
 use mathlib.Core.Bool.{Bool, true, false, not, _&&_}
 use mathlib.Core.List.{List}
 use native.Mathlib.Omega.{arith}
 use lib.Dec.{eqb}
-use lib.ListN.{length, getD, drop}
+use lib.ListN.{length, drop}
 use borrow.Author.Tests.{eqb-true, eq-eqb, ne-eqb}
 use Rattle.words.specs.Blocks.{printSize}
 use Rattle.words.specs.Choice.{and-true, true-and, and-false, not-both}
 use Rattle.words.specs.Lists.{someOf, same}
+use Rattle.words.specs.Numbers.{num}
 use Rattle.words.specs.Same.{same-equal}
 use Rattle.words.specs.Tests.{surely-not}
 use Rattle.book.specs.Book.{Entry, freeEntry, entryAt}
@@ -19,9 +20,9 @@ use Rattle.index.specs.First.{firstFrom, first-none}
 abbrev pub tableSize : ℕ
 tableSize = 4096
 
--- the two bytes at each end
+-- the top 12 of the 32 bits that the two bytes at each end have after a multiplication
 unfoldable pub bucketOf : List ℕ → ℕ
-bucketOf f = (getD f 0 0 * 16 + getD f 1 0 + (getD f (printSize - 1) 0 * 16 + getD f (printSize - 2) 0)) % tableSize
+bucketOf f = (num f 0 + num f (printSize - 2) * 65536) * 2654435769 / 1048576 % tableSize
 
 -- a held block whose fingerprint is in bucket h; one with fingerprint f, the test of step 1 of a backup
 unfoldable pub inBucket : ℕ → Entry → Bool

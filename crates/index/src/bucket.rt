@@ -5,14 +5,15 @@ ghost use lib.ListN.{length};
 ghost use Rattle.words.specs.Blocks.{printSize};
 ghost use Rattle.index.specs.Bucket.{tableSize, bucketOf};
 use words::PRINT_SIZE;
-use words::wide;
+use words::u16_at;
 
-// By both ends: clients put the clinic's salt at one of them. Cheap, since a backup asks it for every held block.
+// By both ends: clients put the clinic's salt at one of them. Times 2^32 over the golden ratio, so that fingerprints that differ little at one end
+// still spread. Cheap, since a backup asks it for every held block.
 pub fn bucket_of(print: &[u8]) -> usize
     requires { ⌜ length (now print) ≡ printSize ⌝ }
     ensures { λ r. ⌜ (r ≡ bucketOf (now (print .entry))) × (r < tableSize) ⌝ }
 {
-    let first = wide(print[0]) * 16 + wide(print[1]);
-    let last = wide(print[PRINT_SIZE - 1]) * 16 + wide(print[PRINT_SIZE - 2]);
-    ((first + last) % 4096) as usize
+    let first = u16_at(print, 0) as u64;
+    let last = u16_at(print, PRINT_SIZE - 2) as u64;
+    ((first + last * 65536) * 2654435769 / 1048576 % 4096) as usize
 }
