@@ -12,9 +12,7 @@ use Rattle.words.specs.Same.{same-self, same-equal}
 use Rattle.book.specs.Book.{Entry, Book, freeEntry, entryAt}
 use Rattle.index.specs.Bucket.{hasPrint, apart}
 use Rattle.model.specs.Audit.{printsSound}
-
-abbrev heldPrints : List Entry → List (List ℕ)
-heldPrints es = map (λ (e : Entry). e .print) (those (λ (e : Entry). e .held) es)
+use Rattle.model.specs.AuditMeans.{heldPrints}
 
 -- the held fingerprints from block p on differ
 unfoldable pub differFrom : List Entry → ℕ → Bool

@@ -95,9 +95,9 @@ module _ {A : Type 0} (f : A → Bool) (xs : List A) (d : A) where
   first-end = let m = first-is (length xs) (omega arith) in omega (arith, m .above, m .within)
 
   -- it is the length exactly where no place from a on passes
-  some-place : (i : ℕ) (ys : List A) (o : Option ℕ) → placeFrom i f ys ≡ o → someOf f ys ≡ found o
-  some-place i [] o e = ap found e
-  some-place i (y ∷ ys) o e = go (f y) e (some-place (suc i) ys o)
+  some-found : (i : ℕ) (ys : List A) (o : Option ℕ) → placeFrom i f ys ≡ o → someOf f ys ≡ found o
+  some-found i [] o e = ap found e
+  some-found i (y ∷ ys) o e = go (f y) e (some-found (suc i) ys o)
     where
       go : (t : Bool) → (if t then some i else placeFrom (suc i) f ys) ≡ o → (placeFrom (suc i) f ys ≡ o → someOf f ys ≡ found o) → (t || someOf f ys) ≡ found o
       go true k ih = ap found k
@@ -108,7 +108,7 @@ module _ {A : Type 0} (f : A → Bool) (xs : List A) (d : A) where
   first-none a h = go (placeFrom a f (drop a xs)) refl
     where
       go : (o : Option ℕ) → placeFrom a f (drop a xs) ≡ o → eqb (placeOr (length xs) o) (length xs) ≡ not (someOf f (drop a xs))
-      go none e = eq-eqb (length xs) (length xs) refl ∙ ap not (sym (some-place a (drop a xs) none e))
+      go none e = eq-eqb (length xs) (length xs) refl ∙ ap not (sym (some-found a (drop a xs) none e))
       go (some p) e =
           let r = place-found f d a (drop a xs) p e in
-          ne-eqb p (length xs) (λ z. absurd (omega (arith, r .place, r .inside, length-drop a xs))) ∙ ap not (sym (some-place a (drop a xs) (some p) e))
+          ne-eqb p (length xs) (λ z. absurd (omega (arith, r .place, r .inside, length-drop a xs))) ∙ ap not (sym (some-found a (drop a xs) (some p) e))

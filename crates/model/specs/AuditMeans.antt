@@ -78,7 +78,7 @@ cell-holds x p = go (eqb p unmapped) refl
 
 -- ---- "held fingerprints differ"
 
-abbrev heldPrints : List Entry → List (List ℕ)
+abbrev pub heldPrints : List Entry → List (List ℕ)
 heldPrints es = map (λ (e : Entry). e .print) (those (λ (e : Entry). e .held) es)
 
 -- a test of every held entry's fingerprint
