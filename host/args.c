@@ -3,6 +3,7 @@
 #include "commands.h"
 #include "help.h"
 #include "messages.h"
+#include "progress.h"
 
 #include <errno.h>
 #include <stdbool.h>
@@ -16,9 +17,17 @@ const struct option_name option_names[OPTION_COUNT] = {
     [OPTION_JOURNAL] = {"--journal", "J"},
     [OPTION_DAY_ZERO] = {"--day-zero", "DATE"},
     [OPTION_KEEP] = {"--keep", "DAYS"},
-    [OPTION_DAY] = {"--day", "D"},
-    [OPTION_STATE] = {"--state", "FILE"},
+    [OPTION_DAY] = {"--day", "DATE"},
+    [OPTION_DAY_NUMBER] = {"--day-number", "D"},
+    [OPTION_AHEAD] = {"--ahead", NULL},
+    [OPTION_LATEST] = {"--latest", NULL},
+    [OPTION_DATE] = {"--date", "DATE"},
+    [OPTION_LBNS] = {"--lbns", "A-B"},
     [OPTION_FORCE] = {"--force", NULL},
+    [OPTION_HEAL] = {"--heal", NULL},
+    [OPTION_WARN] = {"--warn", "PERCENT"},
+    [OPTION_OLDER] = {"--older", "DAYS"},
+    [OPTION_PROMETHEUS] = {"--prometheus", NULL},
     [OPTION_JSON] = {"--json", NULL},
     [OPTION_NO_WAIT] = {"--no-wait", NULL},
     [OPTION_HELP] = {"--help", NULL},
@@ -58,7 +67,8 @@ static int read_option(struct request *request, int count, char **arguments, int
         request->options[option] = value + 1;
         return at + 1;
     }
-    if (at + 1 >= count)
+    /* A value that looks like an option is one, which was meant to follow the value. */
+    if (at + 1 >= count || strncmp(arguments[at + 1], "--", 2) == 0)
         fail(STATUS_USAGE, "%s wants a value: %s %s", name->name, name->name, name->value);
     request->options[option] = arguments[at + 1];
     return at + 2;
@@ -109,8 +119,10 @@ static void check_complete(const struct request *request, int words)
 static void find_json(int count, char **arguments)
 {
     for (int i = 1; i < count && strcmp(arguments[i], "--") != 0; i++)
-        if (strcmp(arguments[i], "--json") == 0)
+        if (strcmp(arguments[i], "--json") == 0) {
             messages_as_json(true);
+            progress_off();
+        }
 }
 
 void args_read(struct request *request, int count, char **arguments)
@@ -152,6 +164,11 @@ uint16_t read_number(const char *what, const char *text)
     if (text[0] < '0' || text[0] > '9' || *end != '\0' || errno != 0 || number > UINT16_MAX)
         fail(STATUS_USAGE, "%s %s is no number from 0 to %d", what, text, UINT16_MAX);
     return (uint16_t)number;
+}
+
+const char *option_text(enum option option)
+{
+    return option_names[option].name;
 }
 
 uint16_t option_number(const struct request *request, enum option option)

@@ -12,8 +12,16 @@ enum option {
     OPTION_DAY_ZERO,
     OPTION_KEEP,
     OPTION_DAY,
-    OPTION_STATE,
+    OPTION_DAY_NUMBER,
+    OPTION_AHEAD,
+    OPTION_LATEST,
+    OPTION_DATE,
+    OPTION_LBNS,
     OPTION_FORCE,
+    OPTION_HEAL,
+    OPTION_WARN,
+    OPTION_OLDER,
+    OPTION_PROMETHEUS,
     OPTION_JSON,
     OPTION_NO_WAIT,
     OPTION_HELP,
@@ -21,13 +29,13 @@ enum option {
     OPTION_COUNT
 };
 
-enum { WORDS_MAX = 4 };
+enum { WORDS_MAX = 65 };
 
 struct command;
 
 struct request {
     const struct command *command;
-    const char *words[WORDS_MAX];      /* what isn't an option; null after the last */
+    const char *words[WORDS_MAX + 1];  /* what isn't an option; null after the last */
     const char *options[OPTION_COUNT]; /* the value, "" if it has none; null if not given */
 };
 
@@ -49,6 +57,8 @@ void args_read(struct request *request, int count, char **arguments);
 
 /* A number from 0 to 65535; `what` names it in the message if it is none. */
 uint16_t read_number(const char *what, const char *text);
+/* The option as it is written. */
+const char *option_text(enum option option);
 /* The number that an option gives; the option has to be there. */
 uint16_t option_number(const struct request *request, enum option option);
 

@@ -1,14 +1,14 @@
 /* The commands that change the book alone: format, enrol, collect. */
 #include "commands.h"
 #include "dates.h"
+#include "days.h"
 #include "json.h"
-#include "layout.h"
 #include "messages.h"
+#include "opening.h"
 #include "refusals.h"
-#include "store.h"
+#include "view.h"
 
 #include <aspen.h>
-#include <stdio.h>
 
 static long day_zero(const struct request *request)
 {
@@ -22,23 +22,23 @@ static long day_zero(const struct request *request)
     return day;
 }
 
-static void show_format(const char *folder, const struct book_head *head, long zero)
+static void show_format(const char *folder, const struct figures *sizes, long zero)
 {
     char date[DATE_TEXT];
 
     date_write(zero, date);
     if (!messages_json()) {
-        printf("made the store %s: %u blocks, volumes of %u blocks, %u backups, %u changes; day 0 "
-               "is %s\n",
-               folder, head->blocks, head->cells, head->slots, head->records, date);
+        say("made the store %s: %u blocks, volumes of %u blocks, %u backups, %u changes; day 0 "
+            "is %s",
+            folder, sizes->blocks, sizes->cells, sizes->slots, sizes->records, date);
         return;
     }
     json_start();
     json_string("store", folder);
-    json_number("blocks", head->blocks);
-    json_number("cells", head->cells);
-    json_number("slots", head->slots);
-    json_number("journal", head->records);
+    json_number("blocks", sizes->blocks);
+    json_number("cells", sizes->cells);
+    json_number("slots", sizes->slots);
+    json_number("journal", sizes->records);
     json_string("day_zero", date);
     notes_to_json();
     json_send();
@@ -50,13 +50,13 @@ int run_format(const struct request *request)
     uint16_t s = option_number(request, OPTION_SLOTS), j = option_number(request, OPTION_JOURNAL);
     struct bytes book = bytes_new(aspen_book_size(n, l, s, j));
     long zero = day_zero(request);
-    struct book_head head;
+    struct figures sizes;
 
     if (aspen_format(book.at, book.length, n, l, s, j) != ASPEN_OK)
         refuse_sizes();
-    store_make(request, book, zero);
-    head = book_head(book.at);
-    show_format(request->words[0], &head, zero);
+    store_make(request->words[0], request->options[OPTION_NO_WAIT] == NULL, book, zero);
+    sizes = view_figures(book);
+    show_format(request->words[0], &sizes, zero);
     bytes_free(&book);
     return STATUS_DONE;
 }
@@ -68,7 +68,7 @@ int run_enrol(const struct request *request)
     struct store store;
     uint16_t number;
 
-    store_open(&store, request, LOCK_TO_WRITE);
+    open_to_write(&store, request);
     number = aspen_enrol(store.book.at, store.book.length, volume, keep);
     if (number != ASPEN_OK)
         refuse_enrol(&store, number, volume, keep);
@@ -80,7 +80,7 @@ int run_enrol(const struct request *request)
         notes_to_json();
         json_send();
     } else {
-        printf("enrolled volume %u; its backups are kept %u days\n", volume, keep);
+        say("enrolled volume %u; its backups are kept %u days", volume, keep);
     }
     store_close(&store);
     return STATUS_DONE;
@@ -99,7 +99,7 @@ static void show_collect(const struct store *store, uint16_t day, uint16_t freed
         notes_to_json();
         json_send();
     } else {
-        printf("collected as of %s; blocks freed: %u\n", date, freed);
+        say("collected as of %s; blocks freed: %u", date, freed);
     }
 }
 
@@ -109,8 +109,8 @@ int run_collect(const struct request *request)
     struct asked asked = {.store = &store};
     uint16_t number, freed = 0;
 
-    store_open(&store, request, LOCK_TO_WRITE);
-    asked.day = store_day(&store, request->options[OPTION_DAY]);
+    open_to_write(&store, request);
+    asked.day = day_asked(&store, request);
     number = aspen_collect(store.book.at, store.book.length, asked.day, &freed);
     if (number != ASPEN_OK)
         refuse(number, &asked);

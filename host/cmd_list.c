@@ -1,136 +1,167 @@
 /* The command list. */
+#include "choosing.h"
 #include "commands.h"
 #include "dates.h"
+#include "days.h"
 #include "json.h"
-#include "layout.h"
 #include "messages.h"
+#include "opening.h"
 #include "refusals.h"
-#include "store.h"
+#include "view.h"
 
 #include <aspen.h>
-#include <stdio.h>
 
-struct shown {
-    uint16_t number, changes, day;
-    bool newest, kept;
-    char date[DATE_TEXT], until[DATE_TEXT]; /* `until` only if it isn't the newest */
+/* What is to be listed of a store. */
+struct listing {
+    const struct store *store;
+    const char *date; /* that of --date, null if it isn't given */
+    long day;         /* its day */
 };
 
-/* A read at any LBN that there is says whether the backup is kept. */
-static bool is_kept(const struct store *store, uint16_t volume, uint16_t number)
+struct shown {
+    struct backup backup;
+    bool endless;                           /* whether it is kept without an end */
+    char date[DATE_TEXT], until[DATE_TEXT]; /* `until` only if there is an end */
+};
+
+static struct shown look_up(const struct store *store, struct bytes rows, uint16_t number)
 {
-    uint32_t at;
+    struct shown shown = {.backup = view_backup(rows, number)};
 
-    return aspen_read(store->book.at, store->book.length, store->pool.at, store->pool.length,
-                      volume, number, 0, &at) != ASPEN_NOT_KEPT;
-}
-
-static struct shown look_up(const struct store *store, uint16_t volume, uint16_t number)
-{
-    const uint8_t *book = store->book.at;
-    struct book_slot slot = book_backup(book, volume, number);
-    struct shown shown = {
-        .number = number,
-        .changes = slot.changes,
-        .day = slot.day,
-        .newest = number == book_backups(book, volume),
-        .kept = is_kept(store, volume, number),
-    };
-
-    store_date(store, slot.day, shown.date);
-    if (!shown.newest)
-        store_date(store, book_kept_until(book, volume, number), shown.until);
+    shown.endless = shown.backup.until == ASPEN_NO_END;
+    store_date(store, shown.backup.day, shown.date);
+    if (!shown.endless)
+        store_date(store, shown.backup.until, shown.until);
     return shown;
 }
 
-static void show_text(const struct store *store, uint16_t volume)
+/* Which backups restore would take. */
+static void show_chosen_text(const struct listing *listing, struct bytes rows)
 {
-    uint16_t backups = book_backups(store->book.at, volume);
+    uint16_t newest = (uint16_t)(rows.length / ASPEN_BACKUP_ROW), number;
 
-    printf("volume %u keeps its backups %u days\n", volume, book_keep(store->book.at, volume));
-    if (backups == 0)
-        printf("  no backup yet\n");
+    if (newest > 0)
+        say("  restore --latest takes backup %u", newest);
+    if (listing->date == NULL)
+        return;
+    number = newest_by(rows, listing->day);
+    if (number > 0)
+        say("  restore --date %s takes backup %u", listing->date, number);
     else
-        printf("  number  day         kept until  changed\n");
-    for (uint16_t number = 1; number <= backups; number++) {
-        struct shown shown = look_up(store, volume, number);
-
-        printf("  %6u  %s  %-10s  %7u%s\n", number, shown.date,
-               shown.newest ? "newest" : shown.until, shown.changes,
-               shown.kept ? "" : "  no longer kept");
-    }
+        say("  restore --date %s takes none: there is no backup by then", listing->date);
 }
 
-static void show_json(const struct store *store, uint16_t volume)
+static void show_text(const struct listing *listing, uint16_t volume, uint16_t keep,
+                      struct bytes rows)
 {
-    uint16_t backups = book_backups(store->book.at, volume);
+    uint16_t backups = (uint16_t)(rows.length / ASPEN_BACKUP_ROW);
+
+    say("volume %u keeps its backups %u days", volume, keep);
+    say("%s", backups == 0 ? "  no backup yet" : "  number  day         kept until  changed");
+    for (uint16_t number = 1; number <= backups; number++) {
+        struct shown shown = look_up(listing->store, rows, number);
+
+        say("  %6u  %s  %-10s  %7u%s", number, shown.date, shown.endless ? "newest" : shown.until,
+            shown.backup.changes, shown.backup.kept ? "" : "  no longer kept");
+    }
+    show_chosen_text(listing, rows);
+}
+
+static void show_backup_json(const struct store *store, struct bytes rows, uint16_t number)
+{
+    struct shown shown = look_up(store, rows, number);
 
     json_open(NULL, '{');
-    json_number("volume", volume);
-    json_number("keep", book_keep(store->book.at, volume));
-    json_open("backups", '[');
-    for (uint16_t number = 1; number <= backups; number++) {
-        struct shown shown = look_up(store, volume, number);
-
-        json_open(NULL, '{');
-        json_number("number", number);
-        json_number("day", shown.day);
-        json_string("date", shown.date);
-        json_bool("kept", shown.kept);
-        if (shown.newest)
-            json_null("kept_until");
-        else
-            json_string("kept_until", shown.until);
-        json_number("changed", shown.changes);
-        json_close('}');
-    }
-    json_close(']');
+    json_number("number", number);
+    json_number("day", shown.backup.day);
+    json_string("date", shown.date);
+    json_bool("kept", shown.backup.kept);
+    if (shown.endless)
+        json_null("kept_until");
+    else
+        json_string("kept_until", shown.until);
+    json_number("changed", shown.backup.changes);
     json_close('}');
 }
 
-static void show_volumes(const struct store *store, uint16_t first, uint16_t last)
+static void json_choice(const char *key, uint16_t number)
 {
-    uint16_t day = book_head(store->book.at).day;
+    if (number > 0)
+        json_number(key, number);
+    else
+        json_null(key);
+}
+
+static void show_json(const struct listing *listing, uint16_t volume, uint16_t keep,
+                      struct bytes rows)
+{
+    uint16_t backups = (uint16_t)(rows.length / ASPEN_BACKUP_ROW);
+
+    json_open(NULL, '{');
+    json_number("volume", volume);
+    json_number("keep", keep);
+    json_open("backups", '[');
+    for (uint16_t number = 1; number <= backups; number++)
+        show_backup_json(listing->store, rows, number);
+    json_close(']');
+    json_choice("latest_takes", backups);
+    if (listing->date != NULL)
+        json_choice("date_takes", newest_by(rows, listing->day));
+    json_close('}');
+}
+
+static void show_volumes(const struct listing *listing, uint16_t first, uint16_t last)
+{
+    for (uint16_t volume = first; volume <= last; volume++) {
+        struct volume found = view_volume(listing->store->book, volume);
+        struct bytes rows;
+
+        if (!found.enrolled)
+            continue;
+        rows = view_backups(listing->store->book, volume);
+        (messages_json() ? show_json : show_text)(listing, volume, found.keep, rows);
+        bytes_free(&rows);
+    }
+}
+
+static void show(const struct listing *listing, uint16_t first, uint16_t last)
+{
+    uint16_t day = view_figures(listing->store->book).day;
     char date[DATE_TEXT];
 
-    store_date(store, day, date);
-    if (messages_json()) {
-        json_start();
-        json_number("day", day);
-        json_string("date", date);
-        json_open("volumes", '[');
-    } else {
-        printf("the box's day is %s\n", date);
+    store_date(listing->store, day, date);
+    if (!messages_json()) {
+        say("the box's day is %s", date);
+        show_volumes(listing, first, last);
+        return;
     }
-    for (uint16_t volume = first; volume <= last; volume++)
-        if (book_keep(store->book.at, volume) != 0)
-            (messages_json() ? show_json : show_text)(store, volume);
-    if (messages_json()) {
-        json_close(']');
-        notes_to_json();
-        json_send();
-    }
+    json_start();
+    json_number("day", day);
+    json_string("date", date);
+    json_open("volumes", '[');
+    show_volumes(listing, first, last);
+    json_close(']');
+    notes_to_json();
+    json_send();
 }
 
 int run_list(const struct request *request)
 {
+    const char *word = request->words[1];
     struct store store;
-    struct asked asked = {.store = &store, .number = 1};
-    uint16_t refusal;
-    uint32_t at;
+    struct asked asked = {.store = &store};
+    struct listing listing = {.store = &store, .date = request->options[OPTION_DATE]};
+    int status;
 
-    if (request->words[1] != NULL)
-        asked.volume = read_number("VOLUME", request->words[1]);
-    store_open(&store, request, LOCK_TO_READ);
-    store_load_pool(&store);
-    refusal = aspen_read(store.book.at, store.book.length, store.pool.at, store.pool.length,
-                         asked.volume, asked.number, asked.lbn, &at);
-    if (refusal == ASPEN_BAD_POOL || (refusal == ASPEN_BAD_VOLUME && request->words[1] != NULL))
-        refuse(refusal, &asked);
-    if (request->words[1] != NULL)
-        show_volumes(&store, asked.volume, asked.volume);
-    else
-        show_volumes(&store, 0, ASPEN_VOLUMES - 1);
+    if (word != NULL)
+        asked.volume = read_number("VOLUME", word);
+    open_to_read(&store, request);
+    if (word != NULL && !view_volume(store.book, asked.volume).enrolled)
+        refuse(ASPEN_BAD_VOLUME, &asked);
+    if (listing.date != NULL)
+        listing.day = day_of_option(&store, request, OPTION_DATE);
+    show(&listing, asked.volume, word != NULL ? asked.volume : ASPEN_VOLUMES - 1);
+    status = status_of(&store, STATUS_DONE);
     store_close(&store);
-    return STATUS_DONE;
+    return status;
 }

@@ -17,5 +17,7 @@ int run_list(const struct request *request);
 int run_audit(const struct request *request);
 int run_tally(const struct request *request);
 int run_scrub(const struct request *request);
+int run_status(const struct request *request);
+int run_book(const struct request *request);
 
 #endif

@@ -9,7 +9,7 @@
 #include <sys/stat.h>
 #include <unistd.h>
 
-static char failure[1024];
+static char *failure;
 static int cause;
 
 const char *file_failure(void)
@@ -22,23 +22,43 @@ bool file_missing(void)
     return cause == ENOENT || cause == ENOTDIR;
 }
 
-static bool failed(const char *what, const char *path)
+bool file_misnamed(void)
 {
-    cause = errno;
-    snprintf(failure, sizeof failure, "can't %s %s: %s", what, path, strerror(errno));
+    return file_missing() || cause == EACCES || cause == EPERM || cause == EISDIR ||
+           cause == ELOOP || cause == ENAMETOOLONG || cause == EINVAL;
+}
+
+/* Takes a text that says what failed. */
+static bool failed_as(int error, char *text)
+{
+    free(failure);
+    failure = text;
+    cause = error;
     return false;
 }
 
-int file_open(const char *path, int flags)
+static bool failed(const char *what, const char *path)
+{
+    int error = errno;
+
+    return failed_as(error, text_of("can't %s %s: %s", what, path, strerror(error)));
+}
+
+static int open_as(const char *path, int flags, mode_t mode)
 {
     int fd;
 
     do
-        fd = open(path, flags | O_CLOEXEC, 0666);
+        fd = open(path, flags | O_CLOEXEC, mode);
     while (fd < 0 && errno == EINTR);
     if (fd < 0)
         failed((flags & O_CREAT) != 0 ? "create" : "open", path);
     return fd;
+}
+
+int file_open(const char *path, int flags)
+{
+    return open_as(path, flags, 0666);
 }
 
 bool file_read(int fd, const char *path, size_t limit, struct bytes *into)
@@ -78,6 +98,33 @@ bool file_load(const char *path, size_t limit, struct bytes *into)
     int fd = file_open(path, O_RDONLY);
     bool good = fd >= 0 && file_read(fd, path, limit, into);
 
+    if (fd >= 0)
+        close(fd);
+    return good;
+}
+
+static bool is_regular(int fd, const char *path)
+{
+    struct stat found;
+
+    if (fstat(fd, &found) != 0)
+        return failed("look at", path);
+    if (S_ISDIR(found.st_mode))
+        return failed_as(EISDIR, text_of("%s is a folder; name a file", path));
+    if (!S_ISREG(found.st_mode))
+        return failed_as(EINVAL, text_of("%s is no regular file; name one, or - for standard input",
+                                         path));
+    return true;
+}
+
+bool file_load_foreign(const char *path, size_t limit, struct bytes *into)
+{
+    bool standard = strcmp(path, "-") == 0, good;
+    int fd = standard ? STDIN_FILENO : file_open(path, O_RDONLY | O_NONBLOCK | O_NOCTTY);
+
+    if (standard)
+        return file_read(fd, "standard input", limit, into);
+    good = fd >= 0 && is_regular(fd, path) && file_read(fd, path, limit, into);
     if (fd >= 0)
         close(fd);
     return good;
@@ -208,12 +255,17 @@ static void remove_left(const char *temporary)
 }
 
 /* Makes the temporary file, for this process alone. */
-static int make_temporary(const char *temporary)
+static int make_temporary(const char *temporary, mode_t mode)
 {
+    struct stat found;
     int fd;
 
     remove_left(temporary);
-    fd = file_open(temporary, O_WRONLY | O_CREAT | O_EXCL);
+    if (lstat(temporary, &found) == 0 && S_ISDIR(found.st_mode)) {
+        failed_as(EISDIR, text_of("the folder %s is in the way; remove it", temporary));
+        return -1;
+    }
+    fd = open_as(temporary, O_WRONLY | O_CREAT | O_EXCL, mode);
     /* A file system without locks has to do without. */
     if (fd < 0 || flock(fd, LOCK_EX | LOCK_NB) == 0 || errno != EWOULDBLOCK)
         return fd;
@@ -222,14 +274,28 @@ static int make_temporary(const char *temporary)
     return -1;
 }
 
-bool file_replace(const char *path, const char *temporary, struct bytes bytes)
+/* Gives the new file the old one's owner, group and mode. Where the group can't be kept, the new one
+ * is given to no group. */
+static bool keep_access(int fd, const char *path, const struct stat *old)
 {
-    int fd = make_temporary(temporary);
-    bool good;
+    mode_t mode = old->st_mode & 07777;
+
+    if (fchown(fd, old->st_uid, old->st_gid) != 0 && fchown(fd, (uid_t)-1, old->st_gid) != 0)
+        mode &= ~(mode_t)(S_IRWXG | S_ISUID | S_ISGID);
+    return fchmod(fd, mode) == 0 || failed("set the mode of", path);
+}
+
+bool file_replace(const char *path, const struct replacement *how, struct bytes bytes)
+{
+    const char *temporary = how->temporary;
+    struct stat old;
+    bool keep = how->keep && stat(path, &old) == 0, good;
+    int fd = make_temporary(temporary, keep ? 0600 : how->mode);
 
     if (fd < 0)
         return false;
-    good = file_write(fd, temporary, bytes.at, bytes.length) && file_sync(fd, temporary);
+    good = (!keep || keep_access(fd, temporary, &old)) &&
+           file_write(fd, temporary, bytes.at, bytes.length) && file_sync(fd, temporary);
     if (good && rename(temporary, path) != 0)
         good = failed("replace", path);
     if (!good)

@@ -1,72 +1,80 @@
 #include "image.h"
 
 #include "files.h"
-#include "layout.h"
 #include "messages.h"
 #include "prints.h"
 #include "progress.h"
+#include "view.h"
 
 #include <aspen.h>
-#include <stdlib.h>
 #include <string.h>
 
-static uint8_t *print_at(struct bytes prints, size_t lbn)
+static void resize(struct bytes *bytes, size_t length)
 {
-    return prints.at + ASPEN_PRINT_SIZE * lbn;
+    bytes->at = resized(bytes->at, length > 0 ? length : 1);
+    if (length > bytes->length)
+        memset(bytes->at + bytes->length, 0, length - bytes->length);
+    bytes->length = length;
 }
 
-void image_load(struct image *image, const char *path, uint16_t cells)
+static void make_prints(struct image *image)
 {
-    struct bytes file;
-    size_t most = (size_t)ASPEN_BLOCK_SIZE * cells;
-
-    if (!file_load(path, most + 1, &file))
-        fail(STATUS_FILES, "%s", file_failure());
-    if (file.length > most)
-        fail(STATUS_USAGE,
-             "%s is longer than the %u blocks of %d bytes that a volume of this store has; back up "
-             "to a store with more cells",
-             path, cells, ASPEN_BLOCK_SIZE);
-    image->count = (uint16_t)((file.length + ASPEN_BLOCK_SIZE - 1) / ASPEN_BLOCK_SIZE);
-    image->blocks = bytes_new(most);
-    memcpy(image->blocks.at, file.at, file.length);
-    bytes_free(&file);
-    image->prints = bytes_new((size_t)ASPEN_PRINT_SIZE * cells);
+    image->prints = bytes_new((size_t)ASPEN_PRINT_SIZE * image->count);
     for (uint16_t lbn = 0; lbn < image->count; lbn++) {
         progress("hashing", lbn, image->count);
-        print_of(image->blocks.at + (size_t)ASPEN_BLOCK_SIZE * lbn, print_at(image->prints, lbn));
+        print_of(image->blocks.at + (size_t)ASPEN_BLOCK_SIZE * lbn,
+                 image->prints.at + (size_t)ASPEN_PRINT_SIZE * lbn);
     }
     progress_end();
-    image->marks = bytes_new(cells);
+}
+
+void image_load(struct image *image, const char *path)
+{
+    size_t most = (size_t)ASPEN_BLOCK_SIZE * ASPEN_MAX_LBNS;
+
+    image->path = path;
+    if (!file_load_foreign(path, most + 1, &image->blocks))
+        fail(file_misnamed() ? STATUS_USAGE : STATUS_FILES, "%s", file_failure());
+    image->length = image->blocks.length;
+    if (image->length > most)
+        fail(STATUS_USAGE, "%s is longer than a volume can be, %zu bytes", path, most);
+    image->count = (uint16_t)((image->length + ASPEN_BLOCK_SIZE - 1) / ASPEN_BLOCK_SIZE);
+    resize(&image->blocks, (size_t)ASPEN_BLOCK_SIZE * image->count);
+    make_prints(image);
+    image->marks = bytes_new(0);
     image->changed = 0;
 }
 
-/* Whether the volume's newest backup has a block of this fingerprint there. The state file says the
- * same, unless somebody put back an older copy of the store: then the book is right. */
-static bool box_has(const struct store *store, uint16_t volume, uint16_t lbn, const uint8_t *print)
+void image_fit(struct image *image, const struct store *store)
 {
-    uint16_t pbn;
+    uint16_t cells = view_figures(store->book).cells;
 
-    if (book_keep(store->book.at, volume) == 0)
-        return false;
-    pbn = book_cell(store->book.at, volume, lbn);
-    return pbn != PBN_UNMAPPED &&
-           memcmp(book_print(store->book.at, pbn), print, ASPEN_PRINT_SIZE) == 0;
+    if (image->count > cells)
+        fail(STATUS_USAGE,
+             "%s is longer than the %u blocks of %d bytes that a volume of this store has; back up "
+             "to a store with more cells",
+             image->path, cells, ASPEN_BLOCK_SIZE);
+    resize(&image->blocks, (size_t)ASPEN_BLOCK_SIZE * cells);
+    resize(&image->prints, (size_t)ASPEN_PRINT_SIZE * cells);
+    resize(&image->marks, cells);
 }
 
-void image_mark(struct image *image, const struct state *state, const struct store *store,
-                uint16_t volume)
+void image_mark(struct image *image, const struct store *store, uint16_t volume)
 {
-    for (uint16_t lbn = 0; lbn < image->count; lbn++) {
-        const uint8_t *print = print_at(image->prints, lbn);
-        bool same = state->known.at[lbn] == 1 &&
-                    memcmp(print_at(state->prints, lbn), print, ASPEN_PRINT_SIZE) == 0 &&
-                    box_has(store, volume, lbn, print);
+    struct bytes cells = view_cells(store->book, volume), blocks = view_blocks(store->book);
 
-        image->marks.at[lbn] = same ? 0 : 1;
-        if (!same)
-            image->changed++;
+    for (uint16_t lbn = 0; lbn < image->count; lbn++) {
+        const uint8_t *print = image->prints.at + (size_t)ASPEN_PRINT_SIZE * lbn;
+        uint16_t pbn = view_cell(cells, lbn);
+
+        if (pbn != ASPEN_UNMAPPED_PBN &&
+            memcmp(view_print(blocks, pbn), print, ASPEN_PRINT_SIZE) == 0)
+            continue;
+        image->marks.at[lbn] = 1;
+        image->changed++;
     }
+    bytes_free(&cells);
+    bytes_free(&blocks);
 }
 
 struct bytes image_list(const struct image *image)
@@ -80,17 +88,8 @@ struct bytes image_list(const struct image *image)
 
     if (number != ASPEN_OK)
         fail_refused(STATUS_REFUSED, number, "the writer doesn't take the image");
-    list.at = resized(list.at, written);
-    list.length = written;
+    resize(&list, written);
     return list;
-}
-
-void image_note(const struct image *image, struct state *state)
-{
-    for (uint16_t lbn = 0; lbn < image->count; lbn++) {
-        state->known.at[lbn] = 1;
-        memcpy(print_at(state->prints, lbn), print_at(image->prints, lbn), ASPEN_PRINT_SIZE);
-    }
 }
 
 void image_free(struct image *image)

@@ -1,27 +1,17 @@
 #include "json.h"
 
+#include "answer.h"
 #include "memory.h"
 
 #include <stdio.h>
 #include <string.h>
 
-static char *text;
-static size_t length, room;
+static struct bytes text;
 static bool comma; /* whether a comma comes before the next value */
-
-static void add(const char *bytes, size_t count)
-{
-    if (length + count > room) {
-        room = 2 * (length + count);
-        text = resized(text, room);
-    }
-    memcpy(text + length, bytes, count);
-    length += count;
-}
 
 static void add_text(const char *added)
 {
-    add(added, strlen(added));
+    bytes_add(&text, added, strlen(added));
 }
 
 /* How many bytes the UTF-8 character here has, 0 if it is none. */
@@ -72,7 +62,7 @@ static void add_quoted(const char *value)
         } else {
             if (*at == '"' || *at == '\\')
                 add_text("\\");
-            add((const char *)at, size);
+            bytes_add(&text, at, size);
         }
         at += size;
     }
@@ -93,7 +83,7 @@ static void begin(const char *key)
 
 void json_start(void)
 {
-    length = 0;
+    bytes_free(&text);
     comma = false;
     json_open(NULL, '{');
 }
@@ -102,20 +92,20 @@ void json_send(void)
 {
     json_close('}');
     add_text("\n");
-    fwrite(text, 1, length, stdout);
-    length = 0;
+    answer_add(text.at, text.length);
+    bytes_free(&text);
 }
 
 void json_open(const char *key, char bracket)
 {
     begin(key);
-    add(&bracket, 1);
+    bytes_add(&text, &bracket, 1);
     comma = false;
 }
 
 void json_close(char bracket)
 {
-    add(&bracket, 1);
+    bytes_add(&text, &bracket, 1);
     comma = true;
 }
 

@@ -9,7 +9,7 @@
 
 /* Starts the object; what was built before is dropped. */
 void json_start(void);
-/* Ends the object and writes it with a newline to standard output. */
+/* Ends the object and makes it, with a newline, the answer. */
 void json_send(void);
 
 void json_open(const char *key, char bracket);

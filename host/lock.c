@@ -3,6 +3,7 @@
 #include "dates.h"
 #include "files.h"
 #include "messages.h"
+#include "prints.h"
 
 #include <errno.h>
 #include <fcntl.h>
@@ -13,35 +14,50 @@
 #include <sys/random.h>
 #include <unistd.h>
 
-/* The file is exactly: FIRST_LINE, then "day-zero DATE", then "store ID" in hexadecimal. */
+/* The file is exactly: FIRST_LINE, then "day-zero DATE", "store ID" and "digest DIGEST" in
+ * hexadecimal. The digest is of the three lines before it; the first stores had no fourth line. */
 #define FIRST_LINE "aspenbox 1\n"
 #define DAY_ZERO "day-zero "
 #define STORE "store "
+#define DIGEST "digest "
 
 enum {
     DATE_AT = sizeof FIRST_LINE - 1 + sizeof DAY_ZERO - 1,
     DATE_LENGTH = 10,
     ID_AT = DATE_AT + DATE_LENGTH + 1 + sizeof STORE - 1,
-    FILE_LENGTH = ID_AT + 2 * STORE_ID_SIZE + 1
+    THREE_LINES = ID_AT + 2 * STORE_ID_SIZE + 1,
+    FILE_LENGTH = THREE_LINES + sizeof DIGEST - 1 + 2 * DIGEST_SIZE + 1
 };
+
+/* Writes bytes in hexadecimal and a newline; answers how many characters that are. */
+static int add_hex(char *text, const uint8_t *bytes, int count)
+{
+    for (int i = 0; i < count; i++)
+        snprintf(text + 2 * i, 3, "%02x", bytes[i]);
+    snprintf(text + 2 * count, 2, "\n");
+    return 2 * count + 1;
+}
 
 static void compose(const struct lock *lock, char *text)
 {
+    uint8_t digest[DIGEST_SIZE];
     char date[DATE_TEXT];
     int at = snprintf(text, FILE_LENGTH + 1, FIRST_LINE DAY_ZERO "%s\n" STORE,
                       date_write(lock->day_zero, date));
 
-    for (int i = 0; i < STORE_ID_SIZE; i++)
-        at += snprintf(text + at, 3, "%02x", lock->id[i]);
-    snprintf(text + at, 2, "\n");
+    at += add_hex(text + at, lock->id, STORE_ID_SIZE);
+    sha256((const uint8_t *)text, (size_t)at, digest);
+    at += snprintf(text + at, sizeof DIGEST, DIGEST);
+    add_hex(text + at, digest, DIGEST_SIZE);
 }
 
 /* Reads the file's text back; true if it is what compose writes. */
 static bool parse(struct lock *lock, const char *text)
 {
     char date[DATE_LENGTH + 1] = "", again[FILE_LENGTH + 1];
+    size_t length = strlen(text);
 
-    if (strlen(text) != FILE_LENGTH)
+    if (length != FILE_LENGTH && length != THREE_LINES)
         return false;
     memcpy(date, text + DATE_AT, DATE_LENGTH);
     if (!date_read(date, &lock->day_zero))
@@ -52,7 +68,7 @@ static bool parse(struct lock *lock, const char *text)
         lock->id[i] = (uint8_t)strtoul(digits, NULL, 16);
     }
     compose(lock, again);
-    return strcmp(again, text) == 0;
+    return strncmp(again, text, length) == 0;
 }
 
 static void take(const struct lock *lock, int operation, bool wait)
@@ -120,6 +136,21 @@ void lock_fill(struct lock *lock, long day_zero)
         !file_write_at(lock->fd, lock->path, (const uint8_t *)text, FILE_LENGTH, 0) ||
         !file_sync(lock->fd, lock->path))
         fail(STATUS_FILES, "%s", file_failure());
+}
+
+bool lock_is_ours(const char *folder)
+{
+    static const char ours[] = FIRST_LINE;
+    char *path = join_text(folder, "/", "lock");
+    struct bytes bytes;
+    bool is = false;
+
+    if (file_load_foreign(path, sizeof ours - 1, &bytes)) {
+        is = bytes.length == sizeof ours - 1 && memcmp(bytes.at, ours, bytes.length) == 0;
+        bytes_free(&bytes);
+    }
+    free(path);
+    return is;
 }
 
 void lock_drop(struct lock *lock)

@@ -32,4 +32,7 @@ void lock_fill(struct lock *lock, long day_zero);
 
 void lock_drop(struct lock *lock);
 
+/* Whether the folder has the lock of a store. */
+bool lock_is_ours(const char *folder);
+
 #endif

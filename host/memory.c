@@ -1,14 +1,17 @@
 #include "memory.h"
 
-#include "messages.h"
+#include "status.h"
 
+#include <stdio.h>
 #include <stdlib.h>
 #include <string.h>
 
 static void *there(void *memory)
 {
-    if (memory == NULL)
-        fail(STATUS_FILES, "out of memory");
+    if (memory == NULL) {
+        fputs("aspenbox: out of memory\n", stderr);
+        exit(STATUS_FILES);
+    }
     return memory;
 }
 
@@ -35,6 +38,13 @@ void bytes_free(struct bytes *bytes)
     bytes->length = 0;
 }
 
+void bytes_add(struct bytes *bytes, const void *added, size_t length)
+{
+    bytes->at = resized(bytes->at, bytes->length + length + 1);
+    memcpy(bytes->at + bytes->length, added, length);
+    bytes->length += length;
+}
+
 char *copy_text(const char *text)
 {
     return join_text(text, "", "");
@@ -42,13 +52,32 @@ char *copy_text(const char *text)
 
 char *join_text(const char *first, const char *second, const char *third)
 {
-    size_t size = strlen(first) + strlen(second) + strlen(third) + 1;
-    char *joined = there(malloc(size));
+    return text_of("%s%s%s", first, second, third);
+}
 
-    strcpy(joined, first);
-    strcat(joined, second);
-    strcat(joined, third);
-    return joined;
+char *text_of(const char *format, ...)
+{
+    va_list arguments;
+    char *text;
+
+    va_start(arguments, format);
+    text = text_from(format, arguments);
+    va_end(arguments);
+    return text;
+}
+
+char *text_from(const char *format, va_list arguments)
+{
+    va_list again;
+    char *text;
+    int length;
+
+    va_copy(again, arguments);
+    length = vsnprintf(NULL, 0, format, again);
+    va_end(again);
+    text = there(malloc((size_t)length + 1));
+    vsnprintf(text, (size_t)length + 1, format, arguments);
+    return text;
 }
 
 void *resized(void *memory, size_t size)

@@ -1,22 +1,18 @@
-/* What the program says when something goes wrong, and the statuses it ends with. */
+/* What the program says: its answer, notes on the way, and what went wrong. In all of it control
+ * characters, which a file's name may have, are shown as \xHH. */
 #ifndef ASPENBOX_MESSAGES_H
 #define ASPENBOX_MESSAGES_H
 
-#include <stdbool.h>
+#include "status.h"
 
-enum status {
-    STATUS_DONE = 0,
-    STATUS_UNSOUND = 1, /* audit says no, or bytes don't fit their fingerprint */
-    STATUS_USAGE = 2,   /* the command line or an input can't be used */
-    STATUS_REFUSED = 3, /* the box refused the call */
-    STATUS_FILES = 4,   /* the file system failed */
-    STATUS_STORE = 5,   /* the folder is no store, or a damaged one */
-    STATUS_BUSY = 6     /* another aspenbox uses the store, and --no-wait was given */
-};
+#include <stdbool.h>
 
 /* Whether the answer, an error included, is one JSON object on standard output. */
 void messages_as_json(bool json);
 bool messages_json(void);
+
+/* Adds a line to the answer. */
+void say(const char *format, ...) __attribute__((format(printf, 1, 2)));
 
 /* Ends the program with a message. */
 _Noreturn void fail(enum status status, const char *format, ...)
@@ -32,7 +28,7 @@ void note(const char *format, ...) __attribute__((format(printf, 1, 2)));
 /* Writes the notes into the open JSON object. */
 void notes_to_json(void);
 
-/* Sends what was printed on its way; fails if it can't be written. */
+/* Sends the answer on its way; fails if it can't be written. */
 void flush_answer(void);
 
 #endif

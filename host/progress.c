@@ -1,7 +1,5 @@
 #include "progress.h"
 
-#include "messages.h"
-
 #include <stdbool.h>
 #include <stdio.h>
 #include <time.h>
@@ -9,7 +7,7 @@
 
 enum { INTERVAL_MS = 100 };
 
-static bool shown;
+static bool off, shown;
 static long shown_at;
 
 static long now_ms(void)
@@ -20,9 +18,14 @@ static long now_ms(void)
     return (long)now.tv_sec * 1000 + now.tv_nsec / 1000000;
 }
 
+void progress_off(void)
+{
+    off = true;
+}
+
 void progress(const char *what, size_t done, size_t total)
 {
-    if (messages_json() || !isatty(STDERR_FILENO))
+    if (off || !isatty(STDERR_FILENO))
         return;
     if (shown && now_ms() - shown_at < INTERVAL_MS)
         return;

@@ -4,7 +4,9 @@
 
 #include <stddef.h>
 
-/* Shows that so much is done, if standard error is a terminal and the answer isn't JSON. */
+/* Shows nothing from now on. */
+void progress_off(void);
+/* Shows that so much is done, if standard error is a terminal. */
 void progress(const char *what, size_t done, size_t total);
 /* Takes the line away. */
 void progress_end(void);

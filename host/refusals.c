@@ -1,8 +1,8 @@
 #include "refusals.h"
 
 #include "dates.h"
-#include "layout.h"
 #include "messages.h"
+#include "view.h"
 
 #include <aspen.h>
 
@@ -20,7 +20,7 @@ void refuse_store(const struct store *store, uint16_t number)
         fail_refused(STATUS_STORE, number,
                      "%s/pool has %zu bytes where the book says %zu; nothing was written; put back "
                      "a copy of the store",
-                     folder, store->pool.length, aspen_pool_size(book_head(store->book.at).blocks));
+                     folder, store->pool.length, aspen_pool_size(view_figures(store->book).blocks));
     default:
         fail_refused(STATUS_STORE, number,
                      "%s/book is damaged; nothing was written; put back a copy of the store",
@@ -54,7 +54,7 @@ void refuse_enrol(const struct store *store, uint16_t number, uint16_t volume, u
     if (number == ASPEN_BAD_VOLUME && volume < ASPEN_VOLUMES)
         fail_refused(STATUS_REFUSED, number,
                      "volume %u is enrolled already and keeps its backups %u days; take another",
-                     volume, book_keep(store->book.at, volume));
+                     volume, view_volume(store->book, volume).keep);
     if (number == ASPEN_BAD_VOLUME)
         refuse_volume(store, volume);
     refuse_store(store, number);
@@ -63,7 +63,7 @@ void refuse_enrol(const struct store *store, uint16_t number, uint16_t volume, u
 static _Noreturn void refuse_day(const struct asked *asked)
 {
     const struct store *store = asked->store;
-    uint16_t last = book_head(store->book.at).day;
+    uint16_t last = view_figures(store->book).day;
     char asked_date[DATE_TEXT], last_date[DATE_TEXT];
 
     store_date(store, asked->day, asked_date);
@@ -82,15 +82,25 @@ static _Noreturn void refuse_day(const struct asked *asked)
 
 static _Noreturn void refuse_room(uint16_t number, const struct asked *asked)
 {
-    struct book_head head = book_head(asked->store->book.at);
+    struct figures figures = view_figures(asked->store->book);
+    bool more = figures.slots < ASPEN_MAX_SLOTS, longer = figures.records < ASPEN_MAX_RECORDS;
 
     if (number == ASPEN_NO_SLOT)
-        fail_refused(STATUS_REFUSED, number,
-                     "all %u backup slots are used; format a store with more slots", head.slots);
+        fail_refused(STATUS_REFUSED, number, "all %u backup slots are used; format %s",
+                     figures.slots, more ? "a store with more slots" : "a second store");
     fail_refused(STATUS_REFUSED, number,
-                 "the journal has %d of its %u places left and this backup needs %u; format a "
-                 "store with a larger journal",
-                 head.records - head.records_used, head.records, asked->changes);
+                 "the journal has %d of its %u places left and this backup needs %u; format %s",
+                 figures.records - figures.records_used, figures.records, asked->changes,
+                 longer ? "a store with a larger journal" : "a second store");
+}
+
+static _Noreturn void refuse_block(const struct asked *asked)
+{
+    bool larger = view_figures(asked->store->book).blocks < ASPEN_MAX_BLOCKS;
+
+    fail_refused(STATUS_REFUSED, ASPEN_NO_BLOCK, "no free block; collect, or %s",
+                 larger ? "enlarge the pool: format a store with more blocks"
+                        : "format a second store");
 }
 
 static _Noreturn void refuse_change(uint16_t number, const struct asked *asked)
@@ -104,7 +114,7 @@ static _Noreturn void refuse_change(uint16_t number, const struct asked *asked)
                      "scrub %s, and put back a copy of the pool if it finds damage",
                      folder);
     case ASPEN_NO_BLOCK:
-        fail_refused(STATUS_REFUSED, number, "no free block; collect, or enlarge the pool");
+        refuse_block(asked);
     case ASPEN_COUNT_ZERO:
         fail_refused(STATUS_STORE, number,
                      "the count of a replaced block is 0, so the book is damaged; run aspenbox "
@@ -119,11 +129,23 @@ static _Noreturn void refuse_change(uint16_t number, const struct asked *asked)
     }
 }
 
+static _Noreturn void refuse_kept(const struct asked *asked)
+{
+    struct bytes rows = view_backups(asked->store->book, asked->volume);
+    uint16_t until = view_backup(rows, asked->number).until;
+    char date[DATE_TEXT];
+
+    bytes_free(&rows);
+    fail_refused(STATUS_REFUSED, ASPEN_NOT_KEPT,
+                 "backup %u of volume %u was kept until %s; aspenbox list %s %u shows what still is",
+                 asked->number, asked->volume, store_date(asked->store, until, date),
+                 asked->store->folder, asked->volume);
+}
+
 static _Noreturn void refuse_read(uint16_t number, const struct asked *asked)
 {
-    const uint8_t *book = asked->store->book.at;
-    unsigned volume = asked->volume, backups = book_backups(book, asked->volume);
-    char date[DATE_TEXT];
+    struct bytes book = asked->store->book;
+    unsigned volume = asked->volume, backups = view_volume(book, asked->volume).backups;
 
     if (number == ASPEN_NO_BACKUP && backups == 0)
         fail_refused(STATUS_REFUSED, number, "volume %u has no backup yet", volume);
@@ -131,16 +153,10 @@ static _Noreturn void refuse_read(uint16_t number, const struct asked *asked)
         fail_refused(STATUS_REFUSED, number, "volume %u has backups 1 to %u and none of number %u",
                      volume, backups, asked->number);
     if (number == ASPEN_NOT_KEPT)
-        fail_refused(
-            STATUS_REFUSED, number,
-            "backup %u of volume %u was kept until %s; aspenbox list %s %u shows what "
-            "still is",
-            asked->number, volume,
-            store_date(asked->store, book_kept_until(book, asked->volume, asked->number), date),
-            asked->store->folder, volume);
+        refuse_kept(asked);
     if (number == ASPEN_BAD_LBN)
         fail_refused(STATUS_REFUSED, number, "there is no LBN %u; LBNs are 0 to %d", asked->lbn,
-                     book_head(book).cells - 1);
+                     view_figures(book).cells - 1);
     fail_refused(STATUS_REFUSED, number, "backup %u of volume %u has no block at LBN %u",
                  asked->number, volume, asked->lbn);
 }

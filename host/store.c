@@ -2,16 +2,16 @@
 
 #include "dates.h"
 #include "files.h"
-#include "layout.h"
 #include "messages.h"
-#include "refusals.h"
+#include "seal.h"
+#include "view.h"
 
 #include <aspen.h>
-#include <ctype.h>
 #include <errno.h>
 #include <fcntl.h>
 #include <stdlib.h>
 #include <string.h>
+#include <sys/stat.h>
 #include <unistd.h>
 
 enum {
@@ -33,43 +33,61 @@ static void name_files(struct store *store, const char *folder)
     store->pool_path = join_text(folder, "/", "pool");
     store->book = bytes_new(0);
     store->pool = bytes_new(0);
+    store->lengths = (struct lengths){NULL, 0};
+    store->fault = NULL;
 }
 
 static void read_book(struct store *store, enum lock_use use)
 {
     int fd = file_open(store->book_path, O_RDONLY);
+    struct bytes file;
 
     if (fd < 0 && file_missing())
         fail(STATUS_STORE, "%s is no store: it has no book; put back a copy of it, or format",
              store->folder);
     or_fail(fd >= 0);
-    bytes_free(&store->book);
-    or_fail(file_read(fd, store->book_path, BOOK_LIMIT + 1, &store->book));
+    or_fail(file_read(fd, store->book_path, BOOK_LIMIT + seal_limit() + 1, &file));
     /* The writer before may have ended between its rename and its sync. */
     if (use == LOCK_TO_WRITE)
         or_fail(file_sync(fd, store->book_path) && folder_sync(store->folder));
     close(fd);
+    bytes_free(&store->book);
+    store->fault = seal_open(file, store->lock.id, &store->book, &store->lengths);
+    bytes_free(&file);
 }
 
-void store_open(struct store *store, const struct request *request, enum lock_use use)
+static bool is_sound(struct bytes book)
+{
+    uint16_t sound = 0;
+
+    return aspen_audit(book.at, book.length, &sound) == ASPEN_OK && sound == 1;
+}
+
+uint16_t store_open(struct store *store, const char *folder, enum lock_use use, bool wait)
 {
     uint16_t number;
 
-    name_files(store, request->words[0]);
-    lock_take(&store->lock, store->folder, use, request->options[OPTION_NO_WAIT] == NULL);
+    name_files(store, folder);
+    lock_take(&store->lock, folder, use, wait);
     read_book(store, use);
     if (!store->lock.whole)
         fail(STATUS_STORE, "%s is damaged or from another program; put back a copy of it",
              store->lock.path);
     number = aspen_form(store->book.at, store->book.length);
-    if (number != ASPEN_OK)
-        refuse_store(store, number);
+    if (number == ASPEN_OK && store->fault == NULL && !is_sound(store->book))
+        store->fault = "maps, counts or days don't agree with the journal";
+    return number;
 }
 
 void store_load_pool(struct store *store)
 {
     bytes_free(&store->pool);
-    or_fail(file_load(store->pool_path, POOL_LIMIT + 1, &store->pool));
+    if (file_load(store->pool_path, POOL_LIMIT + 1, &store->pool))
+        return;
+    if (file_missing())
+        fail(STATUS_STORE, "%s is no store: it has no pool; put back a copy of the store",
+             store->folder);
+    or_fail(false);
 }
 
 void store_close(struct store *store)
@@ -77,30 +95,38 @@ void store_close(struct store *store)
     lock_drop(&store->lock);
     bytes_free(&store->book);
     bytes_free(&store->pool);
+    lengths_free(&store->lengths);
     free(store->book_path);
     free(store->pool_path);
 }
 
-static bool is_there(const char *path)
+/* How long the file is, -1 if there is none. */
+static long long length_of(const char *path)
 {
-    if (access(path, F_OK) == 0)
-        return true;
+    struct stat found;
+
+    if (stat(path, &found) == 0)
+        return found.st_size;
     if (errno != ENOENT)
         fail(STATUS_FILES, "can't look for %s: %s", path, strerror(errno));
-    return false;
+    return -1;
 }
 
 /* A folder with a book is a store, and a pool with something in it may be what a store lost its
- * book of: neither is written over. */
-static void check_makeable(const struct store *store)
+ * book of: neither is written over, nor is a file that is no pool of this size. */
+static void check_makeable(const struct store *store, size_t pool_size)
 {
+    long long length = length_of(store->pool_path);
     struct bytes pool;
 
-    if (is_there(store->book_path))
+    if (length_of(store->book_path) >= 0)
         fail(STATUS_USAGE, "%s has a book already; format another folder", store->folder);
-    if (!is_there(store->pool_path))
+    if (length < 0)
         return;
-    or_fail(file_load(store->pool_path, POOL_LIMIT + 1, &pool));
+    if (length > (long long)pool_size)
+        fail(STATUS_USAGE, "%s is longer than the pool of this store; format another folder",
+             store->pool_path);
+    or_fail(file_load(store->pool_path, pool_size, &pool));
     for (size_t i = 0; i < pool.length; i++)
         if (pool.at[i] != 0)
             fail(STATUS_USAGE,
@@ -111,9 +137,9 @@ static void check_makeable(const struct store *store)
 }
 
 /* Zeros for all blocks, so that a disk too small for the pool shows now. */
-static void write_new_pool(const struct store *store)
+static void write_new_pool(const struct store *store, size_t size)
 {
-    struct bytes zeros = bytes_new(aspen_pool_size(book_head(store->book.at).blocks));
+    struct bytes zeros = bytes_new(size);
     int fd = file_open(store->pool_path, O_WRONLY | O_CREAT | O_TRUNC);
 
     or_fail(fd >= 0);
@@ -123,34 +149,47 @@ static void write_new_pool(const struct store *store)
     bytes_free(&zeros);
 }
 
-void store_make(const struct request *request, struct bytes book, long day_zero)
+void store_make(const char *folder, bool wait, struct bytes book, long day_zero)
 {
+    size_t pool_size = aspen_pool_size(view_figures(book).blocks);
     struct store store;
 
-    name_files(&store, request->words[0]);
-    check_makeable(&store);
+    name_files(&store, folder);
+    check_makeable(&store, pool_size);
     or_fail(folder_make(store.folder));
-    lock_take_new(&store.lock, store.folder, request->options[OPTION_NO_WAIT] == NULL);
-    check_makeable(&store); /* another format may have ended while this one waited */
+    lock_take_new(&store.lock, store.folder, wait);
+    check_makeable(&store, pool_size); /* another format may have ended while this one waited */
     bytes_free(&store.book);
     store.book = bytes_copy(book);
     lock_fill(&store.lock, day_zero);
-    write_new_pool(&store);
+    write_new_pool(&store, pool_size);
     or_fail(folder_sync(store.folder));
     store_replace_book(&store); /* last: with its book the store is there */
     store_close(&store);
 }
 
-uint16_t store_write_taken(const struct store *store, struct bytes old_book)
+struct bytes store_taken(const struct store *store, struct bytes old_book)
 {
-    uint16_t blocks = book_head(store->book.at).blocks, written = 0;
+    struct bytes before = view_blocks(old_book), after = view_blocks(store->book);
+    struct bytes marks = bytes_new(view_figures(store->book).blocks);
+
+    for (size_t p = 0; p < marks.length; p++)
+        marks.at[p] = !view_held(before, (uint16_t)p) && view_held(after, (uint16_t)p) ? 1 : 0;
+    bytes_free(&before);
+    bytes_free(&after);
+    return marks;
+}
+
+uint16_t store_write_blocks(const struct store *store, struct bytes marks)
+{
     int fd = file_open(store->pool_path, O_WRONLY);
+    uint16_t written = 0;
 
     or_fail(fd >= 0);
-    for (uint16_t p = 0; p < blocks; p++) {
+    for (size_t p = 0; p < marks.length; p++) {
         size_t at = aspen_pool_size(p);
 
-        if (book_held(old_book.at, p) || !book_held(store->book.at, p))
+        if (marks.at[p] == 0)
             continue;
         or_fail(file_write_at(fd, store->pool_path, store->pool.at + at, ASPEN_BLOCK_SIZE, at));
         written++;
@@ -163,8 +202,11 @@ uint16_t store_write_taken(const struct store *store, struct bytes old_book)
 void store_replace_book(const struct store *store)
 {
     char *temporary = join_text(store->book_path, ".new", "");
+    struct replacement how = {.temporary = temporary, .mode = 0666, .keep = true};
+    struct bytes file = seal_make(store->book, &store->lengths, store->lock.id);
 
-    or_fail(file_replace(store->book_path, temporary, store->book));
+    or_fail(file_replace(store->book_path, &how, file));
+    bytes_free(&file);
     free(temporary);
     if (!folder_sync(store->folder))
         fail(STATUS_FILES,
@@ -172,30 +214,21 @@ void store_replace_book(const struct store *store)
              file_failure());
 }
 
-uint16_t store_day(const struct store *store, const char *text)
-{
-    const char *shown = text != NULL ? text : "today";
-    char zero[DATE_TEXT];
-    long day;
-
-    if (text != NULL && isdigit((unsigned char)text[0]) && strchr(text, '-') == NULL)
-        return read_number("--day", text);
-    if (text == NULL)
-        day = date_today();
-    else if (!date_read(text, &day))
-        fail(STATUS_USAGE, "--day %s is no day; give a number or a date like 2026-01-31", text);
-    day -= store->lock.day_zero;
-    if (day < 0)
-        fail(STATUS_USAGE, "%s is before day 0 of the store, %s; %s", shown,
-             date_write(store->lock.day_zero, zero),
-             text != NULL ? "give a later day" : "set the clock, or give --day");
-    if (day > UINT16_MAX)
-        fail(STATUS_USAGE, "%s is more than %d days after day 0 of the store, %s", shown,
-             UINT16_MAX, date_write(store->lock.day_zero, zero));
-    return (uint16_t)day;
-}
-
 char *store_date(const struct store *store, long day, char *text)
 {
     return date_write(store->lock.day_zero + day, text);
+}
+
+bool store_has_file(const char *path)
+{
+    static const char *const names[] = {"book", "pool", "lock", "book.new"};
+    const char *slash = strrchr(path, '/');
+    char *folder = folder_of(path);
+    bool named = false, has;
+
+    for (size_t i = 0; i < sizeof names / sizeof names[0]; i++)
+        named = named || strcmp(slash != NULL ? slash + 1 : path, names[i]) == 0;
+    has = named && lock_is_ours(folder);
+    free(folder);
+    return has;
 }

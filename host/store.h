@@ -6,7 +6,7 @@
 #ifndef ASPENBOX_STORE_H
 #define ASPENBOX_STORE_H
 
-#include "args.h"
+#include "lengths.h"
 #include "lock.h"
 #include "memory.h"
 
@@ -15,26 +15,32 @@ struct store {
     struct lock lock;
     char *book_path, *pool_path;
     struct bytes book, pool;
+    struct lengths lengths; /* of the images */
+    const char *fault;      /* what is wrong with a book that is in form; null if nothing is */
 };
 
-/* Opens the store of a command, its first argument, and reads the book; ends the program if the
- * book isn't in form. */
-void store_open(struct store *store, const struct request *request, enum lock_use use);
+/* Opens the store in a folder and reads its book. Answers the number by which the library refuses
+ * the book, or 0; then the book was audited too. A folder that is no store ends the program, and
+ * so does, without `wait`, a store that is in use. */
+uint16_t store_open(struct store *store, const char *folder, enum lock_use use, bool wait);
 /* Reads the pool. Its length is checked by the call that it is given to. */
 void store_load_pool(struct store *store);
 void store_close(struct store *store);
 
 /* Makes a store with this fresh book in a folder that has none. */
-void store_make(const struct request *request, struct bytes book, long day_zero);
+void store_make(const char *folder, bool wait, struct bytes book, long day_zero);
 
-/* Writes the pool blocks that the old book has free and the new one holds; answers how many. */
-uint16_t store_write_taken(const struct store *store, struct bytes old_book);
-/* Puts the book in memory in the place of that on disk. */
+/* For each block of the pool 1 if it is free in the old book and held in the store's, else 0. */
+struct bytes store_taken(const struct store *store, struct bytes old_book);
+/* Writes the marked pool blocks, those with a 1, and syncs them; answers how many. */
+uint16_t store_write_blocks(const struct store *store, struct bytes marks);
+/* Puts the book in memory, with the lengths, in the place of that on disk. */
 void store_replace_book(const struct store *store);
 
-/* The day that `text` names, a number or a date; today if it is null. */
-uint16_t store_day(const struct store *store, const char *text);
 /* The date of a day, into DATE_TEXT bytes; the result is `text`. */
 char *store_date(const struct store *store, long day, char *text);
+
+/* Whether a path names a file of a store. */
+bool store_has_file(const char *path);
 
 #endif

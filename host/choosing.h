@@ -1,0 +1,11 @@
+/* Which backup of a volume is meant. */
+#ifndef ASPENBOX_CHOOSING_H
+#define ASPENBOX_CHOOSING_H
+
+#include "memory.h"
+
+/* The newest of the volume's backups on or before a day, by the rows of its backups; 0 if there is
+ * none. */
+uint16_t newest_by(struct bytes rows, long day);
+
+#endif
