@@ -123,7 +123,8 @@ static char *places_of(const struct scrubbed *scrubbed, uint16_t pbn)
 
             if (view_cell(scrubbed->cells[volume], lbn) != pbn)
                 continue;
-            longer = text_of("%s%svolume %u LBN %u", text, text[0] != '\0' ? ", " : "", volume, lbn);
+            longer =
+                text_of("%s%svolume %u LBN %u", text, text[0] != '\0' ? ", " : "", volume, lbn);
             free(text);
             text = longer;
         }

@@ -62,8 +62,8 @@ static void choose_backup(struct asked *asked, const struct request *request)
     if (!view_volume(store->book, asked->volume).enrolled)
         refuse(ASPEN_BAD_VOLUME, asked);
     rows = view_backups(store->book, asked->volume);
-    asked->number = newest_by(
-        rows, date != NULL ? day_of_option(store, request, OPTION_DATE) : ASPEN_MAX_DAY);
+    asked->number =
+        newest_by(rows, date != NULL ? day_of_option(store, request, OPTION_DATE) : ASPEN_MAX_DAY);
     if (asked->number == 0 && rows.length > 0)
         fail_refused(STATUS_REFUSED, ASPEN_NO_BACKUP,
                      "volume %u has no backup on or before %s; its first is of %s", asked->volume,
@@ -79,7 +79,8 @@ static const char *out_word(const struct request *request)
     if (request->options[OPTION_LATEST] != NULL && request->options[OPTION_DATE] != NULL)
         fail(STATUS_USAGE, "give --latest or --date, not both");
     if (chosen && request->words[3] != NULL)
-        fail(STATUS_USAGE, "with --latest or --date there is no NUMBER; see aspenbox restore --help");
+        fail(STATUS_USAGE,
+             "with --latest or --date there is no NUMBER; see aspenbox restore --help");
     if (!chosen && request->words[3] == NULL)
         fail(STATUS_USAGE, "restore wants NUMBER, --latest or --date; see aspenbox restore --help");
     return request->words[chosen ? 2 : 3];
@@ -123,8 +124,9 @@ static void write_out(const char *out, bool force, struct bytes image)
 {
     char *temporary = file_beside(out), *folder = folder_of(out);
     struct replacement how = {.temporary = temporary, .mode = 0600, .keep = force};
-    bool good = is_standard(out) ? file_write(STDOUT_FILENO, "standard output", image.at, image.length)
-                                 : file_replace(out, &how, image) && folder_sync(folder);
+    bool good = is_standard(out)
+                    ? file_write(STDOUT_FILENO, "standard output", image.at, image.length)
+                    : file_replace(out, &how, image) && folder_sync(folder);
 
     if (!good)
         fail(file_misnamed() ? STATUS_USAGE : STATUS_FILES, "%s", file_failure());
@@ -222,9 +224,9 @@ static void show(const struct asked *asked, const struct restored *restored, con
         show_json(asked, restored, out);
         return;
     }
-    show_line(out, text_of("restored backup %u of volume %u to %s: %zu bytes, %zu blocks",
-                           asked->number, asked->volume, out, restored->image.length,
-                           restored->damaged.length));
+    show_line(out,
+              text_of("restored backup %u of volume %u to %s: %zu bytes, %zu blocks", asked->number,
+                      asked->volume, out, restored->image.length, restored->damaged.length));
     for (size_t i = 0; i < restored->damaged.length; i++)
         if (restored->damaged.at[i] != 0)
             show_line(out, text_of("LBN %zu is damaged: its bytes don't fit their fingerprint",

@@ -79,8 +79,8 @@ static void summarize(struct summary *summary, const struct request *request)
                                       summary->figures.slots};
     summary->fills[2] = (struct fill){"journal", "changes noted", summary->figures.records_used,
                                       summary->figures.records};
-    summary->percent = request->options[OPTION_WARN] != NULL ? option_number(request, OPTION_WARN)
-                                                             : WARN_PERCENT;
+    summary->percent =
+        request->options[OPTION_WARN] != NULL ? option_number(request, OPTION_WARN) : WARN_PERCENT;
     summary->older =
         request->options[OPTION_OLDER] != NULL ? option_number(request, OPTION_OLDER) : -1;
     if (summary->percent < 1 || summary->percent > 100)

@@ -38,10 +38,11 @@ static _Noreturn void refuse_ahead(const struct store *store, long day, const ch
 {
     char date[DATE_TEXT], again[DATE_TEXT];
 
-    fail(STATUS_USAGE,
-         "%s is %s. The box's day would become %s, and until then every other aid's backup would be "
-         "refused. Look at the date, or give --ahead if it is meant",
-         store_date(store, day, date), why, store_date(store, day, again));
+    fail(
+        STATUS_USAGE,
+        "%s is %s. The box's day would become %s, and until then every other aid's backup would be "
+        "refused. Look at the date, or give --ahead if it is meant",
+        store_date(store, day, date), why, store_date(store, day, again));
 }
 
 static void check_ahead(const struct store *store, long day)

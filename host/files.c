@@ -112,8 +112,8 @@ static bool is_regular(int fd, const char *path)
     if (S_ISDIR(found.st_mode))
         return failed_as(EISDIR, text_of("%s is a folder; name a file", path));
     if (!S_ISREG(found.st_mode))
-        return failed_as(EINVAL, text_of("%s is no regular file; name one, or - for standard input",
-                                         path));
+        return failed_as(EINVAL,
+                         text_of("%s is no regular file; name one, or - for standard input", path));
     return true;
 }
 
@@ -274,8 +274,8 @@ static int make_temporary(const char *temporary, mode_t mode)
     return -1;
 }
 
-/* Gives the new file the old one's owner, group and mode. Where the group can't be kept, the new one
- * is given to no group. */
+/* Gives the new file the old one's owner, group and mode. Where the group can't be kept, the new
+ * one is given to no group. */
 static bool keep_access(int fd, const char *path, const struct stat *old)
 {
     mode_t mode = old->st_mode & 07777;

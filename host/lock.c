@@ -119,8 +119,7 @@ void lock_take_new(struct lock *lock, const char *folder, bool wait)
     /* A format that was cut off leaves zeros where the bytes weren't on disk yet. */
     for (size_t i = 0; i < bytes.length; i++)
         if (bytes.at[i] != 0 && bytes.at[i] != (uint8_t)ours[i])
-            fail(STATUS_USAGE, "%s is a file of something else; format another folder",
-                 lock->path);
+            fail(STATUS_USAGE, "%s is a file of something else; format another folder", lock->path);
     bytes_free(&bytes);
 }
 

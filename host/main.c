@@ -42,7 +42,8 @@ const struct command commands[] = {
      run_list},
     {"status", "DIR", 1, 1, 0, OPTION(WARN) | OPTION(OLDER) | OPTION(PROMETHEUS),
      "Tells how full the store is, how old the newest backups are, and whether the book is sound.\n"
-     "Ends with 1 if a part is PERCENT full, by default 90, or a newest backup is older than DAYS.\n"
+     "Ends with 1 if a part is PERCENT full, by default 90, or a newest backup is older than "
+     "DAYS.\n"
      "--prometheus prints it for a node exporter.",
      run_status},
     {"audit", "DIR", 1, 1, 0, 0,

@@ -136,10 +136,11 @@ static _Noreturn void refuse_kept(const struct asked *asked)
     char date[DATE_TEXT];
 
     bytes_free(&rows);
-    fail_refused(STATUS_REFUSED, ASPEN_NOT_KEPT,
-                 "backup %u of volume %u was kept until %s; aspenbox list %s %u shows what still is",
-                 asked->number, asked->volume, store_date(asked->store, until, date),
-                 asked->store->folder, asked->volume);
+    fail_refused(
+        STATUS_REFUSED, ASPEN_NOT_KEPT,
+        "backup %u of volume %u was kept until %s; aspenbox list %s %u shows what still is",
+        asked->number, asked->volume, store_date(asked->store, until, date), asked->store->folder,
+        asked->volume);
 }
 
 static _Noreturn void refuse_read(uint16_t number, const struct asked *asked)

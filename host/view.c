@@ -13,8 +13,7 @@ struct figures view_figures(struct bytes book)
 {
     struct figures f = {0};
 
-    expect_done(
-        aspen_sizes(book.at, book.length, &f.blocks, &f.cells, &f.slots, &f.records));
+    expect_done(aspen_sizes(book.at, book.length, &f.blocks, &f.cells, &f.slots, &f.records));
     expect_done(aspen_used(book.at, book.length, &f.slots_used, &f.records_used, &f.day));
     return f;
 }
