@@ -21,6 +21,9 @@
  * Threads. There is no global state. Calls on different buffers may run at the same time, and so
  * may calls that only read the same ones. While a call writes a buffer nothing else may use it;
  * to have one writer at a time is the caller's duty.
+ *
+ * Stack. On x86-64 aspen_audit takes 49,440 bytes of it and aspen_backup 24,928, nearly all for
+ * tables that live for one call; every other function takes 208 at most.
  */
 #ifndef ASPEN_H
 #define ASPEN_H
@@ -31,6 +34,12 @@
 #ifdef __cplusplus
 extern "C" {
 #endif
+
+/* The version of the library, as text and in numbers. */
+#define ASPEN_VERSION "0.1.0"
+#define ASPEN_VERSION_MAJOR 0
+#define ASPEN_VERSION_MINOR 1
+#define ASPEN_VERSION_PATCH 0
 
 /* Limits. The numbers of blocks, slots and records, and the retention, are 1 at least. */
 #define ASPEN_BLOCK_SIZE 512      /* bytes of a block */
@@ -188,6 +197,42 @@ uint16_t aspen_count(const uint8_t *book, size_t book_len, uint16_t *blocks, uin
 uint16_t aspen_write_list(uint16_t l, const uint8_t *marks, size_t marks_len,
                           const uint8_t *prints, size_t prints_len, const uint8_t *image,
                           size_t image_len, uint8_t *list, size_t list_len, uint32_t *written);
+
+/* A short text for a number that a function returned. */
+static inline const char *aspen_text(uint16_t number)
+{
+    static const char *const texts[] = {
+        "accepted",
+        "the book's length, layout number or sizes are wrong",
+        "the book is out of form: it is damaged",
+        "the pool has the wrong length",
+        "the spare is shorter than the book",
+        "no such volume, or not enrolled; for enrol, enrolled already",
+        "the retention is out of range",
+        "the day is above the limit or too early",
+        "no change list for this book",
+        "all backup slots are used",
+        "not enough records left",
+        "a held block with this fingerprint has other bytes",
+        "no block of the pool is free",
+        "a replaced block has count 0: the book is damaged",
+        "the block's count is 255 already",
+        "the volume has no backup of this number",
+        "the backup isn't kept any more",
+        "the volume has no such LBN",
+        "the backup has no block at this LBN",
+        "the writer's inputs are wrong",
+        "the output is too short"
+    };
+
+    return number < sizeof texts / sizeof texts[0] ? texts[number] : "no number of the box";
+}
+
+/* The number of two bytes that starts here, as change lists have them. */
+static inline uint16_t aspen_u16(const uint8_t *at)
+{
+    return (uint16_t)(at[0] | at[1] << 8);
+}
 
 #ifdef __cplusplus
 }
