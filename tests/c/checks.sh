@@ -128,14 +128,27 @@ is_installed() (
     [ -f include/aspen.h ] && [ -f share/man/man3/aspen.3 ]
 )
 
-uninstalls() {
-    makes uninstall && [ -z "$(find "$scratch/dest" -type f)" ]
-}
+# The functions in the manual page's synopsis, and nothing else, have a page that leads there.
+has_links() (
+    cd "$scratch/dest/opt/aspen/share/man" || exit 1
+    sed -n '/^\.SH SYNOPSIS/,/^\.SH DESCRIPTION/p' man3/aspen.3 |
+        grep -o 'aspen_[a-z0-9_]*(' | tr -d '(' | sort >"$scratch/functions"
+    grep -lx '\.so man3/aspen\.3' man3/aspen_*.3 | sed 's|man3/\(.*\)\.3|\1|' | sort >"$scratch/links"
+    grep -x aspen_backup "$scratch/links" && diff "$scratch/functions" "$scratch/links"
+)
+
+# A page of somebody else's stays.
+uninstalls() (
+    other=$scratch/dest/opt/aspen/share/man/man3/aspen_other.3
+    echo 'another page' >"$other"
+    makes uninstall && [ "$(find "$scratch/dest" -type f)" = "$other" ]
+)
 
 c_install() {
     local program
     check "make install" makes install
     check "files installed" is_installed
+    check "manual pages of the functions" has_links
     if command -v pkg-config >/dev/null; then
         for program in aid engine; do
             check "program $program from the installed files" uses_installed $program
