@@ -21,6 +21,9 @@
  * Threads. There is no global state. Calls on different buffers may run at the same time, and so
  * may calls that only read the same ones. While a call writes a buffer nothing else may use it;
  * to have one writer at a time is the caller's duty.
+ *
+ * Stack. On x86-64 aspen_audit takes 49,440 bytes of it and aspen_backup 24,928, nearly all for
+ * tables that live for one call; every other function takes 208 at most.
  */
 #ifndef ASPEN_H
 #define ASPEN_H
@@ -31,6 +34,12 @@
 #ifdef __cplusplus
 extern "C" {
 #endif
+
+/* The version of the library, as text and in numbers. */
+#define ASPEN_VERSION "0.1.0"
+#define ASPEN_VERSION_MAJOR 0
+#define ASPEN_VERSION_MINOR 1
+#define ASPEN_VERSION_PATCH 0
 
 /* Limits. The numbers of blocks, slots and records, and the retention, are 1 at least. */
 #define ASPEN_BLOCK_SIZE 512      /* bytes of a block */
@@ -59,6 +68,20 @@ extern "C" {
 /* The longest list that aspen_write_list writes for l blocks: all of them, in one run. */
 #define aspen_list_bound(l) aspen_list_size(1, l)
 
+/* Rows that aspen_backups, aspen_cells and aspen_blocks write. */
+#define ASPEN_BACKUP_ROW 8   /* bytes for a backup */
+#define ASPEN_CELL_ROW 2     /* bytes for a logical block */
+#define ASPEN_BLOCK_ROW 22   /* bytes for a pool block */
+
+/* Their outputs for so many backups, for l logical blocks and for n pool blocks. */
+#define aspen_backups_size(backups) ((size_t)ASPEN_BACKUP_ROW * (backups))
+#define aspen_cells_size(l) ((size_t)ASPEN_CELL_ROW * (l))
+#define aspen_blocks_size(n) ((size_t)ASPEN_BLOCK_ROW * (n))
+
+/* Numbers in rows that stand for none. */
+#define ASPEN_UNMAPPED_PBN 65535  /* no pool block at this LBN; ASPEN_UNMAPPED is a refusal */
+#define ASPEN_NO_END 65535        /* no last day: the newest backup is always kept */
+
 /* What the functions return: 0, or the number of a refusal. */
 enum aspen_result {
     ASPEN_OK = 0,
@@ -81,7 +104,7 @@ enum aspen_result {
     ASPEN_BAD_LBN = 17,       /* the LBN is l or more */
     ASPEN_UNMAPPED = 18,      /* that backup has no block at this LBN */
     ASPEN_BAD_INPUT = 19,     /* writer: a wrong l, a mark that isn't 0 or 1, or a wrong length */
-    ASPEN_SHORT_OUTPUT = 20   /* writer: the output is shorter than the list */
+    ASPEN_SHORT_OUTPUT = 20   /* the output is shorter than what is to be written */
 };
 
 /*
@@ -175,6 +198,81 @@ uint16_t aspen_count(const uint8_t *book, size_t book_len, uint16_t *blocks, uin
                      uint16_t *waiting, uint32_t *references);
 
 /*
+ * What a host shows of a book: it needs to know no place in it. These calls write neither book nor
+ * pool. Rows are made of numbers of two bytes, which aspen_u16 reads. An output may be longer than
+ * its rows; what follows them is as it was.
+ */
+
+/*
+ * Tells the sizes that the book was formatted with.
+ *
+ * Answers: *blocks, pool blocks; *cells, logical blocks of each volume; *slots, backups that the
+ * book has room for; *records, changes that it has room for.
+ *
+ * Returns ASPEN_OK, ASPEN_BAD_LAYOUT or ASPEN_BAD_FORM.
+ */
+uint16_t aspen_sizes(const uint8_t *book, size_t book_len, uint16_t *blocks, uint16_t *cells,
+                     uint16_t *slots, uint16_t *records);
+
+/*
+ * Tells how much of the book is used.
+ *
+ * Answers: *slots, backups so far; *records, changes so far; *day, the book's day.
+ *
+ * Returns ASPEN_OK, ASPEN_BAD_LAYOUT or ASPEN_BAD_FORM.
+ */
+uint16_t aspen_used(const uint8_t *book, size_t book_len, uint16_t *slots, uint16_t *records,
+                    uint16_t *day);
+
+/*
+ * Tells about an enrolled volume.
+ *
+ * Answers: *retention, the days that it was enrolled with; *backups, how many it has.
+ *
+ * Returns ASPEN_OK, ASPEN_BAD_LAYOUT, ASPEN_BAD_FORM or ASPEN_BAD_VOLUME.
+ */
+uint16_t aspen_volume(const uint8_t *book, size_t book_len, uint16_t volume, uint16_t *retention,
+                      uint16_t *backups);
+
+/*
+ * Lists the backups of a volume, from number 1 on. A row of ASPEN_BACKUP_ROW bytes has four
+ * numbers:
+ *   0  the backup's day
+ *   2  how many changes it has
+ *   4  the last day on which it is kept, ASPEN_NO_END for the newest
+ *   6  1 if it is kept at the book's day, else 0
+ * aspen_backups_size(backups) bytes are enough, with the backups that aspen_volume answers.
+ *
+ * Answer: *count, how many rows were written.
+ *
+ * Returns ASPEN_OK, ASPEN_BAD_LAYOUT, ASPEN_BAD_FORM, ASPEN_BAD_VOLUME or ASPEN_SHORT_OUTPUT.
+ */
+uint16_t aspen_backups(const uint8_t *book, size_t book_len, uint16_t volume, uint8_t *out,
+                       size_t out_len, uint16_t *count);
+
+/*
+ * Writes a volume's current map: for each LBN a row of ASPEN_CELL_ROW bytes with the number of the
+ * pool block there, ASPEN_UNMAPPED_PBN if there is none. aspen_cells_size(l) bytes are enough.
+ *
+ * Returns ASPEN_OK, ASPEN_BAD_LAYOUT, ASPEN_BAD_FORM, ASPEN_BAD_VOLUME or ASPEN_SHORT_OUTPUT.
+ */
+uint16_t aspen_cells(const uint8_t *book, size_t book_len, uint16_t volume, uint8_t *out,
+                     size_t out_len);
+
+/*
+ * Lists the blocks of the pool. A row of ASPEN_BLOCK_ROW bytes has three numbers and the
+ * fingerprint:
+ *   0  1 if the block is held, 0 if it is free
+ *   2  its count: the cells of current maps that name it
+ *   4  its expiry: the last day on which older backups need it, 0 if none ever did
+ *   6  its fingerprint of ASPEN_PRINT_SIZE bytes, all 0 if it is free
+ * aspen_blocks_size(n) bytes are enough.
+ *
+ * Returns ASPEN_OK, ASPEN_BAD_LAYOUT, ASPEN_BAD_FORM or ASPEN_SHORT_OUTPUT.
+ */
+uint16_t aspen_blocks(const uint8_t *book, size_t book_len, uint8_t *out, size_t out_len);
+
+/*
  * Writes the change list of the marked blocks of a volume of l blocks, for aspen_backup.
  *   marks   l bytes, 1 for a block that changed and 0 for one that didn't
  *   prints  l fingerprints of ASPEN_PRINT_SIZE bytes
@@ -188,6 +286,42 @@ uint16_t aspen_count(const uint8_t *book, size_t book_len, uint16_t *blocks, uin
 uint16_t aspen_write_list(uint16_t l, const uint8_t *marks, size_t marks_len,
                           const uint8_t *prints, size_t prints_len, const uint8_t *image,
                           size_t image_len, uint8_t *list, size_t list_len, uint32_t *written);
+
+/* A short text for a number that a function returned. */
+static inline const char *aspen_text(uint16_t number)
+{
+    static const char *const texts[] = {
+        "accepted",
+        "the book's length, layout number or sizes are wrong",
+        "the book is out of form: it is damaged",
+        "the pool has the wrong length",
+        "the spare is shorter than the book",
+        "no such volume, or not enrolled; for enrol, enrolled already",
+        "the retention is out of range",
+        "the day is above the limit or too early",
+        "no change list for this book",
+        "all backup slots are used",
+        "not enough records left",
+        "a held block with this fingerprint has other bytes",
+        "no block of the pool is free",
+        "a replaced block has count 0: the book is damaged",
+        "the block's count is 255 already",
+        "the volume has no backup of this number",
+        "the backup isn't kept any more",
+        "the volume has no such LBN",
+        "the backup has no block at this LBN",
+        "the writer's inputs are wrong",
+        "the output is too short"
+    };
+
+    return number < sizeof texts / sizeof texts[0] ? texts[number] : "no number of the box";
+}
+
+/* The number of two bytes that starts here, as rows and change lists have them. */
+static inline uint16_t aspen_u16(const uint8_t *at)
+{
+    return (uint16_t)(at[0] | at[1] << 8);
+}
 
 #ifdef __cplusplus
 }

@@ -1,10 +1,11 @@
-/* Tests of what an aid uses: libwriter.a, and the header's sizes. */
+/* Tests of what an aid uses: libwriter.a, and what the header has by itself. */
 #include "check.h"
 #include "tests.h"
 
 int main(void)
 {
     test_sizes();
+    test_texts();
     test_writer();
     return check_report();
 }

@@ -7,7 +7,7 @@ warnings=(-Wall -Wextra -Werror -pedantic)
 # The sources of a program, by name.
 units_of() {
     case $1 in
-    aid) printf '%s\n' aid sizes writer ;;
+    aid) printf '%s\n' aid sizes texts writer ;;
     engine) printf '%s\n' engine form cases format_audit count refusals lists changes calls box ;;
     esac
     printf '%s\n' check buffer books
@@ -46,12 +46,24 @@ variant() {
     done
 }
 
+# The header in an empty program, by a compiler; its inline functions may go unused there.
+is_included() {
+    echo '#include <aspen.h>' | "$@" "${warnings[@]}" -I../include -fsyntax-only -
+}
+
+# The header's version is that of the pkg-config file.
+same_version() (
+    version=$(sed -n 's/^Version: //p' ../aspen.pc.in)
+    [ -n "$version" ] && grep -x "#define ASPEN_VERSION \"$version\"" ../include/aspen.h
+)
+
 # The guards see writes outside the buffers. Without them valgrind sees the reads too.
 c_programs() {
     local sanitize="-fsanitize=address,undefined -fno-sanitize-recover=all"
     local under="valgrind --quiet --error-exitcode=1 --leak-check=full"
-    check "header as C99" "$CC" -std=c99 "${warnings[@]}" -fsyntax-only -x c ../include/aspen.h
-    check "header as C++11" "$CXX" -std=c++11 "${warnings[@]}" -fsyntax-only -x c++ ../include/aspen.h
+    check "header as C99" is_included "$CC" -std=c99 -x c
+    check "header as C++11" is_included "$CXX" -std=c++11 -x c++
+    check "version of the header" same_version
     variant c99 "" "$CC" "$CC -std=c99"
     variant c++11 "" "$CXX" "$CXX -std=c++11 -x c++"
     variant sanitized "" "$CC $sanitize" "$CC -std=c99 -g $sanitize"
@@ -116,14 +128,27 @@ is_installed() (
     [ -f include/aspen.h ] && [ -f share/man/man3/aspen.3 ]
 )
 
-uninstalls() {
-    makes uninstall && [ -z "$(find "$scratch/dest" -type f)" ]
-}
+# The functions in the manual page's synopsis, and nothing else, have a page that leads there.
+has_links() (
+    cd "$scratch/dest/opt/aspen/share/man" || exit 1
+    sed -n '/^\.SH SYNOPSIS/,/^\.SH DESCRIPTION/p' man3/aspen.3 |
+        grep -o 'aspen_[a-z0-9_]*(' | tr -d '(' | sort >"$scratch/functions"
+    grep -lx '\.so man3/aspen\.3' man3/aspen_*.3 | sed 's|man3/\(.*\)\.3|\1|' | sort >"$scratch/links"
+    grep -x aspen_backup "$scratch/links" && diff "$scratch/functions" "$scratch/links"
+)
+
+# A page of somebody else's stays.
+uninstalls() (
+    other=$scratch/dest/opt/aspen/share/man/man3/aspen_other.3
+    echo 'another page' >"$other"
+    makes uninstall && [ "$(find "$scratch/dest" -type f)" = "$other" ]
+)
 
 c_install() {
     local program
     check "make install" makes install
     check "files installed" is_installed
+    check "manual pages of the functions" has_links
     if command -v pkg-config >/dev/null; then
         for program in aid engine; do
             check "program $program from the installed files" uses_installed $program

@@ -7,8 +7,27 @@
 /* Sizes are constant expressions. */
 enum {
     SMALLEST_BOOK = aspen_book_size(1, 1, 1, 1),
-    LARGEST_LIST = aspen_list_bound(ASPEN_MAX_LBNS)
+    LARGEST_LIST = aspen_list_bound(ASPEN_MAX_LBNS),
+    LARGEST_ROWS = aspen_blocks_size(ASPEN_MAX_BLOCKS)
 };
+
+static void test_rows(void)
+{
+    const uint16_t cells = ASPEN_MAX_LBNS;
+
+    check_about("rows");
+    CHECK_EQ(ASPEN_BACKUP_ROW, 4 * 2);
+    CHECK_EQ(ASPEN_CELL_ROW, 2);
+    CHECK_EQ(ASPEN_BLOCK_ROW, 3 * 2 + ASPEN_PRINT_SIZE);
+    CHECK_EQ(aspen_backups_size(0), 0);
+    CHECK_EQ(aspen_backups_size(1 + 2), 24);
+    CHECK_EQ(aspen_backups_size(ASPEN_MAX_SLOTS), 8192);
+    CHECK_EQ(aspen_cells_size(cells), 2048);
+    CHECK_EQ(aspen_blocks_size(4), 88);
+    CHECK_EQ(LARGEST_ROWS, 90112);
+    CHECK_EQ(ASPEN_UNMAPPED_PBN, 65535);
+    CHECK_EQ(ASPEN_NO_END, 65535);
+}
 
 void test_sizes(void)
 {
@@ -28,4 +47,5 @@ void test_sizes(void)
     CHECK_EQ(ASPEN_MAX_RETENTION, 5000);
     CHECK_EQ(ASPEN_MAX_DAY, 60000);
     CHECK_EQ(ASPEN_VOLUMES, 8);
+    test_rows();
 }

@@ -4,6 +4,7 @@
 
 /* With libwriter.a. */
 void test_sizes(void);
+void test_texts(void);
 void test_writer(void);
 
 /* With libengine.a. */

@@ -1,6 +1,10 @@
 //! What the box and the plain store must have alike after any list of calls: the held blocks
 //! with PBN, fingerprint and bytes, and the current maps of all volumes.
 
+mod views;
+
+pub use views::check_view;
+
 use crate::form;
 use crate::layout::{HELD, VOLUMES};
 use crate::plain::Plain;

@@ -89,7 +89,7 @@ pub fn write(
         && image.len() == BLOCK_BYTES * number;
     require(input_holds, Refusal::WriterInput)?;
     let list = marked_blocks(marks, fingerprints, image);
-    require(output.len() >= list.len(), Refusal::WriterOutput)?;
+    require(output.len() >= list.len(), Refusal::ShortOutput)?;
     output[..list.len()].copy_from_slice(&list);
     Ok(list.len() as u32)
 }

@@ -1,5 +1,5 @@
-//! The backup box written a second time, from document 01 alone: the model that the
-//! differential tests compare with.
+//! The backup box written a second time, from document 01 and the header's words alone: the
+//! model that the differential tests compare with.
 
 pub mod agreement;
 pub mod call;
@@ -16,3 +16,4 @@ pub mod random_lists;
 pub mod refusal;
 pub mod store;
 pub mod tally;
+pub mod view;

@@ -73,6 +73,33 @@ impl Plain {
         }
     }
 
+    pub fn sizes(&self) -> Sizes {
+        self.sizes
+    }
+
+    pub fn day(&self) -> u16 {
+        self.day
+    }
+
+    /// All backups, and all their changes.
+    pub fn used(&self) -> (usize, usize) {
+        let volumes = self.volumes.iter().flatten();
+        let backups = volumes.map(|volume| volume.backups.len()).sum();
+        (backups, self.changes)
+    }
+
+    /// A volume's retention, and the days of its backups.
+    pub fn volume(&self, volume: u16) -> Result<(u16, Vec<u16>), Refusal> {
+        let volume = self.enrolled(volume)?;
+        let days = volume.backups.iter().map(|(day, _)| *day);
+        Ok((volume.retention, days.collect()))
+    }
+
+    /// Whether backup `number`, from 1, is kept at `day`.
+    pub fn is_kept(&self, volume: u16, number: usize, day: u16) -> Result<bool, Refusal> {
+        Ok(self.enrolled(volume)?.is_kept(number, day))
+    }
+
     /// The held blocks in order.
     pub fn held(&self) -> impl Iterator<Item = (Pbn, &Content)> {
         held_in(&self.blocks)
@@ -165,10 +192,9 @@ impl Plain {
     }
 
     fn check_room(&self, changes: usize) -> Result<(), Refusal> {
-        let volumes = self.volumes.iter().flatten();
-        let backups: usize = volumes.map(|volume| volume.backups.len()).sum();
+        let (backups, before) = self.used();
         require(backups < usize::from(self.sizes.slots), Refusal::SlotsFull)?;
-        let records = self.changes + changes;
+        let records = before + changes;
         let fits = records <= usize::from(self.sizes.records);
         require(fits, Refusal::JournalFull)
     }

@@ -8,6 +8,10 @@ use crate::call::{Answer, Call, Stored};
 use crate::layout::{Sizes, DAY_MAX, RETENTION_RANGE};
 use crate::prng::Prng;
 use crate::random_lists::RandomLists;
+use crate::view::View;
+
+/// Volumes that there are, and some that there aren't.
+const ANY_VOLUME: [u16; 11] = [0, 1, 2, 3, 4, 5, 6, 7, 8, 256, 65_535];
 
 pub struct RandomCalls {
     prng: Prng,
@@ -84,6 +88,15 @@ impl RandomCalls {
         }
     }
 
+    /// A call that shows the book; another generator draws it, and the run goes on as it would.
+    pub fn view(&self, prng: &mut Prng) -> View {
+        let volume = match prng.below(6) {
+            0 => prng.pick(&ANY_VOLUME),
+            _ => prng.between(0, self.volumes - 1),
+        };
+        prng.pick(&View::all(volume))
+    }
+
     /// Learns from an answer how many backups a volume has.
     pub fn learn(&mut self, call: &Call, answer: &Answer) {
         if let (Call::Backup { volume, .. }, Answer::BackedUp(backed_up)) = (call, answer) {
@@ -101,7 +114,7 @@ impl RandomCalls {
     }
 
     fn any_volume(&mut self) -> u16 {
-        self.prng.pick(&[0, 1, 2, 3, 4, 5, 6, 7, 8, 256, 65_535])
+        self.prng.pick(&ANY_VOLUME)
     }
 
     fn volume(&mut self) -> u16 {

@@ -22,7 +22,7 @@ pub enum Refusal {
     LbnAbove = 17,
     Unmapped = 18,
     WriterInput = 19,
-    WriterOutput = 20,
+    ShortOutput = 20,
 }
 
 impl Refusal {

@@ -3,9 +3,11 @@
 
 mod audit;
 mod backup;
+mod views;
 
 pub use audit::Fault;
 pub use backup::backup;
+pub use views::{backups, blocks, cells, sizes, used, volume, Used, VolumeFacts, NO_END};
 
 use crate::form;
 use crate::layout::{

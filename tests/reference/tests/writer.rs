@@ -59,7 +59,7 @@ fn no_marks_give_two_zero_bytes() {
     let mut output = [9; 2];
     assert_eq!(aid.write(&mut output), Ok(2));
     assert_eq!(output, [0, 0]);
-    assert_eq!(aid.write(&mut [9; 1]), Err(Refusal::WriterOutput));
+    assert_eq!(aid.write(&mut [9; 1]), Err(Refusal::ShortOutput));
 }
 
 #[test]
@@ -81,7 +81,7 @@ fn the_reader_recovers_what_was_marked() {
         assert_eq!(aid.write(&mut exact), Ok(written as u32));
         assert_eq!(exact, output[..written]);
         let mut short = vec![7; written - 1];
-        assert_eq!(aid.write(&mut short), Err(Refusal::WriterOutput));
+        assert_eq!(aid.write(&mut short), Err(Refusal::ShortOutput));
         assert!(short.iter().all(|&byte| byte == 7));
     }
 }

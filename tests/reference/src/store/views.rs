@@ -1,0 +1,97 @@
+//! What a host is shown of a book. Rows are written only once nothing can be refused.
+
+use super::{enrolled, is_kept};
+use crate::form;
+use crate::layout::{Header, Sizes, HELD};
+use crate::refusal::{require, Refusal};
+
+/// The last day on which the newest backup is kept: none.
+pub const NO_END: u16 = 65_535;
+
+/// How much of a book is used.
+#[derive(Clone, Copy, Debug, PartialEq, Eq)]
+pub struct Used {
+    pub slots: u16,
+    pub records: u16,
+    pub day: u16,
+}
+
+#[derive(Clone, Copy, Debug, PartialEq, Eq)]
+pub struct VolumeFacts {
+    pub retention: u16,
+    pub backups: u16,
+}
+
+pub fn sizes(book: &[u8]) -> Result<Sizes, Refusal> {
+    form::check(book).map(|book| book.sizes())
+}
+
+pub fn used(book: &[u8]) -> Result<Used, Refusal> {
+    let book = form::check(book)?;
+    Ok(Used {
+        slots: book.header(Header::SlotsUsed),
+        records: book.header(Header::RecordsUsed),
+        day: book.header(Header::Day),
+    })
+}
+
+pub fn volume(book: &[u8], volume: u16) -> Result<VolumeFacts, Refusal> {
+    let book = form::check(book)?;
+    let volume = enrolled(&book, volume)?;
+    Ok(VolumeFacts {
+        retention: book.retention(volume),
+        backups: book.used_slots_of(volume).len() as u16,
+    })
+}
+
+/// Day, number of records, last day kept, and whether it is kept, for each backup from number 1 on;
+/// answers how many backups.
+pub fn backups(book: &[u8], volume: u16, output: &mut [u8]) -> Result<u16, Refusal> {
+    let book = form::check(book)?;
+    let volume = enrolled(&book, volume)?;
+    let slots = book.used_slots_of(volume);
+    let (retention, day) = (book.retention(volume), book.header(Header::Day));
+    let mut rows = Vec::new();
+    for (number, slot) in (1..).zip(&slots) {
+        let next = slots.get(number);
+        let until = next.map_or(NO_END, |next| next.day + retention);
+        let kept = is_kept(&slots, number, retention, day);
+        push(&mut rows, &[slot.day, slot.number, until, kept.into()]);
+    }
+    write(&rows, output)?;
+    Ok(slots.len() as u16)
+}
+
+/// The PBN of each cell of the volume's current map.
+pub fn cells(book: &[u8], volume: u16, output: &mut [u8]) -> Result<(), Refusal> {
+    let book = form::check(book)?;
+    let volume = enrolled(&book, volume)?;
+    let mut rows = Vec::new();
+    for cell in book.map(volume) {
+        push(&mut rows, &[cell.0]);
+    }
+    write(&rows, output)
+}
+
+/// Whether it is held, count, expiry and fingerprint, for each block of the pool.
+pub fn blocks(book: &[u8], output: &mut [u8]) -> Result<(), Refusal> {
+    let book = form::check(book)?;
+    let mut rows = Vec::new();
+    for entry in book.pbns().map(|pbn| book.entry(pbn)) {
+        let held = entry.state == HELD;
+        push(&mut rows, &[held.into(), entry.count.into(), entry.expiry]);
+        rows.extend(entry.fingerprint);
+    }
+    write(&rows, output)
+}
+
+fn push(rows: &mut Vec<u8>, numbers: &[u16]) {
+    rows.extend(numbers.iter().flat_map(|number| number.to_le_bytes()));
+}
+
+/// Writes the rows where the output starts, if it has room for them.
+fn write(rows: &[u8], output: &mut [u8]) -> Result<(), Refusal> {
+    require(output.len() >= rows.len(), Refusal::ShortOutput)?;
+    output[..rows.len()].copy_from_slice(rows);
+    Ok(())
+}
