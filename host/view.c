@@ -32,7 +32,7 @@ struct volume view_volume(struct bytes book, uint16_t volume)
 struct bytes view_backups(struct bytes book, uint16_t volume)
 {
     size_t count = view_volume(book, volume).backups;
-    struct bytes rows = bytes_new(ASPEN_BACKUP_ROW * count);
+    struct bytes rows = bytes_new(aspen_backups_size(count));
     uint16_t told = 0;
 
     expect_done(aspen_backups(book.at, book.length, volume, rows.at, rows.length, &told));
@@ -54,7 +54,7 @@ struct backup view_backup(struct bytes rows, uint16_t number)
 
 struct bytes view_cells(struct bytes book, uint16_t volume)
 {
-    struct bytes rows = bytes_new((size_t)ASPEN_CELL_ROW * view_figures(book).cells);
+    struct bytes rows = bytes_new(aspen_cells_size(view_figures(book).cells));
 
     expect_done(aspen_cells(book.at, book.length, volume, rows.at, rows.length));
     return rows;
@@ -67,7 +67,7 @@ uint16_t view_cell(struct bytes rows, uint16_t lbn)
 
 struct bytes view_blocks(struct bytes book)
 {
-    struct bytes rows = bytes_new((size_t)ASPEN_BLOCK_ROW * view_figures(book).blocks);
+    struct bytes rows = bytes_new(aspen_blocks_size(view_figures(book).blocks));
 
     expect_done(aspen_blocks(book.at, book.length, rows.at, rows.length));
     return rows;
