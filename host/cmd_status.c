@@ -118,7 +118,8 @@ static void show_volume_text(const struct store *store, uint16_t volume,
     if (newest->volume.backups == 0)
         say("volume %u: no backup yet", volume);
     else
-        say("volume %u: %u backups, the newest of %s, %ld days %s", volume, newest->volume.backups,
+        say("volume %u: %u backup%s, the newest of %s, %ld days %s", volume,
+            newest->volume.backups, newest->volume.backups == 1 ? "" : "s",
             store_date(store, newest->day, date), labs(newest->age),
             newest->age < 0 ? "ahead of the clock" : "ago");
 }

@@ -88,7 +88,7 @@ void lock_take(struct lock *lock, const char *folder, enum lock_use use, bool wa
 {
     struct bytes bytes;
 
-    lock->path = join_text(folder, "/", "lock");
+    *lock = (struct lock){.path = join_text(folder, "/", "lock")};
     lock->fd = file_open(lock->path, use == LOCK_TO_WRITE ? O_RDWR : O_RDONLY);
     if (lock->fd < 0 && file_missing())
         fail(STATUS_STORE, "%s is no store: it has no file lock; aspenbox format makes a store",
@@ -109,7 +109,7 @@ void lock_take_new(struct lock *lock, const char *folder, bool wait)
     static const char ours[] = FIRST_LINE;
     struct bytes bytes;
 
-    lock->path = join_text(folder, "/", "lock");
+    *lock = (struct lock){.path = join_text(folder, "/", "lock")};
     lock->fd = file_open(lock->path, O_RDWR | O_CREAT);
     if (lock->fd < 0)
         fail(STATUS_FILES, "%s", file_failure());
