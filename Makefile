@@ -9,8 +9,11 @@ check:
 
 # The program aspenbox, in target/host.
 host:
+	@echo "make host: building the library; each crate is proved first, which takes minutes once"
 	@scripts/archives
+	@echo "make host: building the program from host/ and the library"
 	@scripts/host
+	@echo "make host: done; the program is $(CURDIR)/target/host/aspenbox"
 
 # Ten million calls of the archives compared with the second implementation's.
 soak:

@@ -14,7 +14,7 @@ void streams_secure(void)
 
         if (fcntl(fd, F_GETFD) >= 0 || errno != EBADF)
             continue;
-        if (open("/dev/null", flags) != fd)
+        if (open("/dev/null", flags, 0) != fd)
             _exit(STATUS_FILES);
     }
 }

@@ -17,7 +17,7 @@ aspenbox_make() {
 }
 
 aspenbox_backup() {
-    "$aspenbox" backup "$work/$1" "$2" "$work/aids/volume-$2.img" --day "${dates[$3]}" --state "$work/$1-beside/volume-$2"
+    "$aspenbox" backup "$work/$1" "$2" "$work/aids/volume-$2.img" --day "${dates[$3]}"
 }
 
 aspenbox_prune() {

@@ -72,5 +72,5 @@ print_table() {
     row "start of the program ($(count_of start))" times_of start
     row "all backups and prunes of the month, **s**" sum_of
     row "bytes on disk at the end" bytes_of ""
-    row "bytes beside it: state files or cache" bytes_of -beside
+    row "bytes beside it: cache" bytes_of -beside
 }
