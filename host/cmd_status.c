@@ -92,7 +92,7 @@ static void warn(struct summary *summary)
 {
     for (size_t i = 0; i < 3; i++)
         if (is_nearly_full(summary, &summary->fills[i])) {
-            note("the %s is %u %% full", summary->fills[i].name, percent_of(&summary->fills[i]));
+            note("%s: %u %% full", summary->fills[i].name, percent_of(&summary->fills[i]));
             summary->warnings++;
         }
     for (uint16_t volume = 0; volume < ASPEN_VOLUMES; volume++) {
@@ -101,9 +101,9 @@ static void warn(struct summary *summary)
         if (!newest.volume.enrolled || !is_old(summary, &newest))
             continue;
         if (newest.volume.backups == 0)
-            note("volume %u has no backup yet", volume);
+            note("volume %u: no backup yet", volume);
         else
-            note("the newest backup of volume %u is %ld days old", volume, newest.age);
+            note("volume %u: its newest backup is %ld days old", volume, newest.age);
         summary->warnings++;
     }
 }
@@ -118,10 +118,10 @@ static void show_volume_text(const struct store *store, uint16_t volume,
     if (newest->volume.backups == 0)
         say("volume %u: no backup yet", volume);
     else
-        say("volume %u: %u backup%s, the newest of %s, %ld days %s", volume,
+        say("volume %u: %u backup%s, the newest of %s, %ld day%s %s", volume,
             newest->volume.backups, newest->volume.backups == 1 ? "" : "s",
             store_date(store, newest->day, date), labs(newest->age),
-            newest->age < 0 ? "ahead of the clock" : "ago");
+            labs(newest->age) == 1 ? "" : "s", newest->age < 0 ? "ahead of the clock" : "ago");
 }
 
 static void show_text(const struct summary *summary)

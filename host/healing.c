@@ -1,6 +1,7 @@
 #include "healing.h"
 
 #include "messages.h"
+#include "prints.h"
 #include "view.h"
 
 #include <aspen.h>
@@ -48,7 +49,8 @@ uint16_t heal_pool(struct store *store, const struct image *image, struct bytes 
         if (found == NULL)
             continue;
         stored = store->pool.at + aspen_pool_size(found->pbn);
-        if (memcmp(stored, bytes, ASPEN_BLOCK_SIZE) == 0)
+        /* Other bytes that fit as well are for the library to refuse (11). */
+        if (memcmp(stored, bytes, ASPEN_BLOCK_SIZE) == 0 || print_fits(stored, wanted.print))
             continue;
         memcpy(stored, bytes, ASPEN_BLOCK_SIZE);
         marks.at[found->pbn] = 1;

@@ -68,6 +68,7 @@ static bool parse(struct lock *lock, const char *text)
         lock->id[i] = (uint8_t)strtoul(digits, NULL, 16);
     }
     compose(lock, again);
+    lock->sealed = length == FILE_LENGTH;
     return strncmp(again, text, length) == 0;
 }
 

@@ -9,14 +9,15 @@
 #define ASPENBOX_SEAL_H
 
 #include "lengths.h"
+#include "lock.h"
 #include "memory.h"
 
 /* The most bytes that follow a book. */
 size_t seal_limit(void);
 
-/* Takes the file apart. What has no seal, or one that doesn't fit the file's length, is taken for a
- * book alone. Answers what is wrong with the file, or null. */
-const char *seal_open(struct bytes file, const uint8_t *store_id, struct bytes *book,
+/* Takes the file of a store apart. What has no seal, or one that doesn't fit the file's length, is
+ * taken for a book alone. Answers what is wrong with the file, or null. */
+const char *seal_open(struct bytes file, const struct lock *lock, struct bytes *book,
                       struct lengths *lengths);
 
 /* The file for a book; the caller frees it. */
