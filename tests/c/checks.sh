@@ -8,7 +8,9 @@ warnings=(-Wall -Wextra -Werror -pedantic)
 units_of() {
     case $1 in
     aid) printf '%s\n' aid sizes texts writer ;;
-    engine) printf '%s\n' engine form cases format_audit count refusals lists changes calls box ;;
+    engine)
+        printf '%s\n' engine form cases format_audit count views refusals lists changes calls box
+        ;;
     esac
     printf '%s\n' check buffer books
 }
@@ -133,7 +135,8 @@ has_links() (
     cd "$scratch/dest/opt/aspen/share/man" || exit 1
     sed -n '/^\.SH SYNOPSIS/,/^\.SH DESCRIPTION/p' man3/aspen.3 |
         grep -o 'aspen_[a-z0-9_]*(' | tr -d '(' | sort >"$scratch/functions"
-    grep -lx '\.so man3/aspen\.3' man3/aspen_*.3 | sed 's|man3/\(.*\)\.3|\1|' | sort >"$scratch/links"
+    grep -lx '\.so man3/aspen\.3' man3/aspen_*.3 |
+        sed 's|man3/\(.*\)\.3|\1|' | sort >"$scratch/links"
     grep -x aspen_backup "$scratch/links" && diff "$scratch/functions" "$scratch/links"
 )
 

@@ -9,6 +9,7 @@ int main(void)
     test_cases();
     test_audit();
     test_count();
+    test_views();
     test_refusals();
     test_lists();
     test_changes();

@@ -13,6 +13,7 @@ void test_format(void);
 void test_cases(void);
 void test_audit(void);
 void test_count(void);
+void test_views(void);
 void test_refusals(void);
 void test_lists(void);
 void test_changes(void);

@@ -22,7 +22,7 @@
 #include "../c/check.h"
 
 /* Answers before a call; no answer has these values. */
-#define UNTOUCHED 0xBEEFu
+#define UNTOUCHED 0xFEEDu
 #define UNTOUCHED_WIDE 0xDEADBEEFu
 
 struct control {

@@ -13,6 +13,12 @@ extern __typeof__(aspen_read) reference_read;
 extern __typeof__(aspen_audit) reference_audit;
 extern __typeof__(aspen_form) reference_form;
 extern __typeof__(aspen_count) reference_count;
+extern __typeof__(aspen_sizes) reference_sizes;
+extern __typeof__(aspen_used) reference_used;
+extern __typeof__(aspen_volume) reference_volume;
+extern __typeof__(aspen_backups) reference_backups;
+extern __typeof__(aspen_cells) reference_cells;
+extern __typeof__(aspen_blocks) reference_blocks;
 extern __typeof__(aspen_write_list) reference_write_list;
 
 /* A box as a seeded run of calls leaves it, with what the run would send next; the pointers are

@@ -59,7 +59,7 @@ pub struct Answered<T> {
 
 impl Answered<u16> {
     pub fn new() -> Self {
-        Answered::over(0xBEEF)
+        Answered::over(0xFEED)
     }
 }
 

@@ -1,8 +1,9 @@
 //! The functions of `include/aspen.h` on both sides: the archives', and the reference's.
 
 use reference_c::{
-    reference_audit, reference_backup, reference_collect, reference_count, reference_enrol,
-    reference_form, reference_format, reference_read, reference_write_list,
+    reference_audit, reference_backup, reference_backups, reference_blocks, reference_cells,
+    reference_collect, reference_count, reference_enrol, reference_form, reference_format,
+    reference_read, reference_sizes, reference_used, reference_volume, reference_write_list,
 };
 
 type Format = unsafe extern "C" fn(*mut u8, usize, u16, u16, u16, u16) -> u16;
@@ -28,6 +29,12 @@ type Read =
 type Audit = unsafe extern "C" fn(*const u8, usize, *mut u16) -> u16;
 type Form = unsafe extern "C" fn(*const u8, usize) -> u16;
 type Count = unsafe extern "C" fn(*const u8, usize, *mut u16, *mut u16, *mut u16, *mut u32) -> u16;
+type Sizes = unsafe extern "C" fn(*const u8, usize, *mut u16, *mut u16, *mut u16, *mut u16) -> u16;
+type Used = unsafe extern "C" fn(*const u8, usize, *mut u16, *mut u16, *mut u16) -> u16;
+type Volume = unsafe extern "C" fn(*const u8, usize, u16, *mut u16, *mut u16) -> u16;
+type Backups = unsafe extern "C" fn(*const u8, usize, u16, *mut u8, usize, *mut u16) -> u16;
+type Cells = unsafe extern "C" fn(*const u8, usize, u16, *mut u8, usize) -> u16;
+type Blocks = unsafe extern "C" fn(*const u8, usize, *mut u8, usize) -> u16;
 type WriteList = unsafe extern "C" fn(
     l: u16,
     marks: *const u8,
@@ -50,6 +57,12 @@ pub struct Interface {
     pub audit: Audit,
     pub form: Form,
     pub count: Count,
+    pub sizes: Sizes,
+    pub used: Used,
+    pub volume: Volume,
+    pub backups: Backups,
+    pub cells: Cells,
+    pub blocks: Blocks,
     pub write_list: WriteList,
 }
 
@@ -93,6 +106,44 @@ mod archive {
             waiting: *mut u16,
             references: *mut u32,
         ) -> u16;
+        pub fn aspen_sizes(
+            book: *const u8,
+            len: usize,
+            blocks: *mut u16,
+            cells: *mut u16,
+            slots: *mut u16,
+            records: *mut u16,
+        ) -> u16;
+        pub fn aspen_used(
+            book: *const u8,
+            len: usize,
+            slots: *mut u16,
+            records: *mut u16,
+            day: *mut u16,
+        ) -> u16;
+        pub fn aspen_volume(
+            book: *const u8,
+            len: usize,
+            volume: u16,
+            retention: *mut u16,
+            backups: *mut u16,
+        ) -> u16;
+        pub fn aspen_backups(
+            book: *const u8,
+            len: usize,
+            volume: u16,
+            out: *mut u8,
+            out_len: usize,
+            count: *mut u16,
+        ) -> u16;
+        pub fn aspen_cells(
+            book: *const u8,
+            len: usize,
+            volume: u16,
+            out: *mut u8,
+            out_len: usize,
+        ) -> u16;
+        pub fn aspen_blocks(book: *const u8, len: usize, out: *mut u8, out_len: usize) -> u16;
         pub fn aspen_write_list(
             l: u16,
             marks: *const u8,
@@ -117,6 +168,12 @@ pub const ARCHIVE: Interface = Interface {
     audit: archive::aspen_audit,
     form: archive::aspen_form,
     count: archive::aspen_count,
+    sizes: archive::aspen_sizes,
+    used: archive::aspen_used,
+    volume: archive::aspen_volume,
+    backups: archive::aspen_backups,
+    cells: archive::aspen_cells,
+    blocks: archive::aspen_blocks,
     write_list: archive::aspen_write_list,
 };
 
@@ -129,5 +186,11 @@ pub const REFERENCE: Interface = Interface {
     audit: reference_audit,
     form: reference_form,
     count: reference_count,
+    sizes: reference_sizes,
+    used: reference_used,
+    volume: reference_volume,
+    backups: reference_backups,
+    cells: reference_cells,
+    blocks: reference_blocks,
     write_list: reference_write_list,
 };

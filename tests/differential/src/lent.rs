@@ -3,6 +3,7 @@
 use reference::call::Call;
 use reference::layout::Sizes;
 use reference::prng::Prng;
+use reference::view::View;
 
 use crate::guarded::{Answered, Guarded};
 use crate::interface::Interface;
@@ -15,7 +16,7 @@ pub const REFERENCES: &str = "references";
 
 pub struct Lent {
     buffers: Vec<(&'static str, Guarded)>,
-    narrow: [Answered<u16>; 3],
+    narrow: [Answered<u16>; 4],
     wide: Answered<u32>,
 }
 
@@ -59,6 +60,39 @@ impl Lent {
         let references = self.wide.mut_pointer();
         // SAFETY: the buffer is as long as said, and the answers are lent numbers.
         unsafe { (side.count)(book, length, blocks, held, waiting, references) }
+    }
+
+    pub fn view(&mut self, side: &Interface, view: View) -> u16 {
+        if view.has_output() {
+            return self.rows(side, view);
+        }
+        let (book, length) = self.part(0);
+        let [a, b, c, d] = std::array::from_fn(|index| self.answer(index));
+        // SAFETY: the buffer is as long as said, and the answers are lent numbers.
+        unsafe {
+            match view {
+                View::Sizes => (side.sizes)(book, length, a, b, c, d),
+                View::Used => (side.used)(book, length, a, b, c),
+                View::Volume { volume } => (side.volume)(book, length, volume, a, b),
+                _ => unreachable!("the others have outputs"),
+            }
+        }
+    }
+
+    fn rows(&mut self, side: &Interface, view: View) -> u16 {
+        let [book, out] = std::array::from_fn(|index| self.part(index));
+        let count = self.answer(0);
+        // SAFETY: the buffers are apart and as long as said, and the answer is a lent number.
+        unsafe {
+            match view {
+                View::Backups { volume } => {
+                    (side.backups)(book.0, book.1, volume, out.0, out.1, count)
+                }
+                View::Cells { volume } => (side.cells)(book.0, book.1, volume, out.0, out.1),
+                View::Blocks => (side.blocks)(book.0, book.1, out.0, out.1),
+                _ => unreachable!("the others have no outputs"),
+            }
+        }
     }
 
     pub fn call(&mut self, side: &Interface, call: &Call) -> u16 {
@@ -118,7 +152,7 @@ impl Lent {
         for name in answers {
             let value = match *name {
                 PLACE | LENGTH | REFERENCES => wide,
-                _ => narrow.next().expect("three are lent").value()?,
+                _ => narrow.next().expect("four are lent").value()?,
             };
             values.push((*name, value));
         }

@@ -5,10 +5,11 @@ use std::slice::from_raw_parts_mut;
 use reference::call::{Call, Stored};
 use reference::cases;
 use reference::prng::Prng;
+use reference::view::View;
 
 use crate::coverage::Coverage;
 use crate::interface::{Interface, REFERENCE};
-use crate::request::Request;
+use crate::request::{Request, Viewed};
 use crate::seen;
 
 const REFUSED: Call = Call::Collect { day: 0 };
@@ -17,7 +18,20 @@ const ACCEPTED: Call = Call::Collect { day: 9 };
 /// What the comparison says of a call on the box after case d.
 fn compared(archive: &Interface, call: &Call) -> Result<(), String> {
     let stored = &cases::after_d();
-    let request = Request::Call { stored, call };
+    sent(archive, Request::Call { stored, call })
+}
+
+/// And of the map of its volume 0 in an output of so many bytes.
+fn compared_cells(archive: &Interface, room: usize) -> Result<(), String> {
+    let viewed = &Viewed {
+        book: &cases::after_d().book,
+        view: View::Cells { volume: 0 },
+        output: vec![7; room],
+    };
+    sent(archive, Request::View(viewed))
+}
+
+fn sent(archive: &Interface, request: Request) -> Result<(), String> {
     let mut prng = Prng::seeded(0);
     let ours = request.send(&mut prng, archive)?;
     let expected = request.send(&mut prng, &REFERENCE)?;
@@ -104,6 +118,50 @@ fn a_refused_call_that_changes_the_book_is_noticed() {
     let seen = request.send(&mut Prng::seeded(0), &REFERENCE).unwrap();
     assert_eq!(seen.number, 1);
     assert!(seen::compare(&[("the book", &book)], &seen, &seen).is_err());
+}
+
+/// Writes before it looks whether there is room.
+unsafe extern "C" fn writes_first(
+    book: *const u8,
+    length: usize,
+    volume: u16,
+    out: *mut u8,
+    out_len: usize,
+) -> u16 {
+    *out ^= 1;
+    (REFERENCE.cells)(book, length, volume, out, out_len)
+}
+
+/// Writes a byte after the rows.
+unsafe extern "C" fn writes_more(
+    book: *const u8,
+    length: usize,
+    volume: u16,
+    out: *mut u8,
+    out_len: usize,
+) -> u16 {
+    *out.add(8) ^= 1;
+    (REFERENCE.cells)(book, length, volume, out, out_len)
+}
+
+#[test]
+fn an_output_that_is_written_elsewhere_is_noticed() {
+    for room in [7, 8, 9] {
+        assert_eq!(compared_cells(&REFERENCE, room), Ok(()));
+    }
+    let first = Interface {
+        cells: writes_first,
+        ..REFERENCE
+    };
+    assert_eq!(compared_cells(&first, 8), Ok(()));
+    assert!(compared_cells(&first, 7).is_err());
+    let more = Interface {
+        cells: writes_more,
+        ..REFERENCE
+    };
+    for room in [7, 8, 9] {
+        assert!(compared_cells(&more, room).is_err());
+    }
 }
 
 #[test]

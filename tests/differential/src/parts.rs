@@ -6,6 +6,7 @@ mod formats;
 mod lengths;
 mod runs;
 mod tested;
+mod views;
 mod writer;
 
 use reference::random_calls::Shape;

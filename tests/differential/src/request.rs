@@ -3,6 +3,7 @@
 use reference::call::{Call, Stored};
 use reference::layout::Sizes;
 use reference::prng::Prng;
+use reference::view::View;
 
 use crate::interface::Interface;
 use crate::lent::{Lent, LENGTH, PLACE, REFERENCES};
@@ -17,17 +18,25 @@ pub struct WriteList {
     pub output: Vec<u8>,
 }
 
+/// A call that shows a book, with its output; one without rows has none.
+pub struct Viewed<'a> {
+    pub book: &'a [u8],
+    pub view: View,
+    pub output: Vec<u8>,
+}
+
 #[derive(Clone, Copy)]
 pub enum Request<'a> {
     Format { book: &'a [u8], sizes: Sizes },
     Form { book: &'a [u8] },
     Count { book: &'a [u8] },
+    View(&'a Viewed<'a>),
     Call { stored: &'a Stored, call: &'a Call },
     WriteList(&'a WriteList),
 }
 
 /// The names of the calls, in the order of the coverage table.
-pub const NAMES: [&str; 9] = [
+pub const NAMES: [&str; 15] = [
     "format",
     "enrol",
     "backup",
@@ -36,6 +45,12 @@ pub const NAMES: [&str; 9] = [
     "audit",
     "form",
     "count",
+    "sizes",
+    "used",
+    "volume",
+    "backups",
+    "cells",
+    "blocks",
     "write_list",
 ];
 
@@ -47,6 +62,14 @@ impl<'a> Request<'a> {
             Request::Format { .. } => "format",
             Request::Form { .. } => "form",
             Request::Count { .. } => "count",
+            Request::View(viewed) => match viewed.view {
+                View::Sizes => "sizes",
+                View::Used => "used",
+                View::Volume { .. } => "volume",
+                View::Backups { .. } => "backups",
+                View::Cells { .. } => "cells",
+                View::Blocks => "blocks",
+            },
             Request::Call { call, .. } => match call {
                 Call::Enrol { .. } => "enrol",
                 Call::Backup { .. } => "backup",
@@ -63,6 +86,13 @@ impl<'a> Request<'a> {
         match *self {
             Request::Format { book, .. } | Request::Form { book } | Request::Count { book } => {
                 vec![("the book", book)]
+            }
+            Request::View(viewed) => {
+                let mut buffers: Sent = vec![("the book", viewed.book)];
+                if viewed.view.has_output() {
+                    buffers.push(("the output", &viewed.output));
+                }
+                buffers
             }
             Request::Call { stored, call } => {
                 let mut buffers: Sent = vec![("the book", &stored.book)];
@@ -91,6 +121,7 @@ impl<'a> Request<'a> {
             Request::Format { sizes, .. } => lent.format(side, sizes),
             Request::Form { .. } => lent.form(side),
             Request::Count { .. } => lent.count(side),
+            Request::View(viewed) => lent.view(side, viewed.view),
             Request::Call { call, .. } => lent.call(side, call),
             Request::WriteList(input) => lent.write_list(side, input.lbns),
         };
@@ -105,6 +136,10 @@ impl<'a> Request<'a> {
             "audit" => &["the audit's answer"],
             "read" => &[PLACE],
             "count" => &["blocks", "held", "waiting", REFERENCES],
+            "sizes" => &["blocks", "cells", "slots", "records"],
+            "used" => &["slots used", "records used", "the day"],
+            "volume" => &["the retention", "the backups"],
+            "backups" => &["the count"],
             "write_list" => &[LENGTH],
             _ => &[],
         }

@@ -4,13 +4,15 @@
 mod backup;
 mod buffers;
 mod others;
+mod views;
 mod writer;
 
 use std::collections::BTreeMap;
 
 use reference::call::Call;
+use reference::view::View;
 
-use crate::request::Request;
+use crate::request::{Request, Viewed};
 use crate::seen::Seen;
 
 /// The shapes that a call may have, each with whether it has it.
@@ -35,6 +37,7 @@ impl Shapes {
             Request::Count { .. } if seen.number == 0 => {
                 self.count("count", others::count(seen));
             }
+            Request::View(viewed) => self.note_view(request.name(), viewed, seen),
             Request::WriteList(input) => {
                 self.count("write_list", writer::Written::new(input, seen).shapes());
             }
@@ -49,6 +52,20 @@ impl Shapes {
                 }
             }
             _ => {}
+        }
+    }
+
+    fn note_view(&mut self, name: &'static str, viewed: &Viewed, seen: &Seen) {
+        if viewed.view.has_output() {
+            self.count(name, views::output(viewed, seen.number));
+        }
+        if let View::Volume { volume } | View::Backups { volume } | View::Cells { volume } =
+            viewed.view
+        {
+            self.count(name, views::volume(volume, seen.number));
+        }
+        if seen.number == 0 {
+            self.count(name, views::shown(viewed, seen));
         }
     }
 

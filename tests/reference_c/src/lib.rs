@@ -6,8 +6,13 @@
 #![allow(clippy::missing_safety_doc, clippy::too_many_arguments)]
 
 mod make;
+mod views;
 
 pub use make::{reference_make, Made};
+pub use views::{
+    reference_backups, reference_blocks, reference_cells, reference_sizes, reference_used,
+    reference_volume,
+};
 
 use std::slice::{from_raw_parts, from_raw_parts_mut};
 

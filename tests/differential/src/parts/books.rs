@@ -8,7 +8,7 @@ use reference::layout::BLOCK_BYTES;
 use reference::prng::Prng;
 use vectors::{edited, Edit, Vector};
 
-use super::Job;
+use super::{views, Job};
 use crate::outcome::Outcome;
 use crate::request::Request;
 
@@ -27,6 +27,7 @@ pub fn vectors() -> Vec<Job> {
             for vector in share(&VECTORS, job) {
                 let label = || format!("vector {}", vector.name);
                 send_all(outcome, &label, &vector.book);
+                views::send_all(outcome, &label, &vector.book, &[0, 1, 7]);
             }
         })
     };
@@ -45,7 +46,9 @@ pub fn pairs() -> Vec<Job> {
             for (index, second) in EDITS.iter().enumerate() {
                 for first in share(&EDITS[..index], job) {
                     let label = || format!("edits {} and {}", first.name, second.name);
-                    send_all(outcome, &label, &edited(&[first, second]));
+                    let book = edited(&[first, second]);
+                    send_all(outcome, &label, &book);
+                    views::send_all(outcome, &label, &book, &[0]);
                 }
             }
         })

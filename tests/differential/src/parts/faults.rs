@@ -5,11 +5,12 @@ use reference::cases;
 use reference::layout::{Book, Header, Pbn};
 use reference::prng::Prng;
 use reference::store;
+use reference::view::View;
 
-use super::Job;
+use super::{views, Job};
 use crate::outcome::Outcome;
 use crate::request::Request;
-use crate::seen::equal;
+use crate::seen::{equal, Seen};
 
 /// The numbers that each call is tried with; the faults of a set go together.
 const BACKUP: &[u16] = &[1, 2, 3, 4, 5, 7, 8, 9, 10, 11, 13, 14];
@@ -17,6 +18,9 @@ const READ: &[u16] = &[1, 2, 3, 5, 15, 16, 17, 18];
 const ENROL: &[u16] = &[1, 2, 5, 6];
 const COLLECT: &[u16] = &[1, 2, 7];
 const BOOK: &[u16] = &[1, 2];
+const VOLUME: &[u16] = &[1, 2, 5];
+const VOLUME_ROWS: &[u16] = &[1, 2, 5, 20];
+const BLOCK_ROWS: &[u16] = &[1, 2, 20];
 
 const PART: &str = "sets of faults";
 
@@ -33,6 +37,7 @@ pub fn jobs() -> Vec<Job> {
     let job = |(numbers, make)| Job::new(PART, move |o| send_calls(o, numbers, make));
     let mut jobs: Vec<Job> = calls.into_iter().map(job).collect();
     jobs.push(Job::new(PART, send_books));
+    jobs.push(Job::new(PART, send_views));
     jobs
 }
 
@@ -64,11 +69,32 @@ fn send_books(outcome: &mut Outcome) {
     }
 }
 
+/// What shows a book, with an output that is a byte short for 20.
+fn send_views(outcome: &mut Outcome) {
+    let mut prng = Prng::seeded(0);
+    let numbers = [BOOK, BOOK, VOLUME, VOLUME_ROWS, VOLUME_ROWS, BLOCK_ROWS];
+    for (index, numbers) in numbers.into_iter().enumerate() {
+        for faults in sets(numbers) {
+            let room = View::all(1)[index].output_bytes(&cases::after_d().book);
+            let room = room - usize::from(faults.has(20));
+            let view = View::all(faults.either(5, 8, 1))[index];
+            let book = &faults.stored().book[..];
+            let seen = views::send(outcome, &mut prng, &faults.label(), (book, view), room);
+            check_lowest(outcome, &faults, seen);
+        }
+    }
+}
+
 fn send(outcome: &mut Outcome, prng: &mut Prng, faults: &Faults, request: Request) {
-    let label = || format!("faults {:?}", faults.0);
-    if let Some(seen) = outcome.compare(prng, &label, request) {
+    let seen = outcome.compare(prng, &faults.label(), request);
+    check_lowest(outcome, faults, seen);
+}
+
+fn check_lowest(outcome: &mut Outcome, faults: &Faults, seen: Option<Seen>) {
+    if let Some(seen) = seen {
         let lowest = faults.0.first().copied().unwrap_or(0);
-        outcome.check(&label, equal("the lowest number", seen.number, lowest));
+        let lowest = equal("the lowest number", seen.number, lowest);
+        outcome.check(&faults.label(), lowest);
     }
 }
 
@@ -76,6 +102,10 @@ fn send(outcome: &mut Outcome, prng: &mut Prng, faults: &Faults, request: Reques
 struct Faults(Vec<u16>);
 
 impl Faults {
+    fn label(&self) -> impl Fn() -> String + '_ {
+        || format!("faults {:?}", self.0)
+    }
+
     fn has(&self, number: u16) -> bool {
         self.0.contains(&number)
     }

@@ -3,8 +3,9 @@
 use reference::call::{Call, Stored};
 use reference::cases;
 use reference::prng::Prng;
+use reference::view::View;
 
-use super::Job;
+use super::{views, Job};
 use crate::outcome::Outcome;
 use crate::request::{Request, WriteList};
 
@@ -20,7 +21,9 @@ fn lengths(right: usize) -> Vec<usize> {
 pub fn jobs() -> Vec<Job> {
     let box_jobs = (0..4).map(|buffer| Job::new(PART, move |o| send_box(o, buffer)));
     let writer_jobs = (0..4).map(|buffer| Job::new(PART, move |o| send_writer(o, buffer)));
-    box_jobs.chain(writer_jobs).collect()
+    let mut jobs: Vec<Job> = box_jobs.chain(writer_jobs).collect();
+    jobs.push(Job::new(PART, send_outputs));
+    jobs
 }
 
 fn resized(bytes: &[u8], length: usize) -> Vec<u8> {
@@ -47,6 +50,10 @@ fn send_box(outcome: &mut Outcome, buffer: usize) {
         let label = || format!("lengths, buffer {buffer} of {length} bytes");
         outcome.compare(&mut prng, &label, Request::Form { book: &book });
         outcome.compare(&mut prng, &label, Request::Count { book: &book });
+        for view in View::all(1) {
+            let room = view.output_bytes(&box_after_d.book);
+            views::send(outcome, &mut prng, &label, (&book, view), room);
+        }
         let request = Request::Format {
             book: &book,
             sizes: cases::SIZES,
@@ -79,6 +86,18 @@ fn calls(list: Vec<u8>) -> [Call; 5] {
         },
         Call::Audit,
     ]
+}
+
+/// The calls that show the book after case d, with their outputs resized.
+fn send_outputs(outcome: &mut Outcome) {
+    let mut prng = Prng::seeded(0);
+    let book = &cases::after_d().book[..];
+    for view in View::all(1).into_iter().filter(|view| view.has_output()) {
+        for length in lengths(view.output_bytes(book)) {
+            let label = || format!("lengths, an output of {length} bytes");
+            views::send(outcome, &mut prng, &label, (book, view), length);
+        }
+    }
 }
 
 /// The aid's writer with marks, fingerprints, image or output resized.

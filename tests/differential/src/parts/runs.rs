@@ -10,12 +10,16 @@ use reference::plain::Plain;
 use reference::prng::Prng;
 use reference::random_books::disturb;
 use reference::random_calls::{RandomCalls, Shape};
+use reference::view::View;
 
 use super::tested::Tested;
-use super::Job;
+use super::{views, Job};
 use crate::outcome::Outcome;
 use crate::request::Request;
 use crate::seen::{equal, Seen};
+
+/// All volumes, and one that there isn't.
+const ALL_VOLUMES: &[u16] = &[0, 1, 2, 3, 4, 5, 6, 7, 8];
 
 pub fn jobs(shape: Shape, seeds: Range<u64>) -> Vec<Job> {
     let part = match shape {
@@ -44,22 +48,41 @@ fn run(outcome: &mut Outcome, shape: Shape, seed: u64) {
     for index in 0..shape.calls() {
         let label = || format!("run {shape:?} {seed}, call {index}");
         let call = calls.next_call();
+        let view = calls.view(&mut prng);
+        views::send_any(outcome, &mut prng, &label, &tested.0.book, view);
         if prng.once_in(2) {
-            send_disturbed(outcome, &mut prng, &label, &tested.0, &call);
+            send_disturbed(outcome, &mut prng, &label, &tested.0, (&call, view));
         }
         let Some(seen) = tested.call(outcome, &mut prng, &label, &call) else {
             return;
         };
         let answer = plain.call(&call);
-        let Stored { book, pool, .. } = &tested.0;
         let label = || format!("{}, plain store", label());
-        outcome.check(&label, answers_agree(&answer, &seen, pool));
-        if matches!(answer, Answer::Freed(_)) || index + 1 == shape.calls() {
-            outcome.check(&label, agreement::check(book, pool, &plain));
-            send_count(outcome, &mut prng, &label, book, &plain);
+        outcome.check(&label, answers_agree(&answer, &seen, &tested.0.pool));
+        let volumes = match answer {
+            _ if index + 1 == shape.calls() => ALL_VOLUMES,
+            Answer::Freed(_) => &[prng.pick(ALL_VOLUMES)],
+            _ => &[],
+        };
+        if !volumes.is_empty() {
+            send_plain(outcome, &mut prng, &label, (&tested.0, &plain), volumes);
         }
         calls.learn(&call, &answer);
     }
+}
+
+/// The box has what the plain store has, and so it is counted and shown, with these volumes.
+fn send_plain(
+    outcome: &mut Outcome,
+    prng: &mut Prng,
+    label: &dyn Fn() -> String,
+    (stored, plain): (&Stored, &Plain),
+    volumes: &[u16],
+) {
+    let Stored { book, pool, .. } = stored;
+    outcome.check(label, agreement::check(book, pool, plain));
+    send_count(outcome, prng, label, book, plain);
+    views::send_plain(outcome, prng, label, (book, plain), volumes);
 }
 
 /// Counts as many held blocks as the plain store has, and a reference for each of its cells that
@@ -111,7 +134,7 @@ fn send_disturbed(
     prng: &mut Prng,
     label: &dyn Fn() -> String,
     stored: &Stored,
-    call: &Call,
+    (call, view): (&Call, View),
 ) {
     let stored = &disturbed(prng, stored);
     let label = || format!("{}, disturbed", label());
@@ -121,6 +144,7 @@ fn send_disturbed(
     let book = &stored.book;
     outcome.compare(prng, &label, Request::Form { book });
     outcome.compare(prng, &label, Request::Count { book });
+    views::send_any(outcome, prng, &label, book, view);
 }
 
 /// A copy with another book, and now and then other lengths of the buffers.

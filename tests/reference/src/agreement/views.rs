@@ -67,7 +67,7 @@ fn view_agrees(plain: &Plain, view: View, answers: &[u32], rows: &[u8]) -> Resul
 /// Each backup has its day, is kept to the last day in its row and no longer, and is said to be
 /// kept if it is.
 fn backups_agree(plain: &Plain, volume: u16, days: &[u16], rows: &[u8]) -> Result<bool, Refusal> {
-    for (number, row) in (1..=days.len()).zip(rows.chunks(8)) {
+    for (number, row) in (1..=days.len()).zip(rows.chunks_exact(8)) {
         let [day, until, kept] = [0, 4, 6].map(|at| get_u16(row, at));
         let is_kept = |day| plain.is_kept(volume, number, day);
         let ends = match until {

@@ -38,9 +38,10 @@ pub fn used(book: &[u8]) -> Result<Used, Refusal> {
 pub fn volume(book: &[u8], volume: u16) -> Result<VolumeFacts, Refusal> {
     let book = form::check(book)?;
     let volume = enrolled(&book, volume)?;
+    let slots = book.used_slots().filter(|slot| slot.volume == volume);
     Ok(VolumeFacts {
         retention: book.retention(volume),
-        backups: book.used_slots_of(volume).len() as u16,
+        backups: slots.count() as u16,
     })
 }
 
