@@ -145,9 +145,9 @@ uint16_t aspen_backup(uint8_t *book, size_t book_len, uint8_t *pool, size_t pool
                       uint16_t *touched);
 
 /*
- * Frees every held block with count 0 whose days ended before this day: in a sound book, exactly
- * those that no volume's current state and no backup kept on this day needs. The day may not be
- * before the book's, and becomes it.
+ * Frees every held block with count 0 whose days ended before this day: in a book that calls made,
+ * exactly those that no volume's current state and no backup kept on this day needs. The day may
+ * not be before the book's, and becomes it.
  *
  * Answer: *freed, how many.
  *
@@ -264,7 +264,7 @@ uint16_t aspen_cells(const uint8_t *book, size_t book_len, uint16_t volume, uint
  * fingerprint:
  *   0  1 if the block is held, 0 if it is free
  *   2  its count: the cells of current maps that name it
- *   4  its expiry: the last day on which older backups need it, 0 if none ever did
+ *   4  its expiry: once its count is 0, the last day on which a backup needs it
  *   6  its fingerprint of ASPEN_PRINT_SIZE bytes, all 0 if it is free
  * aspen_blocks_size(n) bytes are enough.
  *
