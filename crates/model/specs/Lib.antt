@@ -12,6 +12,8 @@ pub mod Read
 pub mod Audit
 pub mod AuditMeans
 pub mod OnBytes
+pub mod Views
+pub mod Written
 pub mod Plain
 pub mod PlainBackup
 pub mod Calls
