@@ -1,1 +1,4 @@
 pub mod Contracts
+pub mod Own
+pub mod Rows
+pub mod Told
