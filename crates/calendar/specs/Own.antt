@@ -20,10 +20,13 @@ pub record CountedTo (x : Book) (v q n : ℕ) : Type 0 where
   pub few : n ≤ q
   pub own : q < length (x .slots) → slotAt (x .slots) q .volume ≡ v
 
+same-length : {bs cs : List Backup} → bs ≡ cs → length bs ≡ length cs
+same-length e = ap (λ (l : List Backup). length l) e
+
 module _ {x : Book} {v : ℕ} where
   pub counted-none : {q : ℕ} → NextIs x v 0 q → CountedTo x v q 0
   counted-none n = record {
-    number = omega (arith, ap (λ (l : List Backup). length l) (sym (n .later) ∙ from-start x v));
+    number = omega (arith, same-length (sym (n .later) ∙ from-start x v));
     few = omega arith;
     own = n .own;
   }
@@ -31,10 +34,10 @@ module _ {x : Book} {v : ℕ} where
   module _ {q n : ℕ} (c : CountedTo x v q n) where
     pub counted-more : {next : ℕ} → q < length (x .slots) → NextIs x v (q + 1) next → CountedTo x v next (n + 1)
     counted-more h m = record {
-      number = omega (arith, c .number, ap (λ (l : List Backup). length l) (from-own x v q h (c .own h)), ap (λ (l : List Backup). length l) (m .later));
+      number = omega (arith, c .number, same-length (from-own x v q h (c .own h)), same-length (m .later));
       few = omega (arith, c .few, m .above);
       own = m .own;
     }
 
     pub counted-all : length (x .slots) ≤ q → n ≡ length (backups x v)
-    counted-all h = omega (arith, c .number, ap (λ (l : List Backup). length l) (from-end x v q h))
+    counted-all h = omega (arith, c .number, same-length (from-end x v q h))

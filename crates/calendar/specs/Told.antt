@@ -1,9 +1,8 @@
 -- The ways out of telling a volume's backups. Assumes nothing.
 use Prim.Native.Nat.{ℕ, zero, suc, _≤_, _<_}
-use mathlib.Core.Path.{_≡_, refl, sym, _∙_}
-use mathlib.Core.Bool.{not, _||_}
+use mathlib.Core.Path.{_≡_, refl, _∙_}
+use mathlib.Core.Bool.{not}
 use mathlib.Core.List.{List}
-use native.Mathlib.Omega.{arith}
 use lib.Dec.{ltb, eqb}
 use lib.ListN.{length}
 use lib.Seq.{sets}
@@ -16,7 +15,7 @@ use Rattle.book.specs.Layout.{bookOf}
 use Rattle.model.specs.Journal.{backups, noVolume}
 use Rattle.model.specs.OnBytes.{after}
 use Rattle.model.specs.Views.{volumeNumber, outputNumber, backupsOf, withRoom, backupsBytes}
-use Rattle.model.specs.Written.{written-refused, written-past, written-short, written-whole}
+use Rattle.model.specs.Written.{written-refused, written-short, written-whole}
 use Rattle.calendar.specs.Contracts.{BackupsTold}
 
 -- ---- number 5

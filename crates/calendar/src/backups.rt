@@ -11,7 +11,7 @@ ghost use Rattle.model.specs.Journal.{backups};
 ghost use Rattle.model.specs.Views.{backupsOf};
 ghost use Rattle.calendar.specs.Contracts.{BackupsTold};
 ghost use Rattle.calendar.specs.Own.{NextIs};
-ghost use Rattle.calendar.specs.Rows.{rowSize, untilFrom, rowFrom};
+ghost use Rattle.calendar.specs.Row.{rowSize, untilFrom, rowFrom};
 use book::header;
 use book::slot;
 use form::form_number;

@@ -20,7 +20,9 @@ in-form c = sym (c .before .form-number .ensures) ∙ c .if1 .left
 formed-book : (c : tie.Else1) → Formed (now (c .before .before .before .before .args .book))
 formed-book c = formed _ (λ i. c .before .before .before .shared-slice-known .given i .fits) (in-form c)
 
-there : (c : tie.Else3) → let s = c .before .before .before .before .before .before .before in volumeNumber (bookOf (now (s .args .book))) (s .args .volume) ≡ 0
+there : (c : tie.Else3)
+    → let s = c .before .before .before .before .before .before .before .args in
+    volumeNumber (bookOf (now (s .book))) (s .volume) ≡ 0
 there c = volume-there _ _ (omega arith) (λ e. c .if3 .left (c .before .retention .ensures ∙ e))
 
 form-number-requires : tie.Need-form-number-requires
@@ -36,7 +38,9 @@ retention-requires : tie.Need-retention-requires
 retention-requires c κs = (formed-book (c .before) .holds, omega arith)
 
 returns-3 : tie.Need-returns-3
-returns-3 c = told-volume _ _ _ _ (in-form (c .before .before .before)) (volume-unenrolled _ _ (sym (c .before .retention .ensures) ∙ c .if3 .taken))
+returns-3 c =
+    let none = sym (c .before .retention .ensures) ∙ c .if3 .taken in
+    told-volume _ _ _ _ (in-form (c .before .before .before)) (volume-unenrolled _ _ none)
 
 count-backups-requires : tie.Need-count-backups-requires
 count-backups-requires c κs = formed-book (c .before .before .before) .holds
@@ -52,7 +56,8 @@ returns-4 c =
     let k = c .before in
     let e = k .before in
     let s = e .before .before .before .before .before .before .before .args in
-    told-short _ _ _ _ (in-form (e .before .before .before)) (there e) (omega (arith, length-of (bookOf (now (s .book))) (s .volume), k .count-backups .ensures))
+    told-short _ _ _ _ (in-form (e .before .before .before)) (there e)
+    (omega (arith, length-of (bookOf (now (s .book))) (s .volume), k .count-backups .ensures))
 
 room : (c : tie.Else4)
     → let s = c .before .before .before .before .before .before .before .before .before .args in

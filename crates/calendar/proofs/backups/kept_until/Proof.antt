@@ -1,10 +1,10 @@
 -- `calendar::backups::kept_until` meets its contract: in a book in form the sum of a slot's day and a retention fits.
-use mathlib.Core.Path.{_≡_, sym, _∙_}
+use mathlib.Core.Path.{sym}
 use native.Mathlib.Omega.{arith}
 use denote.Ref.{now}
 use Rattle.book.specs.Conditions.{slot-in}
 use Rattle.book.specs.Layout.{bookOf}
-use Rattle.calendar.specs.Rows.{until-newest, until-replaced}
+use Rattle.calendar.specs.Row.{until-newest, until-replaced}
 use borrow.Author.Needs.{needs}
 use Rattle.calendar.proofs.backups.kept_until.Statement.{statement}
 use Rattle.calendar.proofs.backups.kept_until.Tie as tie

@@ -4,7 +4,7 @@ use mathlib.Core.Bool.{Bool}
 use denote.Ref.{now}
 use Rattle.words.specs.Counting.{bit}
 use Rattle.book.specs.Layout.{bookOf}
-use Rattle.calendar.specs.Rows.{row-stored}
+use Rattle.calendar.specs.Row.{row-stored}
 use borrow.Author.Needs.{needs}
 use Rattle.calendar.proofs.backups.put_row.Statement.{statement}
 use Rattle.calendar.proofs.backups.put_row.Tie as tie
@@ -43,7 +43,8 @@ returns c =
     let i = k .before .before in
     let s = i .before .before .before .before .before in
     row-stored (bookOf (now (s .args .book))) (s .args .q) (s .args .next) (s .args .days)
-    (i .before .before .slot-at .ensures) (i .before .kept-until .ensures) (ap (λ (t : Bool). bit t) (i .is-kept .ensures)) (k .put-three .ensures) (u .put-u16 .ensures)
+    (i .before .before .slot-at .ensures) (i .before .kept-until .ensures) (ap (λ (t : Bool). bit t) (i .is-kept .ensures))
+    (k .put-three .ensures) (u .put-u16 .ensures)
 
 pub put-row-spec : {M : Type 1} → statement M
 put-row-spec =

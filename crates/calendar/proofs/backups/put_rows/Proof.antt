@@ -7,11 +7,12 @@ use lib.ListN.{length}
 use lib.Seq.{length-sets}
 use denote.Ref.{now}
 use Rattle.words.specs.Laying.{Left, left-room, left-more, left-none}
-use Rattle.book.specs.Book.{slotAt, retentionOf}
+use Rattle.book.specs.Book.{slotAt}
 use Rattle.book.specs.Conditions.{retention-in}
 use Rattle.book.specs.Layout.{bookOf}
 use Rattle.model.specs.Views.{backupsOf}
-use Rattle.calendar.specs.Rows.{rowsFrom, rowFrom, rows-left, rows-next, rows-end}
+use Rattle.calendar.specs.Row.{rowFrom}
+use Rattle.calendar.specs.Rows.{rowsFrom, rows-left, rows-next, rows-end}
 use Rattle.calendar.proofs.backups.put_rows.Statement.{statement}
 use Rattle.calendar.proofs.backups.put_rows.Tie as tie
 
@@ -47,7 +48,8 @@ next-own-requires-2 c κs = c .before .before .before .before .before .before .b
 abbrev row : tie.After-next-own2 Inv-loop μ-loop → List ℕ
 row c =
     let d = c .before .before .before .before in
-    rowFrom (bookOf (now (d .before .before .before .before .args .book))) (c .before .before .loop .q) (c .next-own2 .result) (d .retention .result)
+    let a = d .before .before .before .before .args in
+    rowFrom (bookOf (now (a .book))) (c .before .before .loop .q) (c .next-own2 .result) (d .retention .result)
 
 abbrev after : tie.After-next-own2 Inv-loop μ-loop → List ℕ
 after c =
