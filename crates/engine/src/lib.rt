@@ -4,6 +4,8 @@ pub mod backup;
 pub mod collect;
 pub mod count;
 pub mod enrol;
+pub mod figures;
 pub mod format;
 pub mod in_form;
 pub mod read;
+pub mod rows;
