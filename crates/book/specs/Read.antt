@@ -91,7 +91,8 @@ pub row-room : (v w : ℕ) → v < volumes → v * (w * 2) + w * 2 ≤ volumes *
 row-room v w hv = omega (arith, mul-le-mul-right (w * 2) hv, suc-mul v (w * 2))
 
 pub row-at : (b : List ℕ) (v i : ℕ) → ((i : ℕ) → getD b i 0 < 256) → Holds b → v < volumes
-    → i ≡ mapsFrom (bookOf b .sizes) + v * (bookOf b .sizes .l * 2) → part b i (bookOf b .sizes .l * 2) ≡ flat two (getD (bookOf b .maps) v [])
+    → i ≡ mapsFrom (bookOf b .sizes) + v * (bookOf b .sizes .l * 2)
+    → part b i (bookOf b .sizes .l * 2) ≡ flat two (getD (bookOf b .maps) v [])
 unfolding bookOf
 row-at b v i small h hv e =
     let l = num b lPlace in

@@ -56,7 +56,8 @@ returns c =
     let l = k .before .cells .ensures in
     ap (λ (n : ℕ). take n (drop (from k) b)) (add-sub-cancel-left (from k) (k .before .cells .result * 2))
     ∙ ap (λ (n : ℕ). take (n * 2) (drop (from k) b)) l
-    ∙ row-at b (s .args .v) (from k) (λ i. k .before .before .shared-slice-known .given i .fits) (s .pre .0) (s .pre .1) (rw (k .maps-from .ensures, l))
+    ∙ row-at b (s .args .v) (from k) (λ i. k .before .before .shared-slice-known .given i .fits)
+    (s .pre .0) (s .pre .1) (rw (k .maps-from .ensures, l))
 
 pub row-spec : {M : Type 1} → statement M
 row-spec =
