@@ -18,9 +18,13 @@ rows-length : (es : List Entry) → ((p : ℕ) → p < length es → length (ent
     → length (flat blockRow es) ≡ length es * 22
 rows-length [] h = sym (zero-mul 22)
 rows-length (e ∷ es) h =
-    omega
-    (arith, length-append (blockRow e) (flat blockRow es), row-length e (h zero (zero-lt-suc (length es))),
-    rows-length es (λ p b. h (suc p) (suc-le-suc b)), suc-mul (length es) 22)
+    omega (
+      arith,
+      length-append (blockRow e) (flat blockRow es),
+      row-length e (h zero (zero-lt-suc (length es))),
+      rows-length es (λ p b. h (suc p) (suc-le-suc b)),
+      suc-mul (length es) 22,
+    )
 
 pub blocks-length : (x : Book) → Sized x → length (blocksOf x) ≡ x .sizes .n * 22
 unfolding blocksOf
