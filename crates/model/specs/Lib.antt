@@ -15,6 +15,7 @@ pub mod OnBytes
 pub mod Views
 pub mod Written
 pub mod ViewLaws
+pub mod RowLaws
 pub mod Plain
 pub mod PlainBackup
 pub mod Calls
