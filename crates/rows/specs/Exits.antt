@@ -1,40 +1,15 @@
 -- What the two calls leave on each way out. Assumes nothing.
 use Prim.Native.Nat.{ℕ, _≤_, _<_}
 use mathlib.Core.Path.{_≡_, sym, ap, _∙_}
-use mathlib.Core.Bool.{true, not}
 use mathlib.Core.List.{List}
 use native.Mathlib.Omega.{arith}
-use lib.Dec.{ltb}
 use lib.ListN.{length}
 use lib.Seq.{sets}
-use borrow.Author.Tests.{lt-ltb, le-ltb, eq-eqb, ne-eqb}
-use Rattle.words.specs.Choice.{or-r}
 use Rattle.words.specs.Outcome.{Outcome, unless}
-use Rattle.book.specs.Book.{Book, retentionOf}
-use Rattle.book.specs.Form.{formNumber, enrolled}
+use Rattle.book.specs.Form.{formNumber}
 use Rattle.book.specs.Layout.{bookOf}
-use Rattle.model.specs.Journal.{noVolume}
 use Rattle.model.specs.Views.{volumeNumber, blocksOf, cellsOf, withRoom, blocksBytes, cellsBytes}
 use Rattle.model.specs.Written.{Written, written-refused, written-past, written-short, written-whole}
-
--- ---- number 5, refusing and passed
-
-module _ (x : Book) (v : ℕ) where
-  refused-volume : noVolume x v ≡ true → volumeNumber x v ≡ 5
-  unfolding volumeNumber
-  refused-volume e = rw e
-
-  pub volume-above : 7 < v → volumeNumber x v ≡ 5
-  unfolding noVolume
-  volume-above h = refused-volume (rw (lt-ltb 7 v h))
-
-  pub volume-none : retentionOf x v ≡ 0 → volumeNumber x v ≡ 5
-  unfolding noVolume
-  volume-none e = refused-volume (or-r (ltb 7 v) (not (enrolled x v)) (rw (eq-eqb (retentionOf x v) 0 e)))
-
-  pub volume-in : v ≤ 7 → (retentionOf x v ≡ 0 → ⊥) → volumeNumber x v ≡ 0
-  unfolding volumeNumber noVolume
-  volume-in h n = rw (le-ltb 7 v h, ne-eqb (retentionOf x v) 0 n)
 
 -- ---- the blocks
 

@@ -16,10 +16,10 @@ use Rattle.model.specs.Views.{blockRow, blocksOf}
 use Rattle.model.specs.RowLaws.{row-length}
 
 -- three numbers and the fingerprint behind them are a row
-pub row-stored : (e : Entry) {out out₁ out₂ print : List ℕ} {at h c d : ℕ} → length (e .print) ≡ printSize
+pub row-stored : {out out₁ out₂ print : List ℕ} {at h c d : ℕ} (e : Entry) → length (e .print) ≡ printSize
     → h ≡ bit (e .held) → c ≡ e .count → d ≡ e .expiry → print ≡ e .print
     → out₁ ≡ sets out at (flat two (h ∷ c ∷ d ∷ [])) → out₂ ≡ sets out₁ (at + 6) print → Stored out at (blockRow e) out₂ (at + 22)
-row-stored e {out} {out₁} {out₂} {print} {at} {h} {c} {d} n eh ec ed ep e₁ e₂ =
+row-stored {out} {out₁} {out₂} {print} {at} {h} {c} {d} e n eh ec ed ep e₁ e₂ =
     let front = flat two (h ∷ c ∷ d ∷ []) in
     let same : front ++ print ≡ blockRow e = λ i. flat two (eh i ∷ ec i ∷ ed i ∷ []) ++ ep i in
     record {

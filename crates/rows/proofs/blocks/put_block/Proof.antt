@@ -62,7 +62,8 @@ returns c =
     let k = n .before in
     let h = k .before in
     let s = h .before .before .before in
-    row-stored (entryAt (bookOf (s .args .book .now) .entries) (s .args .p .0)) (print-length s)
+    row-stored {out = s .args .out .now} {at = s .args .at}
+    (entryAt (bookOf (s .args .book .now) .entries) (s .args .p .0)) (print-length s)
     (ap bit (h .is-held .ensures)) (n .wide .ensures .0 ∙ k .count .ensures) (d .expiry .ensures) (r .print-of .ensures)
     (w .put-three .ensures) (b .put-bytes .ensures)
 

@@ -9,7 +9,8 @@ use Rattle.book.specs.Form.{formNumber}
 use Rattle.book.specs.InForm.{holds-form}
 use Rattle.book.specs.Layout.{Holds, bookOf}
 use Rattle.model.specs.Views.{volumeNumber, cellsOf}
-use Rattle.rows.specs.Exits.{volume-above, volume-none, volume-in, cells-misformed, cells-no-volume, cells-short, cells-done}
+use Rattle.rows.specs.VolumeNumber.{volume-above, volume-none, volume-in}
+use Rattle.rows.specs.Exits.{cells-misformed, cells-no-volume, cells-short, cells-done}
 use Rattle.rows.proofs.cells.cells.Statement.{statement}
 use Rattle.rows.proofs.cells.cells.Tie as tie
 
