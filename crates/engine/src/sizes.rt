@@ -15,12 +15,7 @@ pub extern "C" fn aspen_sizes(
 }
 
 #[no_mangle]
-pub extern "C" fn aspen_used(
-    book: &[u8],
-    slots: &mut u16,
-    records: &mut u16,
-    day: &mut u16,
-) -> u16
+pub extern "C" fn aspen_used(book: &[u8], slots: &mut u16, records: &mut u16, day: &mut u16) -> u16
     ensures { λ r. ⌜ UsedTold (now (book .entry)) (now (slots .entry)) (now (records .entry)) (now (day .entry)) r (now (slots .exit)) (now (records .exit)) (now (day .exit)) ⌝ }
 {
     figures::header::used(book, slots, records, day)
