@@ -1,18 +1,18 @@
--- The rows of a volume's backups in the slots from one on, and how long they are. Assumes nothing.
-use Prim.Native.Nat.{ℕ, _+_, _*_, _≤_, _<_}
-use mathlib.Core.Path.{_≡_, refl, sym, ap, ap₂, _∙_}
+-- The rows of a volume's backups in the slots from one on. Assumes nothing.
+use Prim.Native.Nat.{ℕ, _+_, _≤_, _<_}
+use mathlib.Core.Path.{_≡_, sym, ap, ap₂, _∙_}
 use mathlib.Core.Bool.{true}
-use mathlib.Core.List.{List, [], _∷_, _++_}
+use mathlib.Core.List.{List, [], _++_}
 use native.Mathlib.Omega.{arith}
 use lib.ListN.{length}
 use Rattle.words.specs.Laying.{Left, left-all}
 use Rattle.book.specs.Book.{Book, slotAt, retentionOf}
 use Rattle.book.specs.Form.{pairsOk}
-use Rattle.model.specs.Journal.{Backup, backups}
+use Rattle.model.specs.Journal.{Backup}
 use Rattle.model.specs.JournalAt.{backupsFrom, from-start, from-own, from-end}
 use Rattle.model.specs.Views.{backupRows, backupsOf}
 use Rattle.calendar.specs.Own.{NextIs}
-use Rattle.calendar.specs.Row.{rowSize, rowFrom, row-is}
+use Rattle.calendar.specs.Row.{rowFrom, row-is}
 
 unfoldable pub rowsFrom : Book → ℕ → ℕ → List ℕ
 rowsFrom x v q = backupRows (retentionOf x v) (x .day) (backupsFrom x v q)
@@ -36,11 +36,3 @@ module _ {x : Book} {v q : ℕ} where
 pub rows-end : (x : Book) (v q : ℕ) → length (x .slots) ≤ q → rowsFrom x v q ≡ []
 unfolding rowsFrom
 rows-end x v q h = rw (from-end x v q h)
-
-length-rows : (r d : ℕ) (bs : List Backup) → length (backupRows r d bs) ≡ length bs * rowSize
-length-rows r d [] = refl
-length-rows r d (b ∷ bs) = omega (arith, length-rows r d bs)
-
-pub length-of : (x : Book) (v : ℕ) → length (backupsOf x v) ≡ length (backups x v) * rowSize
-unfolding backupsOf
-length-of x v = length-rows (retentionOf x v) (x .day) (backups x v)

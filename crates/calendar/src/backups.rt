@@ -7,14 +7,14 @@ ghost use Rattle.book.specs.Book.{volumes};
 ghost use Rattle.book.specs.Layout.{bookOf, Holds};
 ghost use Rattle.book.specs.Formed.{Formed};
 ghost use Rattle.words.specs.Laying.{Stored};
-ghost use Rattle.model.specs.Journal.{backups};
 ghost use Rattle.model.specs.Views.{backupsOf};
 ghost use Rattle.calendar.specs.Contracts.{BackupsTold};
 ghost use Rattle.calendar.specs.Own.{NextIs};
 ghost use Rattle.calendar.specs.Row.{rowSize, untilFrom, rowFrom};
 use book::header;
 use book::slot;
-use form::form_number;
+use figures::enrolled::enrolled_number;
+use figures::volume::count_backups;
 use restorer::image::is_kept;
 use words::put_three;
 use words::put_u16;
@@ -39,20 +39,6 @@ fn next_own(book: &[u8], v: u16, q: u16) -> u16
         r += 1;
     }
     r
-}
-
-fn count_backups(book: &[u8], v: u16) -> u16
-    requires { ⌜ Holds (now book) ⌝ }
-    ensures { λ r. ⌜ r ≡ length (backups (bookOf (now (book .entry))) v) ⌝ }
-{
-    let used = header::used_slots(book);
-    let mut n = 0;
-    let mut q = next_own(book, v, 0);
-    while q < used {
-        n += 1;
-        q = next_own(book, v, q + 1);
-    }
-    n
 }
 
 // The last day on which a backup is kept: slot `at` holds the one that replaced it, if any.
@@ -103,15 +89,9 @@ fn put_rows(book: &[u8], v: u16, out: &mut [u8])
 pub fn backups(book: &[u8], volume: u16, out: &mut [u8], count: &mut u16) -> u16
     ensures { λ r. ⌜ BackupsTold (now (book .entry)) volume (now (out .entry)) (now (count .entry)) r (now (out .exit)) (now (count .exit)) ⌝ }
 {
-    let refusal = form_number(book);
+    let refusal = enrolled_number(book, volume);
     if refusal != 0 {
         return refusal;
-    }
-    if volume > 7 {
-        return 5;
-    }
-    if header::retention(book, volume) == 0 {
-        return 5;
     }
     let n = count_backups(book, volume);
     if out.len() < (n as usize) * ROW_SIZE {

@@ -42,7 +42,7 @@ unfolding
     Audit.backupsSound Audit.audit
     OnBytes.poolNumber OnBytes.spareNumber OnBytes.formatNumber OnBytes.formatBytes OnBytes.enrolBytes OnBytes.backedBytes OnBytes.backupBytes
     OnBytes.collectedBytes OnBytes.collectBytes OnBytes.readBytes OnBytes.readNumberBytes OnBytes.readPlaceBytes OnBytes.auditBytes
-    Views.volumeNumber Views.outputNumber Views.usedOf Views.volumeOf Views.backupsOf Views.cellsOf Views.blocksOf Views.sizesBytes
+    Views.enrolledNumber Views.outputNumber Views.usedOf Views.volumeOf Views.backupsOf Views.cellsOf Views.blocksOf Views.sizesBytes
     Views.usedBytes Views.volumeBytes Views.withRoom Views.backupsBytes Views.cellsBytes Views.blocksBytes
     Plain.noVolume Plain.start Plain.withDay Plain.withBlocks Plain.withVolume Plain.currentMaps Plain.enrolNumber Plain.enrol Plain.marked
     Plain.collected Plain.collectNumber Plain.collect Plain.readNumber Plain.read

@@ -4,11 +4,11 @@ ghost use lib.ListN.{length};
 ghost use Rattle.book.specs.Layout.{bookOf, Holds};
 ghost use Rattle.model.specs.Journal.{backups};
 ghost use Rattle.figures.specs.Contracts.{VolumeTold};
+use super::enrolled::enrolled_number;
 use book::header;
 use book::slot;
-use form::form_number;
 
-fn count_backups(book: &[u8], v: u16) -> u16
+pub fn count_backups(book: &[u8], v: u16) -> u16
     requires { ⌜ Holds (now book) ⌝ }
     ensures { λ r. ⌜ r ≡ length (backups (bookOf (now (book .entry))) v) ⌝ }
 {
@@ -28,18 +28,11 @@ fn count_backups(book: &[u8], v: u16) -> u16
 pub fn volume(book: &[u8], volume: u16, retention: &mut u16, backups: &mut u16) -> u16
     ensures { λ r. ⌜ VolumeTold (now (book .entry)) volume (now (retention .entry)) (now (backups .entry)) r (now (retention .exit)) (now (backups .exit)) ⌝ }
 {
-    let refusal = form_number(book);
+    let refusal = enrolled_number(book, volume);
     if refusal != 0 {
         return refusal;
     }
-    if volume > 7 {
-        return 5;
-    }
-    let days = header::retention(book, volume);
-    if days == 0 {
-        return 5;
-    }
-    *retention = days;
+    *retention = header::retention(book, volume);
     *backups = count_backups(book, volume);
     0
 }

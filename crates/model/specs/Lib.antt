@@ -14,6 +14,7 @@ pub mod AuditMeans
 pub mod OnBytes
 pub mod Views
 pub mod Written
+pub mod EnrolledNumber
 pub mod ViewLaws
 pub mod RowLaws
 pub mod Plain

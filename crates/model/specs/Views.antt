@@ -1,9 +1,9 @@
--- What a host is shown of a book, beside the calls of document 01: its sizes, how much of it is used, a volume, its backups, its map, and the
--- blocks. A host that goes by these knows no place in the book. Assumes nothing.
+-- What a host is shown of a book, beside the calls of document 01: its sizes, how much of it is used, a volume, its backups, its map, and
+-- the blocks. A host that goes by these knows no place in the book. Assumes nothing.
 use Prim.Native.Nat.{ℕ, _+_}
 use mathlib.Core.List.{List, [], _∷_, _++_, map}
 use lib.ListN.{length, getD, drop}
-use lib.Dec.{ltb}
+use lib.Dec.{ltb, eqb}
 use Rattle.words.specs.Choice.{if_then_else_}
 use Rattle.words.specs.Counting.{bit}
 use Rattle.words.specs.Numbers.{two}
@@ -16,11 +16,11 @@ use Rattle.model.specs.Days.{keptBefore}
 use Rattle.model.specs.Journal.{Backup, backups, noVolume}
 use Rattle.model.specs.OnBytes.{after}
 
--- ---- their numbers after 1 and 2
+-- ---- their numbers
 
--- 5: "The volume is above 7, .. or not enrolled"
-unfoldable pub volumeNumber : Book → ℕ → ℕ
-volumeNumber x v = if noVolume x v then 5 else 0
+-- 1, 2, then 5: "The volume is above 7, .. or not enrolled"
+unfoldable pub enrolledNumber : List ℕ → ℕ → ℕ
+enrolledNumber b v = if eqb (formNumber b) 0 then (if noVolume (bookOf b) v then 5 else 0) else formNumber b
 
 -- 20: the output is shorter than what is to be written
 unfoldable pub outputNumber : List ℕ → ℕ → ℕ
@@ -82,7 +82,7 @@ unfoldable pub usedBytes : List ℕ → Outcome Used
 usedBytes b = unless (formNumber b) (accepted (usedOf (bookOf b)))
 
 unfoldable pub volumeBytes : List ℕ → ℕ → Outcome VolumeFacts
-volumeBytes b v = unless (formNumber b) (unless (volumeNumber (bookOf b) v) (accepted (volumeOf (bookOf b) v)))
+volumeBytes b v = unless (enrolledNumber b v) (accepted (volumeOf (bookOf b) v))
 
 -- what is to be written, where the output has room for it
 unfoldable pub withRoom : List ℕ → ℕ → Outcome (List ℕ)
@@ -90,10 +90,10 @@ withRoom c room = unless (outputNumber c room) (accepted c)
 
 -- book, volume, length of the output
 unfoldable pub backupsBytes : List ℕ → ℕ → ℕ → Outcome (List ℕ)
-backupsBytes b v room = unless (formNumber b) (unless (volumeNumber (bookOf b) v) (withRoom (backupsOf (bookOf b) v) room))
+backupsBytes b v room = unless (enrolledNumber b v) (withRoom (backupsOf (bookOf b) v) room)
 
 unfoldable pub cellsBytes : List ℕ → ℕ → ℕ → Outcome (List ℕ)
-cellsBytes b v room = unless (formNumber b) (unless (volumeNumber (bookOf b) v) (withRoom (cellsOf (bookOf b) v) room))
+cellsBytes b v room = unless (enrolledNumber b v) (withRoom (cellsOf (bookOf b) v) room)
 
 unfoldable pub blocksBytes : List ℕ → ℕ → Outcome (List ℕ)
 blocksBytes b room = unless (formNumber b) (withRoom (blocksOf (bookOf b)) room)
