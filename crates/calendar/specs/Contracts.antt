@@ -1,4 +1,4 @@
--- What telling a volume's backups leaves, for all inputs: the number, the output and the answer, by the definitions on bytes of `model`. Assumes nothing.
+-- What telling a volume's backups leaves, for all inputs: number, output and answer, by `model`'s definitions on bytes. Assumes nothing.
 use Prim.Native.Nat.{ℕ}
 use mathlib.Core.Path.{_≡_}
 use mathlib.Core.List.{List}

@@ -1,4 +1,4 @@
--- What the calls that tell numbers leave, for all inputs: the number, and each answer, by the definitions on bytes of `model`. Assumes nothing.
+-- What the calls that tell numbers leave, for all inputs: the number and each answer, by `model`'s definitions on bytes. Assumes nothing.
 use Prim.Native.Nat.{ℕ}
 use mathlib.Core.Path.{_≡_}
 use mathlib.Core.List.{List}
