@@ -37,7 +37,7 @@ module _ (b : List ℕ) (small : (i : ℕ) → getD b i 0 < 256) where
       rw (low, high) (part-two i h)
 
   -- k numbers from o
-  nums-part : (k o : ℕ) (f : ℕ → ℕ) → o + k * 2 ≤ length b → ((c : ℕ) → c < k → f c ≡ num b (o + c * 2)) → flat two (tab k f) ≡ part b o (k * 2)
+  pub nums-part : (k o : ℕ) (f : ℕ → ℕ) → o + k * 2 ≤ length b → ((c : ℕ) → c < k → f c ≡ num b (o + c * 2)) → flat two (tab k f) ≡ part b o (k * 2)
   nums-part k o f h g = flat-tab k 2 two f b o (λ c hc. rw (g c hc) (two-part (o + c * 2) (omega arith)))
 
   entry-part : (p : ℕ) → entryPlace p + entrySize ≤ length b → getD b (entryPlace p + 1) 0 ≤ 1

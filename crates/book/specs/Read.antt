@@ -1,15 +1,17 @@
 -- What stands at a place of bytes, as a field of the book that they say: what each reader's proof takes. Assumes nothing.
-use mathlib.Core.Path.{_≡_, refl, sym}
+use mathlib.Core.Path.{_≡_, refl, sym, ap}
 use mathlib.Core.List.{List, []}
-use Prim.Native.Nat.{ℕ, _+_, _*_, _<_}
+use Prim.Native.Nat.{ℕ, _+_, _*_, _≤_, _<_}
+use native.Mathlib.Nat.{add-assoc, mul-le-mul-right, suc-mul}
 use native.Mathlib.Omega.{arith}
 use lib.Dec.{eqb}
 use lib.ListN.{length, getD}
 use Rattle.words.specs.Blocks.{printSize, unmapped}
-use Rattle.words.specs.Numbers.{num}
-use Rattle.words.specs.Sections.{tab, length-tab, getD-tab, part, part-tab, inside}
+use Rattle.words.specs.Numbers.{two, num}
+use Rattle.words.specs.Sections.{flat, tab, length-tab, getD-tab, part, part-tab, inside}
 use Rattle.book.specs.Book.{volumes, freeEntry, noSlot, noRec, entryAt, cellAt, slotAt, recAt, retentionOf}
-use Rattle.book.specs.Layout.{nPlace, lPlace, sPlace, jPlace, bPlace, uPlace, dayPlace, cursorPlace, retentionPlace, entryPlace, cellPlace, slotPlace, recPlace, sizesOf, entryOf, cellOf, slotOf, recOf, bookOf, Holds}
+use Rattle.book.specs.Layout.{nPlace, lPlace, sPlace, jPlace, bPlace, uPlace, dayPlace, cursorPlace, retentionPlace, entryPlace, mapsFrom, cellPlace, slotPlace, recPlace, sizesOf, entryOf, cellOf, slotOf, recOf, bookOf, Holds}
+use Rattle.book.specs.Back.{nums-part}
 
 module _ (b : List ℕ) where
   pub n-at : num b nPlace ≡ bookOf b .sizes .n
@@ -83,3 +85,17 @@ module _ (b : List ℕ) where
 -- cell l of row v, both bytes, in maps of w cells
 pub cell-room : (v l w : ℕ) → v < volumes → l < w → v * (w * 2) + (l * 2 + 1) < volumes * (w * 2)
 cell-room v l w hv hl = inside v (l * 2 + 1) volumes (w * 2) hv (omega arith)
+
+-- row v, in maps of w cells
+pub row-room : (v w : ℕ) → v < volumes → v * (w * 2) + w * 2 ≤ volumes * (w * 2)
+row-room v w hv = omega (arith, mul-le-mul-right (w * 2) hv, suc-mul v (w * 2))
+
+pub row-at : (b : List ℕ) (v i : ℕ) → ((i : ℕ) → getD b i 0 < 256) → Holds b → v < volumes
+    → i ≡ mapsFrom (bookOf b .sizes) + v * (bookOf b .sizes .l * 2)
+    → part b i (bookOf b .sizes .l * 2) ≡ flat two (getD (bookOf b .maps) v [])
+unfolding bookOf
+row-at b v i small h hv e =
+    let l = num b lPlace in
+    rw (getD-tab volumes (λ v. tab l (cellOf b v)) v [] hv)
+    (sym (nums-part b small l i (cellOf b v) (omega (arith, h .len, row-room v l hv, e))
+    (λ c hc. rw e (ap (λ (a : ℕ). num b a) (sym (add-assoc (mapsFrom (sizesOf b)) (v * (l * 2)) (c * 2)))))))

@@ -1,10 +1,16 @@
 // The cells of the eight maps.
 ghost use mathlib.Core.Path.{_≡_};
+ghost use mathlib.Core.List.{[]};
 ghost use Prim.Native.Nat.{_<_};
+ghost use lib.ListN.{getD};
+ghost use Rattle.words.specs.Numbers.{two};
+ghost use Rattle.words.specs.Sections.{flat};
 ghost use Rattle.book.specs.Book.{volumes, cellAt};
 ghost use Rattle.book.specs.Layout.{bookOf, Holds, Is};
 ghost use Rattle.book.specs.Next.{withCell};
+use super::header;
 use super::place::cell_place;
+use super::place::maps_from;
 use words::LBN;
 use words::PBN;
 use words::put_u16;
@@ -27,4 +33,16 @@ pub fn set_cell(book: &mut [u8], v: u16, lbn: LBN, p: PBN)
 {
     let at = cell_place(book, v, lbn);
     put_u16(book, at, p.0);
+}
+
+// Volume v's map, as it stands in the book.
+pub fn row(book: &[u8], v: u16) -> &[u8]
+    requires { ⌜ Holds (now book) ⌝ }
+    requires { ⌜ v < volumes ⌝ }
+    ensures { λ r. ⌜ now r ≡ flat two (getD (bookOf (now (book .entry)) .maps) v []) ⌝ }
+{
+    let size = header::cells(book) as usize * 2;
+    let from = maps_from(book) + (v as usize) * size;
+    let end = from + size;
+    &book[from..end]
 }

@@ -5,3 +5,4 @@ pub mod Edges
 pub mod Refusals
 pub mod Audits
 pub mod Examples
+pub mod Shown

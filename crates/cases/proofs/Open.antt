@@ -13,6 +13,7 @@ use Rattle.model.specs.Collect
 use Rattle.model.specs.Read
 use Rattle.model.specs.Audit
 use Rattle.model.specs.OnBytes
+use Rattle.model.specs.Views
 use Rattle.model.specs.Plain
 use Rattle.model.specs.PlainBackup
 use Rattle.model.specs.Runs
@@ -41,6 +42,8 @@ unfolding
     Audit.backupsSound Audit.audit
     OnBytes.poolNumber OnBytes.spareNumber OnBytes.formatNumber OnBytes.formatBytes OnBytes.enrolBytes OnBytes.backedBytes OnBytes.backupBytes
     OnBytes.collectedBytes OnBytes.collectBytes OnBytes.readBytes OnBytes.readNumberBytes OnBytes.readPlaceBytes OnBytes.auditBytes
+    Views.enrolledNumber Views.outputNumber Views.usedOf Views.volumeOf Views.backupsOf Views.cellsOf Views.blocksOf Views.sizesBytes
+    Views.usedBytes Views.volumeBytes Views.withRoom Views.backupsBytes Views.cellsBytes Views.blocksBytes
     Plain.noVolume Plain.start Plain.withDay Plain.withBlocks Plain.withVolume Plain.currentMaps Plain.enrolNumber Plain.enrol Plain.marked
     Plain.collected Plain.collectNumber Plain.collect Plain.readNumber Plain.read
     PlainBackup.backupsSoFar PlainBackup.changesSoFar PlainBackup.backupNumber PlainBackup.findHeld PlainBackup.findFree PlainBackup.takeBlock

@@ -6,4 +6,6 @@ pub mod count;
 pub mod enrol;
 pub mod format;
 pub mod in_form;
+pub mod listing;
 pub mod read;
+pub mod sizes;

@@ -12,6 +12,11 @@ pub mod Read
 pub mod Audit
 pub mod AuditMeans
 pub mod OnBytes
+pub mod Views
+pub mod Written
+pub mod EnrolledNumber
+pub mod ViewLaws
+pub mod RowLaws
 pub mod Plain
 pub mod PlainBackup
 pub mod Calls

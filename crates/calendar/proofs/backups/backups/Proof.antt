@@ -1,0 +1,81 @@
+-- `calendar::backups::backups` meets its contract, by what each way out leaves.
+use Prim.Native.Nat.{_≤_}
+use mathlib.Core.Path.{_≡_, sym, _∙_}
+use native.Mathlib.Omega.{arith}
+use lib.ListN.{length}
+use denote.Ref.{now}
+use Rattle.book.specs.Formed.{Formed, formed}
+use Rattle.book.specs.Layout.{bookOf}
+use Rattle.model.specs.EnrolledNumber.{passed-enrolled}
+use Rattle.model.specs.ViewLaws.{length-backupsOf}
+use Rattle.model.specs.Views.{enrolledNumber, backupsOf}
+use Rattle.calendar.specs.Told.{told-refused, told-short, told-whole}
+use borrow.Author.Needs.{needs}
+use Rattle.calendar.proofs.backups.backups.Statement.{statement}
+use Rattle.calendar.proofs.backups.backups.Tie as tie
+
+passed : (c : tie.Else1) → let s = c .before .before .before .before .args in enrolledNumber (now (s .book)) (s .volume) ≡ 0
+passed c = sym (c .before .enrolled-number .ensures) ∙ c .if1 .left
+
+formed-book : (c : tie.Else1) → Formed (now (c .before .before .before .before .args .book))
+formed-book c = formed _ (λ i. c .before .before .before .shared-slice-known .given i .fits) (passed-enrolled _ _ (passed c) .form)
+
+enrolled-number-requires : tie.Need-enrolled-number-requires
+enrolled-number-requires c κs = search needs
+
+returns : tie.Need-returns
+returns c = told-refused _ _ _ _ (c .before .enrolled-number .ensures) (c .if1 .taken)
+
+count-backups-requires : tie.Need-count-backups-requires
+count-backups-requires c κs = formed-book c .holds
+
+cast-if2 : tie.Need-cast-if2
+cast-if2 c = search needs
+
+mul-if2 : tie.Need-mul-if2
+mul-if2 c = search needs
+
+returns-2 : tie.Need-returns-2
+returns-2 c =
+    let k = c .before in
+    let e = k .before in
+    let s = e .before .before .before .before .args in
+    told-short _ _ _ _ (passed e) (omega (arith, length-backupsOf (bookOf (now (s .book))) (s .volume), k .count-backups .ensures))
+
+room : (c : tie.Else2)
+    → let s = c .before .before .before .before .before .before .args in
+    length (backupsOf (bookOf (now (s .book))) (s .volume)) ≤ length (now (s .out))
+room c =
+    let k = c .before in
+    let s = k .before .before .before .before .before .args in
+    omega (arith, length-backupsOf (bookOf (now (s .book))) (s .volume), k .count-backups .ensures)
+
+put-rows-requires : tie.Need-put-rows-requires
+put-rows-requires c κs =
+    let k = c .before in
+    let e = k .before .before in
+    (formed-book e, (passed-enrolled _ _ (passed e) .inside, room k))
+
+same-length : tie.Need-same-length
+same-length c = search needs
+
+returns-3 : tie.Need-returns-3
+returns-3 c =
+    let r = c .before .before in
+    let h = r .before .before in
+    let k = h .before in
+    told-whole _ _ _ _ (passed (k .before)) (room h) (r .put-rows .ensures) (k .count-backups .ensures)
+
+pub backups-spec : {M : Type 1} → statement M
+backups-spec =
+    tie.close
+    (tie.spec
+    enrolled-number-requires
+    returns
+    count-backups-requires
+    cast-if2
+    mul-if2
+    returns-2
+    put-rows-requires
+    same-length
+    returns-3)

@@ -1,0 +1,36 @@
+-- `calendar::backups::kept_until` meets its contract: in a book in form the sum of a slot's day and a retention fits.
+use mathlib.Core.Path.{sym}
+use native.Mathlib.Omega.{arith}
+use denote.Ref.{now}
+use Rattle.book.specs.Conditions.{slot-in}
+use Rattle.book.specs.Layout.{bookOf}
+use Rattle.calendar.specs.Row.{until-newest, until-replaced}
+use borrow.Author.Needs.{needs}
+use Rattle.calendar.proofs.backups.kept_until.Statement.{statement}
+use Rattle.calendar.proofs.backups.kept_until.Tie as tie
+
+used-slots-requires : tie.Need-used-slots-requires
+used-slots-requires c κs = search needs
+
+returns : tie.Need-returns
+returns c = sym (until-newest _ _ _ (omega arith))
+
+slot-at-requires : tie.Need-slot-at-requires
+slot-at-requires c κs = search needs
+
+add-result : tie.Need-add-result
+add-result c =
+    let k = c .before in
+    let s = k .before .before .before .before in
+    let p = s .pre .0 .parts in
+    omega (arith, slot-in (bookOf (now (s .args .book))) p (s .args .at) (omega arith) .1, p .day, k .slot-at .ensures .day)
+
+returns-2 : tie.Need-returns-2
+returns-2 c =
+    let k = c .before in
+    let a = k .before .before .before .before .args in
+    rw (k .slot-at .ensures .day) (sym (until-replaced (bookOf (now (a .book))) (a .at) (a .days) (omega arith)))
+
+pub kept-until-spec : {M : Type 1} → statement M
+kept-until-spec =
+    tie.close (tie.spec used-slots-requires returns slot-at-requires add-result returns-2)

@@ -1,0 +1,5 @@
+pub mod Contracts
+pub mod Own
+pub mod Row
+pub mod Rows
+pub mod Told

@@ -1,0 +1,34 @@
+// The numbers that a host shows of a book: its sizes, how much of it is used, and what a volume has.
+ghost use Rattle.figures.specs.Contracts.{SizesTold, UsedTold, VolumeTold};
+
+#[no_mangle]
+pub extern "C" fn aspen_sizes(
+    book: &[u8],
+    blocks: &mut u16,
+    cells: &mut u16,
+    slots: &mut u16,
+    records: &mut u16,
+) -> u16
+    ensures { λ r. ⌜ SizesTold (now (book .entry)) (now (blocks .entry)) (now (cells .entry)) (now (slots .entry)) (now (records .entry)) r (now (blocks .exit)) (now (cells .exit)) (now (slots .exit)) (now (records .exit)) ⌝ }
+{
+    figures::header::sizes(book, blocks, cells, slots, records)
+}
+
+#[no_mangle]
+pub extern "C" fn aspen_used(book: &[u8], slots: &mut u16, records: &mut u16, day: &mut u16) -> u16
+    ensures { λ r. ⌜ UsedTold (now (book .entry)) (now (slots .entry)) (now (records .entry)) (now (day .entry)) r (now (slots .exit)) (now (records .exit)) (now (day .exit)) ⌝ }
+{
+    figures::header::used(book, slots, records, day)
+}
+
+#[no_mangle]
+pub extern "C" fn aspen_volume(
+    book: &[u8],
+    volume: u16,
+    retention: &mut u16,
+    backups: &mut u16,
+) -> u16
+    ensures { λ r. ⌜ VolumeTold (now (book .entry)) volume (now (retention .entry)) (now (backups .entry)) r (now (retention .exit)) (now (backups .exit)) ⌝ }
+{
+    figures::volume::volume(book, volume, retention, backups)
+}

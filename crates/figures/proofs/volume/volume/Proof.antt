@@ -1,0 +1,42 @@
+-- `figures::volume::volume` meets its contract: each way out is one of the definition.
+use mathlib.Core.Path.{_≡_, sym, _∙_}
+use borrow.Author.Needs.{needs}
+use denote.Ref.{now}
+use Rattle.book.specs.InForm.{holds-form}
+use Rattle.book.specs.Layout.{Holds}
+use Rattle.model.specs.EnrolledNumber.{passed-enrolled}
+use Rattle.model.specs.Views.{enrolledNumber}
+use Rattle.figures.specs.VolumeExits.{volume-refused, volume-told}
+use Rattle.figures.proofs.volume.volume.Statement.{statement}
+use Rattle.figures.proofs.volume.volume.Tie as tie
+
+passed : (c : tie.Else1) → let s = c .before .before .before .args in enrolledNumber (now (s .book)) (s .volume) ≡ 0
+passed c = sym (c .before .enrolled-number .ensures) ∙ c .if1 .left
+
+holds : (c : tie.Else1) → Holds (now (c .before .before .before .args .book))
+holds c = holds-form _ (λ i. c .before .before .shared-slice-known .given i .fits) (passed-enrolled _ _ (passed c) .form)
+
+enrolled-number-requires : tie.Need-enrolled-number-requires
+enrolled-number-requires c κs = search needs
+
+returns : tie.Need-returns
+returns c = volume-refused _ _ (c .before .enrolled-number .ensures) (c .if1 .taken)
+
+retention-requires : tie.Need-retention-requires
+retention-requires c κs = (holds c, passed-enrolled _ _ (passed c) .inside)
+
+count-backups-requires : tie.Need-count-backups-requires
+count-backups-requires c κs = holds (c .before)
+
+returns-2 : tie.Need-returns-2
+returns-2 c = let k = c .before in volume-told _ _ (passed (k .before)) (k .retention .ensures) (c .count-backups .ensures)
+
+pub volume-spec : {M : Type 1} → statement M
+volume-spec =
+    tie.close
+    (tie.spec
+    enrolled-number-requires
+    returns
+    retention-requires
+    count-backups-requires
+    returns-2)

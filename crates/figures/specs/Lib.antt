@@ -1,0 +1,4 @@
+pub mod Contracts
+pub mod Passed
+pub mod HeaderExits
+pub mod VolumeExits

@@ -1,0 +1,54 @@
+-- `cells`: each way out is one of the definition, and the row that is copied is the volume's map.
+use mathlib.Core.Path.{_≡_, sym, _∙_}
+use native.Mathlib.Omega.{arith}
+use denote.Ref.{now}
+use borrow.Author.Needs.{needs}
+use Rattle.book.specs.InForm.{holds-form}
+use Rattle.model.specs.EnrolledNumber.{passed-enrolled}
+use Rattle.model.specs.Views.{enrolledNumber, cellsOf}
+use Rattle.rows.specs.Exits.{cells-refused, cells-short, cells-done}
+use Rattle.rows.proofs.cells.cells.Statement.{statement}
+use Rattle.rows.proofs.cells.cells.Tie as tie
+
+passed : (c : tie.Else1) → let s = c .before .before .before .before .args in enrolledNumber (now (s .book)) (s .volume) ≡ 0
+passed c = sym (c .before .enrolled-number .ensures) ∙ c .if1 .left
+
+enrolled-number-requires : tie.Need-enrolled-number-requires
+enrolled-number-requires c κs = search needs
+
+returns : tie.Need-returns
+returns c = cells-refused _ _ _ (c .before .enrolled-number .ensures) (c .if1 .taken)
+
+row-requires : tie.Need-row-requires
+row-requires c κs =
+    let p = passed-enrolled _ _ (passed c) in
+    (holds-form _ (λ i. c .before .before .before .shared-slice-known .given i .fits) (p .form), omega (arith, p .inside))
+
+returns-2 : tie.Need-returns-2
+unfolding cellsOf
+returns-2 c = let r = c .before in cells-short _ _ _ (passed (r .before)) (r .row .ensures) (omega arith)
+
+put-bytes-requires : tie.Need-put-bytes-requires
+put-bytes-requires c κs = search needs
+
+same-length : tie.Need-same-length
+same-length c = search needs
+
+returns-3 : tie.Need-returns-3
+unfolding cellsOf
+returns-3 c =
+    let w = c .before .before in
+    let r = w .before .before .before in
+    cells-done _ _ _ (passed (r .before)) (r .row .ensures) (omega arith) (w .put-bytes .ensures)
+
+pub cells-spec : {M : Type 1} → statement M
+cells-spec =
+    tie.close
+    (tie.spec
+    enrolled-number-requires
+    returns
+    row-requires
+    returns-2
+    put-bytes-requires
+    same-length
+    returns-3)
