@@ -1,4 +1,5 @@
-/* Tests of what an aid uses: libwriter.a, and what the header has by itself. */
+/* Tests of what an aid uses: libwriter.a, and what the header has by itself. A box reads what it
+ * wrote. */
 #include "check.h"
 #include "tests.h"
 

@@ -8,11 +8,9 @@ warnings=(-Wall -Wextra -Werror -pedantic)
 units_of() {
     case $1 in
     aid) printf '%s\n' aid sizes texts writer ;;
-    engine)
-        printf '%s\n' engine form cases format_audit count views refusals lists changes calls box
-        ;;
+    engine) printf '%s\n' engine form cases format_audit count views refusals lists changes ;;
     esac
-    printf '%s\n' check buffer books
+    printf '%s\n' check buffer books box calls
 }
 
 # Compiles the sources of all programs: compiled VARIANT COMPILER..

@@ -33,6 +33,10 @@ static void test_fresh(void)
     check_about("fresh books");
     check_fresh(CASE_N, CASE_L, CASE_S, CASE_J, ASPEN_OK);
     check_fresh(1, 1, 1, 1, ASPEN_OK);
+    check_fresh(ASPEN_MAX_BLOCKS, 1, 1, 1, ASPEN_OK);
+    check_fresh(1, ASPEN_MAX_LBNS, 1, 1, ASPEN_OK);
+    check_fresh(1, 1, ASPEN_MAX_SLOTS, 1, ASPEN_OK);
+    check_fresh(1, 1, 1, ASPEN_MAX_RECORDS, ASPEN_OK);
     check_fresh(ASPEN_MAX_BLOCKS, ASPEN_MAX_LBNS, ASPEN_MAX_SLOTS, ASPEN_MAX_RECORDS, ASPEN_OK);
     check_about("sizes out of range");
     check_fresh(0, 1, 1, 1, ASPEN_BAD_LAYOUT);

@@ -2,7 +2,7 @@
 #ifndef ASPEN_TESTS_TESTS_H
 #define ASPEN_TESTS_TESTS_H
 
-/* With libwriter.a. */
+/* With libwriter.a, and a box for what it wrote. */
 void test_sizes(void);
 void test_texts(void);
 void test_writer(void);

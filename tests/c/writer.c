@@ -1,8 +1,9 @@
-/* aspen_write_list: the list's bytes, its length, and refusals that write nothing. */
+/* aspen_write_list: the list's bytes, its length, what a box makes of it, and refusals that write
+ * nothing. */
 #include <aspen.h>
 
 #include "books.h"
-#include "buffer.h"
+#include "box.h"
 #include "check.h"
 #include "tests.h"
 
@@ -161,12 +162,58 @@ static void test_marks(void)
     check_marks("0110", 1, 2);
     check_marks("1011", 2, 3);
     check_marks("10101", 3, 3);
+    check_marks("11010011", 3, 5);
     marks[ASPEN_MAX_LBNS] = 0;
     memset(marks, '1', ASPEN_MAX_LBNS);
     check_marks(marks, 1, ASPEN_MAX_LBNS);
     for (i = 0; i < ASPEN_MAX_LBNS; i += 2)
         marks[i] = '0';
     check_marks(marks, ASPEN_MAX_LBNS / 2, ASPEN_MAX_LBNS / 2);
+}
+
+/* A box of a fresh book of 8 blocks, 8 LBNs, a slot and 8 records, with volume 0 enrolled. */
+static struct box box_of_eight(void)
+{
+    struct box box;
+
+    box.book = buffer_new(aspen_book_size(8, 8, 1, 8));
+    box.pool = buffer_filled(aspen_pool_size(8), POOL_BYTE);
+    box.spare = buffer_new(box.book.length);
+    book_fresh(box.book.bytes, 8, 8, 1, 8);
+    call_enrol(&box, 0, 10, ASPEN_OK);
+    return box;
+}
+
+/* The block of this LBN reads as this block of the pool, and stands there with its print. */
+static void check_block(const struct box *box, const struct call *call, uint16_t lbn, unsigned pbn)
+{
+    const size_t at = (size_t)ASPEN_BLOCK_SIZE * pbn;
+
+    CHECK_EQ(call_read(box, 0, 1, lbn, ASPEN_OK), at);
+    CHECK_BYTES(box->pool.bytes + at, call->image.bytes + ASPEN_BLOCK_SIZE * lbn,
+                ASPEN_BLOCK_SIZE);
+    CHECK_BYTES(box->book.bytes + case_entry(pbn) + ENTRY_PRINT,
+                call->prints.bytes + ASPEN_PRINT_SIZE * lbn, ASPEN_PRINT_SIZE);
+}
+
+/* The list is backed up, and the box reads the marked blocks back. */
+static void test_round_trip(void)
+{
+    struct call call = call_new(8, "11010011", aspen_list_size(3, 5));
+    struct box box = box_of_eight();
+    unsigned taken = 0;
+    uint16_t lbn;
+
+    check_about("a round trip");
+    CHECK_EQ(write_list(&call, ASPEN_OK), 2654);
+    CHECK_EQ(call_backup(&box, 0, 1, buffer_copy(&call.list), ASPEN_OK).taken, 5);
+    for (lbn = 0; lbn < 8; lbn++)
+        if (call.marks.bytes[lbn] == 1)
+            check_block(&box, &call, lbn, taken++);
+        else
+            call_read(&box, 0, 1, lbn, ASPEN_UNMAPPED);
+    box_free(&box);
+    call_free(&call);
 }
 
 /* Another length for one of the inputs. */
@@ -247,6 +294,7 @@ void test_writer(void)
 {
     test_small_list();
     test_marks();
+    test_round_trip();
     test_bad_lengths();
     test_bad_input();
     test_short_output();

@@ -20,6 +20,7 @@ pub fn edits() -> Vec<Edit> {
 
 fn header_values() -> Vec<Edit> {
     let values = [
+        (Header::Day, 8, Refused2),
         (Header::Day, 60_000, Totals),
         (Header::Day, 60_001, Refused2),
         (Header::Day, 65_535, Refused2),
@@ -30,6 +31,7 @@ fn header_values() -> Vec<Edit> {
         (Header::Zero, 1, Refused2),
         (Header::Zero, 256, Refused2),
         (Header::SlotsUsed, 65_535, Refused2),
+        (Header::RecordsUsed, 0, Refused2),
         (Header::RecordsUsed, 65_535, Refused2),
     ];
     let edit = |(field, value, meant)| {
@@ -121,9 +123,15 @@ fn retentions() -> Vec<Edit> {
 }
 
 fn entries() -> Vec<Edit> {
+    let expiries = [
+        (0, Totals),
+        (65_000, Totals),
+        (65_001, Refused2),
+        (65_535, Refused2),
+    ];
     let mut edits = Vec::new();
     for pbn in [0, 3] {
-        for (expiry, meant) in [(0, Totals), (65_000, Totals), (65_001, Refused2)] {
+        for (expiry, meant) in expiries {
             let name = format!("expiry-of-{pbn}-{expiry}");
             edits.push(Edit::new(name, meant, move |book| {
                 book.edit_entry(Pbn(pbn), |entry| entry.expiry = expiry);
@@ -159,6 +167,7 @@ fn entry_states() -> Vec<Edit> {
     vec![
         edited("free-with-count-1", Refused2, 3, 1, FREE, 0),
         edited("free-with-count-255", Refused2, 3, 255, FREE, 0),
+        edited("free-with-fingerprint", Refused2, 0, 0, FREE, b'A'),
         edited("held-with-count-255", Totals, 0, 255, HELD, b'A'),
         edited("held-with-zero-fingerprint", Totals, 1, 2, HELD, 0),
         edited("held-last-with-zero-fingerprint", Totals, 3, 0, HELD, 0),

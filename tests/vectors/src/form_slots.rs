@@ -120,6 +120,11 @@ fn pairs() -> Vec<Edit> {
         book.edit_slot(2, |slot| slot.number = 65_535);
         book.edit_slot(3, |slot| (slot.first, slot.number) = (2, 3));
     }));
+    edits.push(Edit::new("pairs-end-at-65536", Refused2, move |book| {
+        use_no_records(book);
+        book.edit_slot(2, |slot| slot.number = 65_535);
+        book.edit_slot(3, |slot| (slot.first, slot.number) = (65_535, 1));
+    }));
     for (used, name) in [(4, "pairs-end-after-used"), (6, "pairs-end-before-used")] {
         edits.push(Edit::new(name, Refused2, move |book| {
             book.set_record(4, UNUSED_RECORD);
@@ -130,24 +135,26 @@ fn pairs() -> Vec<Edit> {
 }
 
 fn second_bytes() -> Vec<Edit> {
-    let edit = |index| {
-        let name = format!("slot-{index}-second-byte");
+    let edit = |(index, byte)| {
+        let name = format!("slot-{index}-second-byte-{byte}");
         Edit::new(name, Refused2, move |book| {
-            book.edit_slot(index, |slot| slot.zero = 1);
+            book.edit_slot(index, |slot| slot.zero = byte);
         })
     };
-    (0..6).map(edit).collect()
+    let ones = (0..6).map(|index| (index, 1));
+    ones.chain([(3, 255)]).map(edit).collect()
 }
 
 type SlotEdit = (&'static str, fn(&mut Slot));
 
 fn unused() -> Vec<Edit> {
-    let fields: [SlotEdit; 5] = [
+    let fields: [SlotEdit; 6] = [
         ("volume", |slot| slot.volume = 1),
         ("day", |slot| slot.day = 9),
         ("day-high", |slot| slot.day = 256),
         ("first", |slot| slot.first = 5),
         ("number", |slot| slot.number = 1),
+        ("number-high", |slot| slot.number = 256),
     ];
     let mut edits = Vec::new();
     for index in [4, 5] {
@@ -174,6 +181,15 @@ fn clear_records(book: &mut EditedBook) {
     }
 }
 
+/// All backups without changes.
+fn use_no_records(book: &mut EditedBook) {
+    clear_records(book);
+    book.set_header(Header::RecordsUsed, 0);
+    for index in 0..4 {
+        book.edit_slot(index, |slot| (slot.first, slot.number) = (0, 0));
+    }
+}
+
 fn without_slots() -> Vec<Edit> {
     vec![
         Edit::new("no-slots-no-records", Totals, move |book| {
@@ -187,12 +203,10 @@ fn without_slots() -> Vec<Edit> {
             clear_records(book);
             book.set_header(Header::RecordsUsed, 1);
         }),
-        Edit::new("slots-without-records", Totals, move |book| {
+        Edit::new("slots-without-records", Totals, use_no_records),
+        Edit::new("slots-of-records-not-there", Refused2, move |book| {
             clear_records(book);
             book.set_header(Header::RecordsUsed, 0);
-            for index in 0..4 {
-                book.edit_slot(index, |slot| (slot.first, slot.number) = (0, 0));
-            }
         }),
     ]
 }

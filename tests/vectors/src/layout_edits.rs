@@ -19,6 +19,9 @@ pub fn vectors() -> Vec<Vector> {
     for (name, field, values) in SIZE_FIELDS {
         vectors.extend(values.map(|value| size_alone(name, field, value)));
     }
+    for (name, field, values) in SIZES_BESIDE {
+        vectors.extend(values.map(|value| size_in_place(name, field, value).vector()));
+    }
     vectors.push(wrapped_length());
     vectors
 }
@@ -29,6 +32,14 @@ const SIZE_FIELDS: [(&str, Header, [u16; 2]); 4] = [
     ("lbns", Header::Lbns, [0, 1_025]),
     ("slots", Header::Slots, [0, 1_025]),
     ("records", Header::Records, [0, 16_385]),
+];
+
+/// Each size in range, one off what the length after case d is for.
+const SIZES_BESIDE: [(&str, Header, [u16; 2]); 4] = [
+    ("blocks", Header::Blocks, [3, 5]),
+    ("lbns", Header::Lbns, [3, 5]),
+    ("slots", Header::Slots, [5, 7]),
+    ("records", Header::Records, [7, 9]),
 ];
 
 fn refused(name: impl Into<String>, book: Vec<u8>) -> Vector {

@@ -1,6 +1,7 @@
 //! Books and other inputs at the ends of what tally takes: by sizes and by length.
 
-use reference::layout::{self, Book, Entry, Pbn, Sizes, HELD};
+use reference::layout::{self, Book, Entry, Header, Lbn, Pbn, Record, Sizes, Slot, HELD};
+use reference::refusal::Refusal;
 use reference::tally::INPUT_MAX;
 
 use crate::vector::Meant::{Refused1, Refused2, Totals};
@@ -21,12 +22,21 @@ const LARGEST: Sizes = sizes(4_096, 1_024, 1_024, 16_384);
 const UNDER: Sizes = sizes(1_325, 1_000, 999, 2_501);
 const LONGEST: Sizes = sizes(1_325, 1_000, 1_000, 2_500);
 const OVER: Sizes = sizes(1_325, 1_000, 1_001, 2_499);
+/// The last block at the last LBN of the largest book, in the place of itself.
+const LAST: Record = Record {
+    lbn: Lbn(1_023),
+    before: Pbn(4_095),
+    after: Pbn(4_095),
+};
 /// As many blocks as a book of at most 65,536 bytes has room for.
 const MOST_BLOCKS: Sizes = sizes(3_273, 1, 1, 1);
 
 pub fn vectors() -> Vec<Vector> {
     let mut vectors = books();
     vectors.extend(long_inputs());
+    for (name, book, _) in long_books() {
+        vectors.push(Vector::new(name, book, Refused1));
+    }
     vectors.extend(inputs_of_one_byte());
     vectors
 }
@@ -67,6 +77,32 @@ fn all_held(sizes: Sizes, count: u8) -> Vec<u8> {
     bytes
 }
 
+/// The largest book with all slots and records used, its numbers at the ends of their ranges.
+fn largest_used(last: Record) -> Vec<u8> {
+    let mut bytes = all_held(LARGEST, 255);
+    let mut book = Book::over(&mut bytes[..]);
+    book.set_header(Header::SlotsUsed, 1_024);
+    book.set_header(Header::RecordsUsed, 16_384);
+    book.set_header(Header::Day, 60_000);
+    book.set_header(Header::Cursor, 4_095);
+    book.set_retention(7, 5_000);
+    for index in 0..1_024 {
+        let slot = Slot {
+            volume: 7,
+            zero: 0,
+            day: 58 * index,
+            first: 16 * index,
+            number: 16,
+        };
+        book.set_slot(index.into(), slot);
+    }
+    for index in 0..16_383 {
+        book.set_record(index, LAST);
+    }
+    book.set_record(16_383, last);
+    bytes
+}
+
 fn books() -> Vec<Vector> {
     assert_eq!(SMALLEST.book_bytes(), 86);
     assert_eq!(LONGEST.book_bytes(), INPUT_MAX);
@@ -99,7 +135,34 @@ fn long_inputs() -> Vec<Vector> {
         Vector::new("bytes-65538", book_of(OVER), Refused1),
         Vector::new("bytes-131072", padded(book_of(LONGEST), 131_072), Refused1),
         Vector::new("bytes-65812", padded(after_d, 65_536 + 276), Refused1),
-        Vector::new("largest", book_of(LARGEST), Refused1),
+    ]
+}
+
+/// Books of a right length that is above what tally takes, with what form says of them.
+fn long_books() -> Vec<(&'static str, Vec<u8>, Result<(), Refusal>)> {
+    let before_first = Record {
+        before: Pbn(0),
+        ..LAST
+    };
+    let after_no_block = Record {
+        after: Pbn(4_096),
+        ..LAST
+    };
+    vec![
+        ("blocks-4096", fresh(sizes(4_096, 4, 6, 8)), Ok(())),
+        ("records-16384", fresh(sizes(4, 4, 6, 16_384)), Ok(())),
+        ("largest", book_of(LARGEST), Ok(())),
+        ("largest-used", largest_used(LAST), Ok(())),
+        (
+            "largest-used-last-before-0",
+            largest_used(before_first),
+            Ok(()),
+        ),
+        (
+            "largest-used-last-after-n",
+            largest_used(after_no_block),
+            Err(Refusal::Form),
+        ),
     ]
 }
 
@@ -112,4 +175,17 @@ fn inputs_of_one_byte() -> Vec<Vector> {
         }
     }
     vectors
+}
+
+#[cfg(test)]
+mod tests {
+    use super::long_books;
+    use reference::form;
+
+    #[test]
+    fn form_says_of_each_long_book_what_is_meant() {
+        for (name, book, meant) in long_books() {
+            assert_eq!(form::check(&book).map(|_| ()), meant, "{name}");
+        }
+    }
 }
