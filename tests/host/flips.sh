@@ -7,7 +7,7 @@ expect 0 "made" format box --blocks 20 --cells 16 --slots 8 --journal 60 --day-z
 expect 0 "enrolled" enrol box 0 --keep 10
 expect 0 "enrolled" enrol box 1 --keep 10
 blocks ABCDEFGHIJKLMNOP >first
-blocks 0123456 >second
+blocks 01234 >second
 expect 0 "16 of 16 blocks sent, 16 new" backup box 0 first --day 2026-01-02
 cp -r box whole
 # flip FILE BYTE BIT
@@ -31,6 +31,29 @@ unsound() {
 }
 flip box/book $((36 + 20 * 3)) 0
 unsound "its bytes don't fit their digest"
+
+# Every bit, one after the other: list, collect, backup and restore. With ASPEN_EVERY set, every so many bits.
+every_bit() {
+    local memory line
+    store=small
+    expect 0 "made" format small --blocks 2 --cells 1 --slots 3 --journal 2 --day-zero 2026-01-01
+    expect 0 "enrolled" enrol small 0 --keep 10
+    expect 0 "enrolled" enrol small 1 --keep 10
+    head -c 500 /dev/urandom >image
+    expect 0 "1 of 1" backup small 0 image --day 2026-01-02
+    # In memory, where that is to be had: the program syncs its files at every call.
+    memory=$(mktemp -d -p /dev/shm 2>/dev/null || mktemp -d)
+    while IFS= read -r line; do
+        if [ "${line%% *}" = good ]; then pass; else complain "$line"; fi
+    done < <(python3 "$here/flips.py" "$program" small image "$memory" "${ASPEN_EVERY:-1}" 2>&1)
+    rm -rf "$memory"
+    store=box
+}
+if command -v python3 >/dev/null; then
+    every_bit
+else
+    echo "not run: every bit of a store flipped (no python3)"
+fi
 
 # A store of the first version has no digest: its book is audited all the same.
 rm -r box
@@ -67,21 +90,3 @@ cp -r aged box
 expect 0 "" collect box --day 2026-01-03
 flip box/lock 40 0
 expect 5 "it is the book of another store" collect box --day 2026-01-03
-
-# Every bit, one after the other: list, collect, backup and restore. With ASPEN_EVERY set, every so many bits.
-if ! command -v python3 >/dev/null; then
-    echo "not run: every bit of a store flipped (no python3)"
-    return 0
-fi
-store=small
-expect 0 "made" format small --blocks 2 --cells 1 --slots 3 --journal 2 --day-zero 2026-01-01
-expect 0 "enrolled" enrol small 0 --keep 10
-expect 0 "enrolled" enrol small 1 --keep 10
-head -c 500 /dev/urandom >image
-expect 0 "1 of 1" backup small 0 image --day 2026-01-02
-# In memory, where that is to be had: the program syncs its files at every call.
-memory=$(mktemp -d -p /dev/shm 2>/dev/null || mktemp -d)
-while IFS= read -r line; do
-    if [ "${line%% *}" = good ]; then pass; else complain "$line"; fi
-done < <(python3 "$here/flips.py" "$program" small image "$memory" "${ASPEN_EVERY:-1}" 2>&1)
-rm -rf "$memory"
