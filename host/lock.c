@@ -88,6 +88,7 @@ void lock_take(struct lock *lock, const char *folder, enum lock_use use, bool wa
 {
     struct bytes bytes;
 
+    memset(lock, 0, sizeof *lock); /* what a damaged file doesn't tell is looked at all the same */
     lock->path = join_text(folder, "/", "lock");
     lock->fd = file_open(lock->path, use == LOCK_TO_WRITE ? O_RDWR : O_RDONLY);
     if (lock->fd < 0 && file_missing())
