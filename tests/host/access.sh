@@ -53,7 +53,7 @@ as_nobody() {
     # shellcheck disable=SC2086
     setpriv --reuid 65534 --regid 65534 --clear-groups $program "$@"
 }
-if [ "$(id -u)" -eq 0 ] && chmod 755 "$work" . && as_nobody --version >"$work/log" 2>&1; then
+if [ "$(id -u)" -eq 0 ] && chmod 755 "$work" "$work/sections" . && as_nobody --version >"$work/log" 2>&1; then
     chown -R 0:0 box
     chmod 777 box
     chmod 666 box/*

@@ -12,6 +12,8 @@ expect 2 "--day wants a value: --day DATE" collect box --day
 # An option in the place of a value is one that was meant to follow the value.
 expect 2 "--day wants a value: --day DATE" collect box --day --no-wait
 expect 2 "--keep wants a value: --keep DAYS" enrol box 0 --keep --json
+expect 2 "--day wants a value: --day DATE" collect box --day --json
+check "nothing was made of it" test ! -e --json
 expect 2 "--day-zero wants a value" format box --day-zero --blocks 4
 expect 2 "there is no option --day-numbe=3; see" collect box --day-numbe=3
 expect 2 "--json takes no value" audit box --json=yes
