@@ -90,8 +90,8 @@ ln -s . here
 cp -r box whole
 for out in box/book box/pool box/lock box/book.new ./box//pool box/../box/pool "$PWD/box/pool" linked/pool here/box/book \
     here/here/linked/lock other/pool; do
-    expect 2 "$out is a file of a store; name another file" restore box 0 1 $out --force
-    expect 2 "is a file of a store" restore box 0 1 $out
+    expect 2 "$out is a file of a store; name another file" restore box 0 1 "$out" --force
+    expect 2 "is a file of a store" restore box 0 1 "$out"
 done
 (cd box && box restore . 0 1 pool --force && echo "$status" >"$work/status")
 check "by its name alone" same "$(cat "$work/status")" 2

@@ -1,12 +1,10 @@
 # shellcheck shell=bash disable=SC2034,SC2154
 # Every refusal that the command line can bring about, with what to do. `expect` sees that none changes the store.
 small_store box
-# image LETTERS: a file of these blocks, of the same name
-image() {
-    blocks "$1" >"$1"
-}
+# Images, named by their blocks.
 for letters in A B E AB BCA ABCC ABCD; do
-    image $letters
+    # shellcheck disable=SC2094
+    blocks $letters >$letters
 done
 blocks AB >aid
 expect 3 "refused 5: volume 0 is enrolled already and keeps its backups 10 days" enrol box 0 --keep 4
@@ -69,7 +67,7 @@ for letters in ABCDEFGH BCDEFGHA; do
     for _ in $(seq 128); do cat eight; done >$letters
 done
 for day in $(seq 1 2 15); do
-    expect 0 "1024 of 1024" backup longest 0 ABCDEFGH --day-number $day
+    expect 0 "1024 of 1024" backup longest 0 ABCDEFGH --day-number "$day"
     expect 0 "1024 of 1024" backup longest 0 BCDEFGHA --day-number $((day + 1))
 done
 expect 3 "refused 10: the journal has 0 of its 16384 places left and this backup needs 1; format a second store" backup longest 0 A --day-number 17
