@@ -165,6 +165,7 @@ expect 0 "1024 of 1024" backup large 0 image --day 2026-01-02
 # while_slow COMMAND REDIRECTION: while nobody reads more than a byte of what it writes to the pipe, a writer gets the store at
 # once. What it writes is then in `written`.
 volume=2
+day=2026-01-02
 while_slow() {
     local slow
     exec 8<>pipe
@@ -172,7 +173,7 @@ while_slow() {
     slow=$!
     timeout 60 dd bs=1 count=1 status=none <&8 >written
     check "aspenbox $1 has begun to write" test -s written
-    expect 0 "collected" collect large --day 2026-01-02 --no-wait
+    expect 0 "collected" collect large --day "$day" --no-wait
     expect 0 "enrolled" enrol large "$volume" --keep 3 --no-wait
     volume=$((volume + 1))
     check "aspenbox $1 isn't done yet" kill -0 $slow
@@ -188,9 +189,21 @@ cp "$work/out" book
 while_slow "book large" ">pipe"
 check "the book came" cmp written book
 expect 0 "enrolled" enrol large 1 --keep 3
+# So it is while an image comes slowly: the pipe takes 64 KiB, so that with 200,000 bytes given it is being read.
+exec 8<>pipe
+(eval "exec $program backup large 0 - --day 2026-01-03" 8<&-) >slow.out 2>&1 <pipe &
+slow=$!
+timeout 60 head -c 200000 image >&8
+expect 0 "collected" collect large --day 2026-01-02 --no-wait
+check "the backup isn't done yet" kill -0 $slow
+timeout 60 tail -c +200001 image >&8
+exec 8<&-
+check "the backup ends" wait $slow
+check "and has all of the image" grep -q "^backup 2 of volume 0 on 2026-01-03: 0 of 1024 blocks sent" slow.out
 # Every block rotted, so that there is more to note than a pipe takes.
 head -c 524288 /dev/zero | dd of=large/pool conv=notrunc status=none
-while_slow "backup large 1 image --day 2026-01-02" "2>pipe"
+day=2026-01-03
+while_slow "backup large 1 image --day 2026-01-03" "2>pipe"
 check "the notes came" test "$(grep -c 'has its bytes back from image$' written)" -eq 1024
 rm -r large
 

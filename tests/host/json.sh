@@ -42,6 +42,9 @@ expect_json 5 'o["error"]["status"] == 5' audit none
 # Names with quotes, control bytes, letters beyond ASCII and bytes that are no UTF-8.
 expect_json 5 'o["error"]["message"].startswith("a\"\\\n\u00e9\u20ac\U0001f333 is no store")' audit $'a"\\\n\u00e9\u20ac\U1f333'
 expect_json 5 'o["error"]["message"].startswith("\ufffd\ufffd\ufffd\ufffdx is no store")' audit $'\xff\xc0\xaf\xe2x'
+# Control characters don't get to a terminal, those above U+007F neither.
+expect_json 5 'o["error"]["message"].startswith("a\u001b[31m\u007f\u009b\u00a0b is no store")' audit $'a\x1b[31m\x7f\u009b\u00a0b'
+check "escaped" grep -qF 'a\u001b[31m\u007f\u009b' "$work/out"
 # A damaged book: what reads gives its answer with a note, what writes an error, and so does a book that isn't in form.
 cp box/book book
 poke box/book 36 05
