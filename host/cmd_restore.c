@@ -22,12 +22,15 @@
 #include <sys/stat.h>
 #include <unistd.h>
 
+/* What a backup has at an LBN. */
+enum found { FOUND_NONE, FOUND_FITTING, FOUND_DAMAGED };
+
 struct restored {
     uint16_t first, last; /* the LBNs that are asked for */
     bool whole;           /* whether that is the whole volume */
     struct bytes image;   /* their blocks */
-    struct bytes damaged; /* for each of them 1 if its bytes don't fit, else 0 */
-    unsigned mapped, damaged_count;
+    struct bytes found;   /* for each of them what was found */
+    unsigned mapped, damaged;
     size_t sent; /* the blocks up to the last that was ever sent */
 };
 
@@ -151,9 +154,10 @@ static void take_block(struct asked *asked, struct restored *restored, struct by
     if (refusal != ASPEN_OK)
         refuse(refusal, asked);
     memcpy(restored->image.at + index * ASPEN_BLOCK_SIZE, store->pool.at + at, ASPEN_BLOCK_SIZE);
-    if (!print_fits(store->pool.at + at, view_print(blocks, (uint16_t)(at / ASPEN_BLOCK_SIZE))))
-        restored->damaged.at[index] = 1;
-    restored->mapped++;
+    restored->found.at[index] =
+        print_fits(store->pool.at + at, view_print(blocks, (uint16_t)(at / ASPEN_BLOCK_SIZE)))
+            ? FOUND_FITTING
+            : FOUND_DAMAGED;
     restored->sent = index + 1;
 }
 
@@ -163,7 +167,7 @@ static void collect_blocks(struct asked *asked, struct restored *restored)
     size_t count = (size_t)restored->last - restored->first + 1;
 
     restored->image = bytes_new(ASPEN_BLOCK_SIZE * count);
-    restored->damaged = bytes_new(count);
+    restored->found = bytes_new(count);
     for (size_t i = 0; i < count; i++) {
         progress("restoring", i, count);
         asked->lbn = (uint16_t)(restored->first + i);
@@ -184,10 +188,12 @@ static void cut_to_length(const struct asked *asked, struct restored *restored)
         if (bytes < restored->image.length)
             restored->image.length = bytes;
         count = (restored->image.length + ASPEN_BLOCK_SIZE - 1) / ASPEN_BLOCK_SIZE;
-        restored->damaged.length = count;
+        restored->found.length = count;
     }
-    for (size_t i = 0; i < restored->damaged.length; i++)
-        restored->damaged_count += restored->damaged.at[i];
+    for (size_t i = 0; i < restored->found.length; i++) {
+        restored->mapped += restored->found.at[i] != FOUND_NONE;
+        restored->damaged += restored->found.at[i] == FOUND_DAMAGED;
+    }
 }
 
 static void show_json(const struct asked *asked, const struct restored *restored, const char *out)
@@ -197,11 +203,11 @@ static void show_json(const struct asked *asked, const struct restored *restored
     json_number("number", asked->number);
     json_string("out", out);
     json_number("bytes", (long)restored->image.length);
-    json_number("blocks", (long)restored->damaged.length);
+    json_number("blocks", (long)restored->found.length);
     json_number("mapped", restored->mapped);
     json_open("damaged", '[');
-    for (size_t i = 0; i < restored->damaged.length; i++)
-        if (restored->damaged.at[i] != 0)
+    for (size_t i = 0; i < restored->found.length; i++)
+        if (restored->found.at[i] == FOUND_DAMAGED)
             json_number(NULL, (long)(restored->first + i));
     json_close(']');
     notes_to_json();
@@ -226,9 +232,9 @@ static void show(const struct asked *asked, const struct restored *restored, con
     }
     show_line(out,
               text_of("restored backup %u of volume %u to %s: %zu bytes, %zu blocks", asked->number,
-                      asked->volume, out, restored->image.length, restored->damaged.length));
-    for (size_t i = 0; i < restored->damaged.length; i++)
-        if (restored->damaged.at[i] != 0)
+                      asked->volume, out, restored->image.length, restored->found.length));
+    for (size_t i = 0; i < restored->found.length; i++)
+        if (restored->found.at[i] == FOUND_DAMAGED)
             show_line(out, text_of("LBN %zu is damaged: its bytes don't fit their fingerprint",
                                    restored->first + i));
 }
@@ -252,11 +258,11 @@ int run_restore(const struct request *request)
         restored.last = (uint16_t)(view_figures(store.book).cells - 1);
     collect_blocks(&asked, &restored);
     cut_to_length(&asked, &restored);
-    status = status_of(&store, restored.damaged_count == 0 ? STATUS_DONE : STATUS_UNSOUND);
+    status = status_of(&store, restored.damaged == 0 ? STATUS_DONE : STATUS_UNSOUND);
     store_close(&store);
     write_out(out, force, restored.image);
     show(&asked, &restored, out);
     bytes_free(&restored.image);
-    bytes_free(&restored.damaged);
+    bytes_free(&restored.found);
     return status;
 }

@@ -14,7 +14,7 @@ enum { WARN_PERCENT = 90 };
 
 /* Something that fills up. */
 struct fill {
-    const char *name, *what;
+    const char *name, *is, *what;
     unsigned used, room;
 };
 
@@ -74,11 +74,11 @@ static void summarize(struct summary *summary, const struct request *request)
                          &summary->waiting, &references);
     if (number != ASPEN_OK)
         refuse_store(store, number);
-    summary->fills[0] = (struct fill){"pool", "blocks held", summary->held, blocks};
-    summary->fills[1] = (struct fill){"slots", "backups taken", summary->figures.slots_used,
+    summary->fills[0] = (struct fill){"pool", "is", "blocks held", summary->held, blocks};
+    summary->fills[1] = (struct fill){"slots", "are", "backups taken", summary->figures.slots_used,
                                       summary->figures.slots};
-    summary->fills[2] = (struct fill){"journal", "changes noted", summary->figures.records_used,
-                                      summary->figures.records};
+    summary->fills[2] = (struct fill){"journal", "is", "changes noted",
+                                      summary->figures.records_used, summary->figures.records};
     summary->percent =
         request->options[OPTION_WARN] != NULL ? option_number(request, OPTION_WARN) : WARN_PERCENT;
     summary->older =
@@ -92,7 +92,8 @@ static void warn(struct summary *summary)
 {
     for (size_t i = 0; i < 3; i++)
         if (is_nearly_full(summary, &summary->fills[i])) {
-            note("%s: %u %% full", summary->fills[i].name, percent_of(&summary->fills[i]));
+            note("the %s %s %u %% full", summary->fills[i].name, summary->fills[i].is,
+                 percent_of(&summary->fills[i]));
             summary->warnings++;
         }
     for (uint16_t volume = 0; volume < ASPEN_VOLUMES; volume++) {

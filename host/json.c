@@ -56,8 +56,9 @@ static void add_quoted(const char *value)
         if (size == 0) {
             add_text("\\ufffd");
             size = 1;
-        } else if (*at < 0x20 || *at == 0x7F) {
-            snprintf(escape, sizeof escape, "\\u%04x", (unsigned)*at);
+        } else if (*at < 0x20 || *at == 0x7F || (*at == 0xC2 && at[1] < 0xA0)) {
+            /* a control character; those above U+007F have their number in the second byte */
+            snprintf(escape, sizeof escape, "\\u%04x", (unsigned)at[size - 1]);
             add_text(escape);
         } else {
             if (*at == '"' || *at == '\\')

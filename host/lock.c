@@ -79,7 +79,7 @@ static void take(const struct lock *lock, int operation, bool wait)
     if (errno == EWOULDBLOCK && !wait)
         fail(STATUS_BUSY, "another aspenbox uses the store; try again later, or without --no-wait");
     if (errno == EWOULDBLOCK)
-        note("another aspenbox uses the store; waiting for it");
+        note_now("another aspenbox uses the store; waiting for it");
     while (flock(lock->fd, operation) != 0)
         if (errno != EINTR)
             fail(STATUS_FILES, "can't lock %s: %s", lock->path, strerror(errno));

@@ -12,7 +12,7 @@
 #include <string.h>
 
 static bool as_json;
-static char **notes;
+static char **notes; /* that weren't written yet */
 static size_t notes_count;
 
 void messages_as_json(bool json)
@@ -90,11 +90,31 @@ static void error_to_json(enum status status, unsigned number, const char *messa
     json_send();
 }
 
-static _Noreturn void end(enum status status, unsigned number, const char *message)
+static void add_note(char *text)
+{
+    notes = resized(notes, (notes_count + 1) * sizeof *notes);
+    notes[notes_count++] = text;
+}
+
+/* Writes the notes, but for those that are in the answer. */
+static void send_notes(void)
 {
     progress_end();
+    for (size_t i = 0; i < notes_count; i++) {
+        if (!as_json)
+            fprintf(stderr, "aspenbox: note: %s\n", notes[i]);
+        free(notes[i]);
+    }
+    free(notes);
+    notes = NULL;
+    notes_count = 0;
+}
+
+static _Noreturn void end(enum status status, unsigned number, const char *message)
+{
     if (as_json)
         error_to_json(status, number, message);
+    send_notes();
     answer_send();
     if (!as_json && number != 0)
         fprintf(stderr, "aspenbox: refused %u: %s\n", number, message);
@@ -128,19 +148,21 @@ void fail_refused(enum status status, unsigned number, const char *format, ...)
 void note(const char *format, ...)
 {
     va_list arguments;
-    char *text;
 
     va_start(arguments, format);
-    text = worded(format, arguments);
+    add_note(worded(format, arguments));
     va_end(arguments);
-    if (as_json) {
-        notes = resized(notes, (notes_count + 1) * sizeof *notes);
-        notes[notes_count++] = text;
-        return;
-    }
-    progress_end();
-    fprintf(stderr, "aspenbox: note: %s\n", text);
-    free(text);
+}
+
+void note_now(const char *format, ...)
+{
+    va_list arguments;
+
+    va_start(arguments, format);
+    add_note(worded(format, arguments));
+    va_end(arguments);
+    if (!as_json)
+        send_notes();
 }
 
 void notes_to_json(void)
@@ -155,6 +177,7 @@ void notes_to_json(void)
 
 void flush_answer(void)
 {
+    send_notes();
     if (!answer_send()) {
         fprintf(stderr, "aspenbox: done, but the answer can't be printed: %s\n", strerror(errno));
         exit(STATUS_FILES);

@@ -22,8 +22,11 @@ _Noreturn void fail(enum status status, const char *format, ...)
 _Noreturn void fail_refused(enum status status, unsigned number, const char *format, ...)
     __attribute__((format(printf, 3, 4)));
 
-/* Tells something that doesn't stop the work: on standard error, or among the answer's notes. */
+/* Tells something that doesn't stop the work: on standard error, or among the answer's notes. It is
+ * written when the answer is, for the same reason. */
 void note(const char *format, ...) __attribute__((format(printf, 1, 2)));
+/* The same, but written at once; for what is told before the store is locked. */
+void note_now(const char *format, ...) __attribute__((format(printf, 1, 2)));
 
 /* Writes the notes into the open JSON object. */
 void notes_to_json(void);

@@ -219,16 +219,35 @@ char *store_date(const struct store *store, long day, char *text)
     return date_write(store->lock.day_zero + day, text);
 }
 
+/* The files of a store: the three that it has, and one that is there for a while. */
+static const char *const file_names[] = {"book", "pool", "lock", "book.new"};
+
+enum { LASTING_FILES = 3, ALL_FILES };
+
+/* Whether the folder is a store, be it one with a damaged lock. */
+static bool is_store(const char *folder)
+{
+    bool all = true;
+
+    for (size_t i = 0; i < LASTING_FILES; i++) {
+        char *path = join_text(folder, "/", file_names[i]);
+        struct stat found;
+
+        all = all && lstat(path, &found) == 0;
+        free(path);
+    }
+    return all || lock_is_ours(folder);
+}
+
 bool store_has_file(const char *path)
 {
-    static const char *const names[] = {"book", "pool", "lock", "book.new"};
     const char *slash = strrchr(path, '/');
     char *folder = folder_of(path);
     bool named = false, has;
 
-    for (size_t i = 0; i < sizeof names / sizeof names[0]; i++)
-        named = named || strcmp(slash != NULL ? slash + 1 : path, names[i]) == 0;
-    has = named && lock_is_ours(folder);
+    for (size_t i = 0; i < ALL_FILES; i++)
+        named = named || strcmp(slash != NULL ? slash + 1 : path, file_names[i]) == 0;
+    has = named && is_store(folder);
     free(folder);
     return has;
 }

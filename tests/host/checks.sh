@@ -16,7 +16,8 @@ host_program() {
     export ASAN_OPTIONS=exitcode=99 UBSAN_OPTIONS=exitcode=99
     check "aspenbox builds with sanitizers" ../scripts/host "$scratch/aspenbox.sanitized" -g \
         -fsanitize=address,undefined -fno-sanitize-recover=all
-    host_run sanitized "$scratch/aspenbox.sanitized"
+    # Every bit of a store takes long with it.
+    ASPEN_EVERY=13 host_run sanitized "$scratch/aspenbox.sanitized"
     if command -v valgrind >/dev/null; then
         check "aspenbox builds for valgrind" ../scripts/host "$scratch/aspenbox.valgrind" -gdwarf-4
         host_run valgrind "valgrind --quiet --error-exitcode=99 --leak-check=full \

@@ -5,9 +5,17 @@ expect 2 "there is no command sing; see aspenbox --help" sing
 expect 2 "there is no option --loud; see aspenbox audit --help" audit box --loud
 expect 2 "there is no option -v; see aspenbox --help" -v
 expect 2 "there is no option --da; see" collect box --da 3
-expect 2 "audit takes no --day; see aspenbox audit --help" audit box --day 3
-expect 2 "--day is given twice" collect box --day 3 --day 4
-expect 2 "--day wants a value: --day D" collect box --day
+expect 2 "there is no option --state; see aspenbox backup --help" backup box 0 aid --state file
+expect 2 "audit takes no --day; see aspenbox audit --help" audit box --day 2026-01-03
+expect 2 "--day is given twice" collect box --day 2026-01-03 --day 2026-01-04
+expect 2 "--day wants a value: --day DATE" collect box --day
+# An option in the place of a value is one that was meant to follow the value.
+expect 2 "--day wants a value: --day DATE" collect box --day --no-wait
+expect 2 "--keep wants a value: --keep DAYS" enrol box 0 --keep --json
+expect 2 "--day wants a value: --day DATE" collect box --day --json
+check "nothing was made of it" test ! -e --json
+expect 2 "--day-zero wants a value" format box --day-zero --blocks 4
+expect 2 "there is no option --day-numbe=3; see" collect box --day-numbe=3
 expect 2 "--json takes no value" audit box --json=yes
 expect 2 "enrol wants --keep DAYS; see aspenbox enrol --help" enrol box 0
 expect 2 "enrol wants DIR VOLUME; see aspenbox enrol --help" enrol box --keep 3
@@ -27,7 +35,7 @@ expect 0 "sound" audit -- --json
 expect 0 "Every command takes" --help
 cp "$work/out" help
 commands=$(awk '/^  aspenbox / { print $2 }' help)
-check "ten commands" test "$(wc -w <<<"$commands")" -eq 10
+check "twelve commands" test "$(wc -w <<<"$commands")" -eq 12
 for command in $commands; do
     expect 0 "usage: aspenbox $command" "$command" --help
     check "the synopsis of $command is that of aspenbox --help" grep -qFx -- "  $(sed -n 's/^usage: //p' "$work/out")" help

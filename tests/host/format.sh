@@ -5,15 +5,21 @@ store=new
 expect 0 "made the store new: 4 blocks, volumes of 4 blocks, 6 backups, 8 changes; day 0 is 2026-02-28" \
     format new "${sizes[@]}" --day-zero 2026-02-28
 check "book, pool and lock and nothing else" same "$(ls new)" $'book\nlock\npool'
-check "length of the book" same "$(wc -c <new/book)" 276
+# The book, and behind it the seal.
+check "length of the book" same "$(wc -c <new/book)" $((276 + 64))
+expect 0 "" book new
+check "length of the book alone" same "$(wc -c <"$work/out")" 276
+check "the file starts with the book" cmp -n 276 new/book "$work/out"
 check "length of the pool" same "$(wc -c <new/pool)" 2048
 check "lock" same "$(head -2 new/lock)" $'aspenbox 1\nday-zero 2026-02-28'
+check "the lock's last line is the digest of those before it" same "$(tail -1 new/lock)" \
+    "digest $(head -3 new/lock | sha256sum | cut -d' ' -f1)"
 check "folder for its owner alone" same "$(stat -c %a new)" 700
 expect 2 "has a book already" format new "${sizes[@]}"
 
 store=today
 expect 0 "day 0 is $(date -u +%F)" format today "${sizes[@]}"
-check "two stores differ in identity" test "$(tail -1 new/lock)" != "$(tail -1 today/lock)"
+check "two stores differ in identity" test "$(sed -n 3p new/lock)" != "$(sed -n 3p today/lock)"
 
 store=bare
 mkdir bare
@@ -28,6 +34,13 @@ rm bare/book
 poke bare/pool 600 41
 expect 2 "has a pool with blocks in it and no book" format bare "${sizes[@]}"
 expect 5 "has no book" list bare
+rm -r bare
+# Nor is a file named pool that is longer than the pool would be.
+mkdir bare
+head -c 2049 /dev/zero >bare/pool
+expect 2 "bare/pool is longer than the pool of this store; format another folder" format bare "${sizes[@]}"
+check "the longer file is as it was" same "$(wc -c <bare/pool)" 2049
+check "nothing was put beside it" same "$(ls bare)" pool
 rm -r bare
 mkdir bare
 echo mine >bare/lock
@@ -50,10 +63,10 @@ expect 4 "can't make the folder" format deep/er "${sizes[@]}"
 for pair in 2024-02-28:2024-02-29 2000-02-28:2000-02-29 2100-02-28:2100-03-01 2026-12-31:2027-01-01 2028-12-31:2029-01-01; do
     store=${pair%:*}
     expect 0 "day 0 is ${pair%:*}" format "$store" "${sizes[@]}" --day-zero "${pair%:*}"
-    expect 0 "as of ${pair#*:};" collect "$store" --day 1
-    expect 0 "as of ${pair#*:};" collect "$store" --day "${pair#*:}"
+    expect 0 "as of ${pair#*:};" collect "$store" --day-number 1 --ahead
+    expect 0 "as of ${pair#*:};" collect "$store" --day "${pair#*:}" --ahead
 done
 store=largest
 expect 0 "made the store" format largest --blocks 4096 --cells 1024 --slots 1024 --journal 16384
-check "length of the largest book" same "$(wc -c <largest/book)" 204836
+check "length of the largest book" same "$(wc -c <largest/book)" $((204836 + 64))
 rm -r largest

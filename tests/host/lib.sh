@@ -3,6 +3,7 @@
 passed=0
 failed=0
 store=box # the store that a call may change
+input=/dev/null # the standard input of calls
 
 pass() {
     passed=$((passed + 1))
@@ -30,11 +31,20 @@ content() {
     [ ! -d "$store" ] || find "$store" -type f -exec sha256sum {} + | sort
 }
 
+# The book and pool of a store as its first version had them: no digest, no lengths. age STORE
+age() {
+    # shellcheck disable=SC2086
+    $program book "$1" >"$work/bare" </dev/null
+    cat "$work/bare" >"$1/book"
+    head -3 "$1/lock" >"$work/three"
+    cat "$work/three" >"$1/lock"
+}
+
 # Runs the program; its answer is then in $work/out and $work/err, its status in `status`.
 box() {
     status=0
     # shellcheck disable=SC2086
-    $program "$@" >"$work/out" 2>"$work/err" </dev/null || status=$?
+    $program "$@" >"$work/out" 2>"$work/err" <"$input" || status=$?
 }
 
 # expect STATUS TEXT ARGUMENT..: the status, and the text in what is printed. A call that ends with 2 or more leaves the

@@ -5,7 +5,7 @@ expect 0 "no backup yet" list box
 # back_up VOLUME DAY LETTERS
 back_up() {
     blocks "$3" >"aid$1"
-    expect 0 "backup" backup box "$1" "aid$1" --day "$2"
+    expect 0 "backup" backup box "$1" "aid$1" --day-number "$2"
 }
 back_up 1 1 AB
 back_up 1 3 AC
@@ -17,15 +17,17 @@ the box's day is 2026-01-08
 volume 0 keeps its backups 10 days
   number  day         kept until  changed
        1  2026-01-08  newest            2
+  restore --latest takes backup 1
 volume 1 keeps its backups 3 days
   number  day         kept until  changed
        1  2026-01-02  2026-01-07        2  no longer kept
        2  2026-01-04  2026-01-08        1
        3  2026-01-05  newest            1
+  restore --latest takes backup 3
 END
 check "list of all volumes" printed wanted
 expect 0 "" list box 1
-check "list of one volume" printed <(sed -e '/^volume 0/,/newest/d' wanted)
+check "list of one volume" printed <(sed -e '/^volume 0/,/takes/d' wanted)
 expect 3 "refused 5: volume 2 isn't enrolled" list box 2
 # What the list calls kept can be read, and nothing else can.
 expect 3 "refused 16" read box 1 1 0

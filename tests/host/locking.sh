@@ -2,7 +2,7 @@
 # One writer at a time; readers beside each other. `flock` holds the lock as another aspenbox would.
 small_store box
 blocks AB >aid
-expect 0 "backup" backup box 0 aid --day 1
+expect 0 "backup" backup box 0 aid --day-number 1
 # held KIND COMMAND..: runs a command while the lock is held
 held() {
     local kind=$1
@@ -10,7 +10,7 @@ held() {
     flock "$kind" box/lock "$@"
 }
 export -f box
-export program work
+export program work input
 # shellcheck disable=SC2016
 under='box "$@"; echo "$status" >"$work/status"'
 # expect_held KIND STATUS TEXT ARGUMENT..
@@ -24,8 +24,8 @@ expect_held() {
 expect_held --shared 0 "restored" restore box 0 1 out
 expect_held --shared 0 "volume 0" list box --no-wait
 expect_held --shared 0 "sound" audit box --no-wait
-expect_held --shared 6 "another aspenbox uses the store" collect box --day 2 --no-wait
-expect_held --exclusive 6 "another aspenbox uses the store" backup box 0 aid --day 2 --no-wait
+expect_held --shared 6 "another aspenbox uses the store" collect box --day-number 2 --no-wait
+expect_held --exclusive 6 "another aspenbox uses the store" backup box 0 aid --day-number 2 --no-wait
 expect_held --exclusive 6 "another aspenbox uses the store" read box 0 1 0 --no-wait
 expect_held --exclusive 6 '"status":6' audit box --no-wait --json
 
@@ -35,7 +35,7 @@ flock --shared box/lock cat hold >/dev/null &
 reader=$!
 exec 9>hold
 # shellcheck disable=SC2086
-$program collect box --day 2 >waiting.out 2>waiting.err 9>&- &
+$program collect box --day-number 2 >waiting.out 2>waiting.err 9>&- &
 writer=$!
 for _ in $(seq 600); do
     grep -q "waiting for it" waiting.err && break

@@ -5,17 +5,18 @@ expect 0 "made" format box --blocks 300 --cells 64 --slots 20 --journal 400 --da
 expect 0 "enrolled" enrol box 3 --keep 5
 head -c 30000 /dev/urandom >image.1
 cp image.1 image
-expect 0 "59 of 59 blocks sent, 59 new" backup box 3 image --day 1
+expect 0 "59 of 59 blocks sent, 59 new" backup box 3 image --day-number 1
 cp image.1 image.2
 printf 'a changed word' | dd of=image.2 bs=1 seek=5000 conv=notrunc status=none
 head -c 2768 /dev/urandom >>image.2
 cp image.2 image
-expect 0 "7 of 64 blocks sent, 7 new" backup box 3 image --day 2
-expect 0 "0 of 64 blocks sent, 0 new" backup box 3 image --day 3
-for number in 1 2 3; do
-    expect 0 "restored backup $number of volume 3 to out.$number: 64 blocks" restore box 3 $number out.$number
+expect 0 "7 of 64 blocks sent, 7 new" backup box 3 image --day-number 2
+expect 0 "0 of 64 blocks sent, 0 new" backup box 3 image --day-number 3
+expect 0 "restored backup 1 of volume 3 to out.1: 30000 bytes, 59 blocks" restore box 3 1 out.1
+for number in 2 3; do
+    expect 0 "restored backup $number of volume 3 to out.$number: 32768 bytes, 64 blocks" restore box 3 $number out.$number
 done
-check "backup 1, zeros after its end" cmp out.1 <(cat image.1 && head -c 2768 /dev/zero)
+check "backup 1, no more than its own length" cmp out.1 image.1
 check "backup 2" cmp out.2 image.2
 check "backup 3" cmp out.3 image.2
 
@@ -35,9 +36,10 @@ expect 0 "restored" restore box 3 2 empty
 check "an empty file is replaced" cmp empty image.2
 expect 0 "restored backup 2" restore box 3 2 -
 check "standard output" printed image.2
-expect 0 "restored" restore box 3 2 /dev/null
-expect 4 "can't create nowhere/out" restore box 3 2 nowhere/out
-expect 4 "Is a directory" restore box 3 2 box
+expect 2 "/dev/null is no regular file; name one, or - for standard output" restore box 3 2 /dev/null
+expect 2 "can't create nowhere/out.aspenbox.new: No such file" restore box 3 2 nowhere/out
+expect 2 "box is a folder; name a file" restore box 3 2 box
+expect 2 "box is a folder; name a file" restore box 3 2 box --force
 expect 2 "can't be standard output" restore box 3 2 - --json
 check "no temporary file is left" same "$(find . -name '*.new*')" ""
 

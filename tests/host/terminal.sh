@@ -12,7 +12,7 @@ head -c 16384 /dev/urandom >aid
 on_terminal() {
     script -qec "$program $*" /dev/null >"$work/screen" 2>&1 </dev/null
 }
-on_terminal backup box 0 aid --day 1
+on_terminal backup box 0 aid --day-number 1
 check "progress of a backup" grep -q "hashing: 0 of 32 blocks" "$work/screen"
 check "and its answer" grep -q "32 of 32 blocks sent" "$work/screen"
 on_terminal restore box 0 1 out
@@ -21,6 +21,6 @@ check "restored" cmp out aid
 on_terminal scrub box
 check "progress of a scrub" grep -q "hashing: 0 of 40 blocks" "$work/screen"
 on_terminal scrub box --json
-check "no progress with --json" same "$(tr -d '\r' <"$work/screen")" '{"damaged":[],"held":32}'
+check "no progress with --json" same "$(tr -d '\r' <"$work/screen")" '{"damaged":[],"held":32,"healed":0}'
 expect 0 "32 held blocks" scrub box
 check "no progress off a terminal" test ! -s "$work/err"
