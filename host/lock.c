@@ -59,6 +59,7 @@ static bool parse(struct lock *lock, struct bytes file)
 
     if (file.length != FILE_LENGTH && file.length != THREE_LINES)
         return false;
+    lock->digested = file.length == FILE_LENGTH;
     memcpy(date, text + DATE_AT, DATE_LENGTH);
     if (!date_read(date, &lock->day_zero))
         return false;
@@ -88,7 +89,7 @@ void lock_take(struct lock *lock, const char *folder, enum lock_use use, bool wa
 {
     struct bytes bytes;
 
-    lock->path = join_text(folder, "/", "lock");
+    *lock = (struct lock){.path = join_text(folder, "/", "lock")};
     lock->fd = file_open(lock->path, use == LOCK_TO_WRITE ? O_RDWR : O_RDONLY);
     if (lock->fd < 0 && file_missing())
         fail(STATUS_STORE, "%s is no store: it has no file lock; aspenbox format makes a store",

@@ -1,6 +1,5 @@
 #include "seal.h"
 
-#include "lock.h"
 #include "prints.h"
 
 #include <aspen.h>
@@ -62,7 +61,7 @@ static void read_lengths(const uint8_t *at, size_t count, struct lengths *length
     }
 }
 
-const char *seal_open(struct bytes file, const uint8_t *store_id, struct bytes *book,
+const char *seal_open(struct bytes file, const struct lock *lock, struct bytes *book,
                       struct lengths *lengths)
 {
     size_t at = seal_at(file);
@@ -71,7 +70,7 @@ const char *seal_open(struct bytes file, const uint8_t *store_id, struct bytes *
 
     *book = bytes_copy(file);
     if (at == 0)
-        return NULL;
+        return lock->digested ? "its digest is missing" : NULL;
     book->length = u32_at(seal + BOOK_AT);
     /* Exactly as long as the book, so that a memory checker sees a step past its end. */
     book->at = resized(book->at, book->length > 0 ? book->length : 1);
@@ -79,7 +78,7 @@ const char *seal_open(struct bytes file, const uint8_t *store_id, struct bytes *
     sha256(file.at, file.length - DIGEST_SIZE, digest);
     if (memcmp(seal + DIGEST_AT, digest, DIGEST_SIZE) != 0)
         return "its bytes don't fit their digest";
-    if (memcmp(seal, store_id, STORE_ID_SIZE) != 0)
+    if (memcmp(seal, lock->id, STORE_ID_SIZE) != 0)
         return "it is the book of another store";
     return NULL;
 }

@@ -52,7 +52,7 @@ static void read_book(struct store *store, enum lock_use use)
         or_fail(file_sync(fd, store->book_path) && folder_sync(store->folder));
     close(fd);
     bytes_free(&store->book);
-    store->fault = seal_open(file, store->lock.id, &store->book, &store->lengths);
+    store->fault = seal_open(file, &store->lock, &store->book, &store->lengths);
     bytes_free(&file);
 }
 
