@@ -69,16 +69,26 @@ impl<'a> Bench<'a> {
     }
 
     pub fn ask(&self, line: &str) -> Result<Ended, String> {
-        or_complain(self.program.run(&self.folder, &words(line), None))
+        self.ask_with(line, None)
+    }
+
+    pub fn ask_with(&self, line: &str, fault: Option<Fault>) -> Result<Ended, String> {
+        or_complain(self.program.run(&self.folder, &words(line), fault))
     }
 
     /// The same without some of the standard streams, as a shell closes them.
-    pub fn ask_without(&self, closed: &str, line: &str) -> Result<Ended, String> {
+    pub fn ask_without(
+        &self,
+        closed: &str,
+        line: &str,
+        fault: Option<Fault>,
+    ) -> Result<Ended, String> {
         if closed.is_empty() {
-            return self.ask(line);
+            return self.ask_with(line, fault);
         }
         let words = words(line);
-        or_complain(self.program.run_without(closed, &self.folder, &words))
+        let program = self.program;
+        or_complain(program.run_without(closed, &self.folder, &words, fault))
     }
 
     /// Runs a command that has to end well.

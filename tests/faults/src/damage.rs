@@ -60,14 +60,17 @@ const WRITERS: [Line; 4] = [
     line("backup box 0 aid0 --day-number 300 --ahead", true, true),
     line("scrub box --heal aid0", true, true),
 ];
+const AUDIT: Line = line("audit box", false, false);
+const RESTORE: Line = line("restore box 0 5 -", false, true);
+const RESTORE_TO_FILE: &str = "restore box 0 5 new";
 const READERS: [Line; 8] = [
-    line("audit box", false, false),
+    AUDIT,
     line("tally box", false, false),
     line("list box", false, false),
     line("status box", false, false),
     line("book box", false, false),
     line("read box 0 5 0", false, true),
-    line("restore box 0 5 -", false, true),
+    RESTORE,
     line("scrub box", false, true),
 ];
 /// Lines that a whole store refuses.
@@ -95,7 +98,7 @@ pub fn cases(whole: &Tree, all: bool) -> Vec<Case> {
     let mut cases = Cases(Vec::new());
     cases.add_changed_books(whole, all, |_| true);
     cases.add_changed_books(&of_the_base(whole), all, |verdict| {
-        matches!(verdict, Verdict::Faulty)
+        !matches!(verdict, Verdict::Refused(_))
     });
     cases.add_books_of_other_lengths(whole);
     cases.add_books_of_others(whole);
@@ -178,16 +181,23 @@ impl Cases {
         });
     }
 
-    /// What a command says of a store whose book is damaged.
+    /// What a command says of a store whose book is damaged. Where nobody could see that, audit
+    /// says yes.
     fn add_judged(&mut self, what: &str, tree: &Tree, line: Line) {
         let wanted = match verdict(tree) {
             Verdict::Refused(number) => Wanted::Told(format!("refused {number}:")),
             Verdict::Faulty if line.writes => Wanted::Told("box/book is damaged: ".into()),
             Verdict::Faulty => Wanted::Warned,
             Verdict::Sound if line.writes => return,
-            Verdict::Sound => Wanted::Status(status::DONE),
+            Verdict::Sound => {
+                self.add(what, tree, AUDIT.line, Wanted::Status(status::DONE));
+                return;
+            }
         };
-        self.add(what, tree, line.line, wanted);
+        // What is refused leaves no file either.
+        let refused = matches!(wanted, Wanted::Told(_)) && line.line == RESTORE.line;
+        let line = if refused { RESTORE_TO_FILE } else { line.line };
+        self.add(what, tree, line, wanted);
     }
 
     fn add_changed_books(&mut self, whole: &Tree, all: bool, wanted: impl Fn(Verdict) -> bool) {
@@ -319,7 +329,7 @@ pub fn label(case: &Case) -> String {
 pub fn try_case(bench: &mut Bench, case: &Case) -> Result<(), String> {
     bench.store(&case.tree)?;
     let stamps = stamps(&bench.folder.join(STORE))?;
-    let ended = bench.ask_without(case.closed, case.line)?;
+    let ended = bench.ask_without(case.closed, case.line, None)?;
     if bench.load()? != case.tree || self::stamps(&bench.folder.join(STORE))? != stamps {
         return Err("something was written".into());
     }

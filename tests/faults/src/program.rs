@@ -56,11 +56,17 @@ impl Program {
     }
 
     /// The same without some of the standard streams, as a shell closes them.
-    pub fn run_without(&self, closed: &str, folder: &Path, words: &[String]) -> io::Result<Ended> {
+    pub fn run_without(
+        &self,
+        closed: &str,
+        folder: &Path,
+        words: &[String],
+        fault: Option<Fault>,
+    ) -> io::Result<Ended> {
         let script = format!("exec \"$@\" {closed}");
         let mut shell = Command::new("sh");
         shell.args(["-c", &script, "sh"]).arg(&self.aspenbox);
-        self.end(shell.args(words), folder, None)
+        self.end(shell.args(words), folder, fault)
     }
 
     fn end(&self, command: &mut Command, folder: &Path, fault: Option<Fault>) -> io::Result<Ended> {
