@@ -192,8 +192,8 @@ static uint16_t heal_from(struct store *store, const struct request *request,
         struct bytes marks = bytes_new(view_figures(store->book).blocks);
         uint16_t found = heal_pool(store, &images[i], marks);
 
-        if (found > 0)
-            store_write_blocks(store, marks);
+        /* Also if there is none: one that was cut off may have written them and not synced. */
+        store_write_blocks(store, marks);
         note_healed(marks, request->words[i + 1]);
         healed = (uint16_t)(healed + found);
         bytes_free(&marks);

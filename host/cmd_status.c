@@ -102,9 +102,10 @@ static void warn(struct summary *summary)
         if (!newest.volume.enrolled || !is_old(summary, &newest))
             continue;
         if (newest.volume.backups == 0)
-            note("volume %u: no backup yet", volume);
+            note("volume %u has no backup yet", volume);
         else
-            note("volume %u: its newest backup is %ld days old", volume, newest.age);
+            note("the newest backup of volume %u is %ld day%s old", volume, newest.age,
+                 newest.age == 1 ? "" : "s");
         summary->warnings++;
     }
 }

@@ -51,14 +51,15 @@ static void compose(const struct lock *lock, char *text)
     add_hex(text + at, digest, DIGEST_SIZE);
 }
 
-/* Reads the file's text back; true if it is what compose writes. */
-static bool parse(struct lock *lock, const char *text)
+/* Reads the file back; true if it is what compose writes. */
+static bool parse(struct lock *lock, struct bytes file)
 {
+    const char *text = (const char *)file.at;
     char date[DATE_LENGTH + 1] = "", again[FILE_LENGTH + 1];
-    size_t length = strlen(text);
 
-    if (length != FILE_LENGTH && length != THREE_LINES)
+    if (file.length != FILE_LENGTH && file.length != THREE_LINES)
         return false;
+    lock->digested = file.length == FILE_LENGTH;
     memcpy(date, text + DATE_AT, DATE_LENGTH);
     if (!date_read(date, &lock->day_zero))
         return false;
@@ -68,8 +69,7 @@ static bool parse(struct lock *lock, const char *text)
         lock->id[i] = (uint8_t)strtoul(digits, NULL, 16);
     }
     compose(lock, again);
-    lock->sealed = length == FILE_LENGTH;
-    return strncmp(again, text, length) == 0;
+    return memcmp(again, text, file.length) == 0;
 }
 
 static void take(const struct lock *lock, int operation, bool wait)
@@ -99,9 +99,7 @@ void lock_take(struct lock *lock, const char *folder, enum lock_use use, bool wa
     take(lock, use == LOCK_TO_WRITE ? LOCK_EX : LOCK_SH, wait);
     if (!file_read(lock->fd, lock->path, FILE_LENGTH + 1, &bytes))
         fail(STATUS_FILES, "%s", file_failure());
-    bytes.at = resized(bytes.at, bytes.length + 1);
-    bytes.at[bytes.length] = '\0';
-    lock->whole = parse(lock, (const char *)bytes.at);
+    lock->whole = parse(lock, bytes);
     bytes_free(&bytes);
 }
 

@@ -17,7 +17,7 @@ struct lock {
     char *path;
     int fd;
     bool whole;                /* whether the file is as lock_fill writes it; only then is there: */
-    bool sealed;               /* whether the store was made with a seal behind its book */
+    bool digested;             /* whether it has a digest, which the first stores didn't */
     long day_zero;             /* the date of day 0 */
     uint8_t id[STORE_ID_SIZE]; /* drawn by chance when the store was made */
 };

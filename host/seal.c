@@ -70,7 +70,7 @@ const char *seal_open(struct bytes file, const struct lock *lock, struct bytes *
 
     *book = bytes_copy(file);
     if (at == 0)
-        return lock->sealed ? "its seal is gone" : NULL;
+        return lock->digested ? "its digest is missing" : NULL;
     book->length = u32_at(seal + BOOK_AT);
     /* Exactly as long as the book, so that a memory checker sees a step past its end. */
     book->at = resized(book->at, book->length > 0 ? book->length : 1);

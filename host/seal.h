@@ -4,7 +4,8 @@
  *
  * After the book: for each length volume and number as u16 and the bytes as u32; then the store's
  * identity (16 bytes), the length of the book and the number of lengths as u32, "aspnseal", and the
- * SHA-256 of everything before it. The first stores had the book alone. */
+ * SHA-256 of everything before it. The first stores, whose lock has no digest, had the book alone.
+ */
 #ifndef ASPENBOX_SEAL_H
 #define ASPENBOX_SEAL_H
 
@@ -15,8 +16,8 @@
 /* The most bytes that follow a book. */
 size_t seal_limit(void);
 
-/* Takes the file of a store apart. What has no seal, or one that doesn't fit the file's length, is
- * taken for a book alone. Answers what is wrong with the file, or null. */
+/* Takes the file of the store with this lock apart. What has no seal, or one that doesn't fit the
+ * file's length, is taken for a book alone. Answers what is wrong with the file, or null. */
 const char *seal_open(struct bytes file, const struct lock *lock, struct bytes *book,
                       struct lengths *lengths);
 

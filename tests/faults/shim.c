@@ -14,7 +14,7 @@
  *     number, name, result (if it failed, the error's number below 0), then by name:
  *     open: what for (r reads, w writes, c makes, t empties, d a folder) and path
  *     write: file, offset and the bytes written in hexadecimal
- *     fsync, fdatasync, close, flock: file
+ *     fsync, fdatasync, close, flock, fchmod, fchown: file
  *     ftruncate: file and length
  *     rename: old and new path
  *     unlink, mkdir: path
@@ -218,6 +218,17 @@ int open64(const char *path, int flags, ...)
     return opened(AT_FDCWD, path, flags, mode);
 }
 
+/* What a C library that checks its arguments calls where an opening has no mode. */
+int __open_2(const char *path, int flags)
+{
+    return opened(AT_FDCWD, path, flags, 0);
+}
+
+int __open64_2(const char *path, int flags)
+{
+    return opened(AT_FDCWD, path, flags, 0);
+}
+
 int openat(int folder, const char *path, int flags, ...)
 {
     mode_t mode = 0;
@@ -274,9 +285,9 @@ ssize_t pwrite64(int fd, const void *from, size_t length, off64_t offset)
 }
 
 /* A call on an open file that takes no room. */
-static int on_file(const char *name, long number, int fd, long argument)
+static int on_file(const char *name, long number, int fd, long argument, long second)
 {
-    long result = allowed(NO_ROOM) ? syscall(number, fd, argument) : -1;
+    long result = allowed(NO_ROOM) ? syscall(number, fd, argument, second) : -1;
 
     note("%lu\t%s\t%ld\t%d", calls, name, noted(result), fd);
     return (int)done(result);
@@ -284,17 +295,27 @@ static int on_file(const char *name, long number, int fd, long argument)
 
 int fsync(int fd)
 {
-    return on_file("fsync", SYS_fsync, fd, 0);
+    return on_file("fsync", SYS_fsync, fd, 0, 0);
 }
 
 int fdatasync(int fd)
 {
-    return on_file("fdatasync", SYS_fdatasync, fd, 0);
+    return on_file("fdatasync", SYS_fdatasync, fd, 0, 0);
 }
 
 int flock(int fd, int operation)
 {
-    return on_file("flock", SYS_flock, fd, operation);
+    return on_file("flock", SYS_flock, fd, operation, 0);
+}
+
+int fchmod(int fd, mode_t mode)
+{
+    return on_file("fchmod", SYS_fchmod, fd, (long)mode, 0);
+}
+
+int fchown(int fd, uid_t owner, gid_t group)
+{
+    return on_file("fchown", SYS_fchown, fd, (long)owner, (long)group);
 }
 
 int ftruncate(int fd, off_t length)

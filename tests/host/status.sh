@@ -94,7 +94,7 @@ slots="the slots are 30 % full"
 journal="the journal is 55 % full"
 zero="the newest backup of volume 0 is 10 days old"
 one="volume 1 has no backup yet"
-seven="the newest backup of volume 7 is 1 days old"
+seven="the newest backup of volume 7 is 1 day old"
 warns 0 "" --warn 61
 warns 1 "$pool" --warn 60
 warns 1 "$pool" --warn 56

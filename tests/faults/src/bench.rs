@@ -5,9 +5,9 @@ use std::io;
 use std::path::PathBuf;
 
 use crate::fault::Fault;
-use crate::judge::{volume_in, Judge};
+use crate::judge::Judge;
 use crate::program::{status, Ended, Program};
-use crate::story::{aid, history_of, image_bytes, letters, Command, Standing, Story, OUT, STORE};
+use crate::story::{images_of, letters, Command, Standing, Story, OUT, STORE};
 use crate::tree::Tree;
 
 /// How much of what a store holds is read through the program too.
@@ -56,13 +56,10 @@ impl<'a> Bench<'a> {
 
     /// Puts the image that a command sends there.
     pub fn bring(&self, command: &Command) -> Result<(), String> {
-        if let Command::Backup { volume, image, .. } = command {
-            or_complain(fs::write(
-                self.folder.join(aid(*volume)),
-                image_bytes(image),
-            ))?;
+        match command.file() {
+            Some((name, bytes)) => or_complain(fs::write(self.folder.join(name), bytes)),
+            None => Ok(()),
         }
-        Ok(())
     }
 
     /// Runs a command of a story.
@@ -72,7 +69,26 @@ impl<'a> Bench<'a> {
     }
 
     pub fn ask(&self, line: &str) -> Result<Ended, String> {
-        or_complain(self.program.run(&self.folder, &words(line), None))
+        self.ask_with(line, None)
+    }
+
+    pub fn ask_with(&self, line: &str, fault: Option<Fault>) -> Result<Ended, String> {
+        or_complain(self.program.run(&self.folder, &words(line), fault))
+    }
+
+    /// The same without some of the standard streams, as a shell closes them.
+    pub fn ask_without(
+        &self,
+        closed: &str,
+        line: &str,
+        fault: Option<Fault>,
+    ) -> Result<Ended, String> {
+        if closed.is_empty() {
+            return self.ask_with(line, fault);
+        }
+        let words = words(line);
+        let program = self.program;
+        or_complain(program.run_without(closed, &self.folder, &words, fault))
     }
 
     /// Runs a command that has to end well.
@@ -158,10 +174,10 @@ impl<'a> Bench<'a> {
         for command in &extra {
             self.run_well(command)?;
         }
-        let history = history_of(story.taken(store).chain(&extra));
-        let number = history.backups(volume) as u16;
-        let bytes = volume_in(&history, volume, number).expect("the newest backup is kept");
-        self.restores(volume, number, &bytes)
+        let images = images_of(story.taken(store).chain(&extra));
+        let mut own = images.iter().filter(|((of, _), _)| *of == volume);
+        let ((_, number), bytes) = own.next_back().expect("a backup was made");
+        self.restores(volume, *number, bytes)
     }
 }
 
@@ -169,6 +185,6 @@ fn is_wanted(name: &str) -> bool {
     let in_store = name.strip_prefix("box/");
     match in_store {
         Some(file) => ["book", "pool", "lock"].contains(&file),
-        None => [STORE, OUT, "aid0", "aid1", "aid0.aspen", "aid1.aspen"].contains(&name),
+        None => [STORE, OUT, "aid0", "aid1"].contains(&name),
     }
 }

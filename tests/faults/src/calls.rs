@@ -20,6 +20,8 @@ pub enum Call {
         fd: i32,
         length: usize,
     },
+    /// A file's owner or mode is set.
+    Access,
     Close,
     Lock,
     Rename {
@@ -70,6 +72,7 @@ fn read_line(line: &str) -> Logged {
             fd: fd(),
             length: number(fields[4]) as usize,
         },
+        "fchmod" | "fchown" => Call::Access,
         "close" => Call::Close,
         "flock" => Call::Lock,
         "rename" => Call::Rename {
@@ -109,7 +112,7 @@ impl Logged {
             Call::Cut { .. } => &[Interrupted, Full],
             Call::Lock => &[Interrupted],
             Call::Rename { .. } | Call::MakeFolder { .. } => &[NoSpace, Full],
-            Call::Close | Call::Unlink { .. } => &[],
+            Call::Access | Call::Close | Call::Unlink { .. } => &[],
         };
         let all = [Failed, Before, After, Dead];
         all.iter().chain(own).copied().collect()

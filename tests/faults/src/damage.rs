@@ -1,4 +1,5 @@
-//! Damaged stores: every command names the number of what is wrong, and nothing is written.
+//! Damaged stores: every command notices, names the number of what is out of form, and writes
+//! nothing.
 
 use std::fs;
 use std::os::unix::fs::MetadataExt;
@@ -8,93 +9,108 @@ use reference::form;
 use reference::store;
 
 use crate::bench::{or_complain, Bench};
-use crate::judge::{BOOK, POOL};
+use crate::judge::{BOOK, LOCK, POOL};
 use crate::program::{status, Ended};
+use crate::sealed::{self, Parts, SEAL_BYTES};
 use crate::story::STORE;
 use crate::tree::Tree;
 
 /// A damaged store, and a command that is given to it.
 pub struct Case {
-    pub what: String,
-    pub tree: Tree,
-    pub line: String,
+    what: String,
+    tree: Tree,
+    line: &'static str,
+    /// The standard streams that it is started without, as a shell closes them.
+    closed: &'static str,
     wanted: Wanted,
 }
 
+#[derive(Clone)]
 enum Wanted {
     /// The status of a damaged store, and this text.
     Told(String),
-    /// This status, whatever the text.
+    /// A warning, and no good end.
+    Warned,
+    /// This status.
     Status(i32),
+    /// However it ends.
+    Any,
 }
 
-/// A command on the store, by what it takes.
+/// What the second implementation says of a store.
+enum Verdict {
+    /// The book is out of form, by this number.
+    Refused(u16),
+    /// It is in form, and something else is wrong with it.
+    Faulty,
+    Sound,
+}
+
+/// A command on the store, by what it does.
+#[derive(Clone, Copy)]
 struct Line {
     line: &'static str,
+    writes: bool,
     takes_pool: bool,
 }
 
-const LINES: [Line; 9] = [
-    taking_book("audit box"),
-    taking_book("tally box"),
-    taking_book("enrol box 2 --keep 3"),
-    taking_book("collect box --day 300"),
-    taking_pool("backup box 0 aid0 --day 300"),
-    taking_pool("read box 0 5 0"),
-    taking_pool("restore box 0 5 new"),
-    taking_pool("list box"),
-    taking_pool("scrub box"),
+const WRITERS: [Line; 4] = [
+    line("enrol box 2 --keep 3", true, false),
+    line("collect box --day-number 300 --ahead", true, false),
+    line("backup box 0 aid0 --day-number 300 --ahead", true, true),
+    line("scrub box --heal aid0", true, true),
+];
+const AUDIT: Line = line("audit box", false, false);
+const RESTORE: Line = line("restore box 0 5 -", false, true);
+const RESTORE_TO_FILE: &str = "restore box 0 5 new";
+const READERS: [Line; 8] = [
+    AUDIT,
+    line("tally box", false, false),
+    line("list box", false, false),
+    line("status box", false, false),
+    line("book box", false, false),
+    line("read box 0 5 0", false, true),
+    RESTORE,
+    line("scrub box", false, true),
+];
+/// Lines that a whole store refuses.
+const REFUSED: [&str; 3] = [
+    "enrol box 0 --keep 5",
+    "collect box --day-number 1",
+    "backup box 0 aid0 --day-number 1",
 ];
 
-const fn taking_book(line: &'static str) -> Line {
+const fn line(line: &'static str, writes: bool, takes_pool: bool) -> Line {
     Line {
         line,
-        takes_pool: false,
+        writes,
+        takes_pool,
     }
 }
 
-const fn taking_pool(line: &'static str) -> Line {
-    Line {
-        line,
-        takes_pool: true,
-    }
+fn lines() -> impl Iterator<Item = Line> {
+    WRITERS.into_iter().chain(READERS)
 }
 
-/// Damages of a whole store. Each flipped byte is shown to audit and to one more command; where
-/// `all` are wanted, it is flipped in every bit.
+/// Damages of a whole store. Each changed byte is shown to a command that writes and to one that
+/// reads, others at each byte; where `all` are wanted, it is changed in every bit.
 pub fn cases(whole: &Tree, all: bool) -> Vec<Case> {
-    let book = whole.file(BOOK).expect("a whole store has a book");
-    let mut cases = Vec::new();
-    for at in 0..book.len() {
-        let bits = (0..8).filter(|bit| all || *bit == at % 8);
-        for mask in bits.map(|bit| 1 << bit).chain([0xFF]) {
-            let mut flipped = book.to_vec();
-            flipped[at] ^= mask;
-            let what = format!("book with byte {at} changed by {mask:#04x}");
-            add_flipped(&mut cases, whole, &what, flipped, &LINES[at % LINES.len()]);
-        }
-    }
-    for length in [0, 1, 19, 20, 36, book.len() / 2, book.len() - 1] {
-        let what = format!("book cut to {length} bytes");
-        add_all(
-            &mut cases,
-            &what,
-            &with(whole, BOOK, book[..length].to_vec()),
-            "refused 1:",
-        );
-    }
-    let longer = [book, b"x"].concat();
-    add_all(
-        &mut cases,
-        "book with a byte more",
-        &with(whole, BOOK, longer),
-        "refused 1:",
-    );
-    let mut missing = whole.clone();
-    missing.remove(BOOK);
-    add_all(&mut cases, "no book", &missing, "is no store");
-    add_pools(&mut cases, whole);
-    cases
+    let mut cases = Cases(Vec::new());
+    cases.add_changed_books(whole, all, |_| true);
+    cases.add_changed_books(&of_the_base(whole), all, |verdict| {
+        !matches!(verdict, Verdict::Refused(_))
+    });
+    cases.add_books_of_other_lengths(whole);
+    cases.add_books_of_others(whole);
+    cases.add_changed_locks(whole, all);
+    cases.add_missing(whole);
+    cases.add_pools(whole);
+    cases.add_closed_streams(whole);
+    cases.0
+}
+
+fn file<'a>(tree: &'a Tree, name: &str) -> &'a [u8] {
+    tree.file(name).expect("a whole store has this file")
 }
 
 fn with(whole: &Tree, name: &str, bytes: Vec<u8>) -> Tree {
@@ -103,53 +119,205 @@ fn with(whole: &Tree, name: &str, bytes: Vec<u8>) -> Tree {
     tree
 }
 
-/// Out of form, every command says so. In form, audit says what the second implementation says.
-fn add_flipped(cases: &mut Vec<Case>, whole: &Tree, what: &str, book: Vec<u8>, line: &Line) {
-    let tree = with(whole, BOOK, book.clone());
-    let mut add = |line: &str, wanted| {
-        cases.push(Case {
+fn without(whole: &Tree, name: &str) -> Tree {
+    let mut tree = whole.clone();
+    tree.remove(name);
+    tree
+}
+
+/// The store as the first version had it: a book alone, and a lock of three lines.
+fn of_the_base(whole: &Tree) -> Tree {
+    let book = sealed::open(file(whole, BOOK)).book.to_vec();
+    let lines = file(whole, LOCK).split_inclusive(|&byte| byte == b'\n');
+    let lock: Vec<u8> = lines.take(3).flatten().copied().collect();
+    with(&with(whole, BOOK, book), LOCK, lock)
+}
+
+/// A changed book that is in form by itself, and which the audit finds unsound.
+fn unsound_book(parts: &Parts) -> Vec<u8> {
+    let changed = (0..parts.book.len()).map(|at| {
+        let mut book = parts.book.to_vec();
+        book[at] ^= 1;
+        book
+    });
+    let mut unsound = changed.filter(|book| store::audit(book) == Ok(false));
+    unsound.next().expect("some byte that the audit looks at")
+}
+
+/// A store with a lock of four lines has a sealed book; the lock itself is whole.
+fn verdict(tree: &Tree) -> Verdict {
+    let parts = sealed::open(file(tree, BOOK));
+    let lines = file(tree, LOCK).iter().filter(|&&byte| byte == b'\n');
+    if let Err(refusal) = form::check(parts.book) {
+        return Verdict::Refused(refusal.number());
+    }
+    let sealed = match &parts.seal {
+        Some(seal) => seal.fits,
+        None => lines.count() == 3,
+    };
+    if sealed && store::audit(parts.book) == Ok(true) {
+        Verdict::Sound
+    } else {
+        Verdict::Faulty
+    }
+}
+
+/// How a byte is changed, one of its bits and all of them.
+fn masks(at: usize, all: bool) -> impl Iterator<Item = u8> {
+    let bits = (0..8).filter(move |bit| all || *bit == at % 8);
+    bits.map(|bit| 1 << bit).chain([0xFF])
+}
+
+struct Cases(Vec<Case>);
+
+impl Cases {
+    fn add(&mut self, what: &str, tree: &Tree, line: &'static str, wanted: Wanted) {
+        self.0.push(Case {
             what: what.into(),
             tree: tree.clone(),
-            line: line.into(),
+            line,
+            closed: "",
             wanted,
         });
-    };
-    match form::check(&book[..]) {
-        Err(refusal) => {
-            let text = format!("refused {}:", refusal.number());
-            add(line.line, Wanted::Told(text.clone()));
-            add("audit box", Wanted::Told(text));
-        }
-        Ok(_) => {
-            let sound = store::audit(&book).expect("a book in form");
-            add("audit box", Wanted::Status(if sound { 0 } else { 1 }));
+    }
+
+    /// What a command says of a store whose book is damaged. Where nobody could see that, audit
+    /// says yes.
+    fn add_judged(&mut self, what: &str, tree: &Tree, line: Line) {
+        let wanted = match verdict(tree) {
+            Verdict::Refused(number) => Wanted::Told(format!("refused {number}:")),
+            Verdict::Faulty if line.writes => Wanted::Told("box/book is damaged: ".into()),
+            Verdict::Faulty => Wanted::Warned,
+            Verdict::Sound if line.writes => return,
+            Verdict::Sound => {
+                self.add(what, tree, AUDIT.line, Wanted::Status(status::DONE));
+                return;
+            }
+        };
+        // What is refused leaves no file either.
+        let refused = matches!(wanted, Wanted::Told(_)) && line.line == RESTORE.line;
+        let line = if refused { RESTORE_TO_FILE } else { line.line };
+        self.add(what, tree, line, wanted);
+    }
+
+    fn add_changed_books(&mut self, whole: &Tree, all: bool, wanted: impl Fn(Verdict) -> bool) {
+        let book = file(whole, BOOK);
+        let kind = match sealed::open(book).seal {
+            Some(_) => "book",
+            None => "book without a seal",
+        };
+        let mut turn = 0;
+        for at in 0..book.len() {
+            for mask in masks(at, all) {
+                let mut changed = book.to_vec();
+                changed[at] ^= mask;
+                let what = format!("{kind} with byte {at} changed by {mask:#04x}");
+                let tree = with(whole, BOOK, changed);
+                if !wanted(verdict(&tree)) {
+                    continue;
+                }
+                self.add_judged(&what, &tree, WRITERS[turn % WRITERS.len()]);
+                self.add_judged(&what, &tree, READERS[turn % READERS.len()]);
+                turn += 1;
+            }
         }
     }
-}
 
-fn add_all(cases: &mut Vec<Case>, what: &str, tree: &Tree, text: &str) {
-    for line in &LINES {
-        cases.push(Case {
-            what: what.into(),
-            tree: tree.clone(),
-            line: line.line.into(),
-            wanted: Wanted::Told(text.into()),
-        });
+    fn add_books_of_other_lengths(&mut self, whole: &Tree) {
+        let book = file(whole, BOOK);
+        let (bare, all) = (sealed::open(book).book.len(), book.len());
+        let cuts = [0, 1, 19, 20, 36, all / 2, bare - 1, bare, bare + 1];
+        for length in cuts.into_iter().chain([all - SEAL_BYTES, all - 1]) {
+            let what = format!("book cut to {length} bytes");
+            let tree = with(whole, BOOK, book[..length].to_vec());
+            lines().for_each(|line| self.add_judged(&what, &tree, line));
+        }
+        let longer = with(whole, BOOK, [book, b"x"].concat());
+        lines().for_each(|line| self.add_judged("book with a byte more", &longer, line));
     }
-}
 
-fn add_pools(cases: &mut Vec<Case>, whole: &Tree) {
-    let pool = whole.file(POOL).expect("a whole store has a pool");
-    for length in [0, 511, pool.len() - 1, pool.len() + 1] {
-        let mut changed = pool.to_vec();
-        changed.resize(length, 0);
-        for line in LINES.iter().filter(|line| line.takes_pool) {
-            cases.push(Case {
-                what: format!("pool of {length} bytes"),
-                tree: with(whole, POOL, changed.clone()),
-                line: line.line.into(),
-                wanted: Wanted::Told("refused 3:".into()),
-            });
+    /// Books that fit their digest, and yet aren't this store's.
+    fn add_books_of_others(&mut self, whole: &Tree) {
+        let parts = sealed::open(file(whole, BOOK));
+        let id = parts.seal.as_ref().expect("a sealed book").id;
+        let unsound = sealed::make(&unsound_book(&parts), &parts.lengths, id);
+        let unsound = with(whole, BOOK, unsound);
+        lines().for_each(|line| self.add_judged("unsound book with a seal", &unsound, line));
+        let foreign = sealed::make(parts.book, &parts.lengths, &[7; 16]);
+        let foreign = with(whole, BOOK, foreign);
+        for line in lines() {
+            let wanted = match line.writes {
+                true => Wanted::Told("the book of another store".into()),
+                false => Wanted::Warned,
+            };
+            self.add("book of another store", &foreign, line.line, wanted);
+        }
+    }
+
+    fn add_changed_locks(&mut self, whole: &Tree, all: bool) {
+        let lock = file(whole, LOCK);
+        let every: Vec<Line> = lines().collect();
+        for at in 0..lock.len() {
+            for mask in masks(at, all).chain([lock[at]]) {
+                let mut changed = lock.to_vec();
+                changed[at] ^= mask;
+                let what = format!("lock with byte {at} changed by {mask:#04x}");
+                let line = every[self.0.len() % every.len()].line;
+                let wanted = Wanted::Told("box/lock is damaged".into());
+                self.add(&what, &with(whole, LOCK, changed), line, wanted);
+            }
+        }
+    }
+
+    fn add_missing(&mut self, whole: &Tree) {
+        for line in lines() {
+            let no_store = Wanted::Told("is no store".into());
+            for name in [BOOK, LOCK] {
+                let what = format!("no {}", &name[STORE.len() + 1..]);
+                self.add(&what, &without(whole, name), line.line, no_store.clone());
+            }
+            if line.takes_pool {
+                self.add("no pool", &without(whole, POOL), line.line, no_store);
+            }
+            if line.line.contains("aid0") {
+                let wanted = Wanted::Status(status::USAGE);
+                self.add("no image", &without(whole, "aid0"), line.line, wanted);
+            }
+        }
+    }
+
+    fn add_pools(&mut self, whole: &Tree) {
+        let pool = file(whole, POOL);
+        for length in [0, 511, pool.len() - 1, pool.len() + 1] {
+            let mut changed = pool.to_vec();
+            changed.resize(length, 0);
+            let tree = with(whole, POOL, changed);
+            for line in lines().filter(|line| line.takes_pool) {
+                let what = format!("pool of {length} bytes");
+                let wanted = Wanted::Told("refused 3:".into());
+                self.add(&what, &tree, line.line, wanted);
+            }
+        }
+    }
+
+    /// A whole store, to which no command writes what it has to say.
+    fn add_closed_streams(&mut self, whole: &Tree) {
+        let sets = [
+            "<&-",
+            ">&-",
+            "2>&-",
+            "<&- >&-",
+            "<&- 2>&-",
+            ">&- 2>&-",
+            "<&- >&- 2>&-",
+        ];
+        let reading = READERS.iter().map(|line| line.line);
+        for line in reading.chain(REFUSED) {
+            for closed in sets {
+                let what = format!("streams closed by {closed}");
+                self.add(&what, whole, line, Wanted::Any);
+                self.0.last_mut().expect("one was added").closed = closed;
+            }
         }
     }
 }
@@ -161,7 +329,7 @@ pub fn label(case: &Case) -> String {
 pub fn try_case(bench: &mut Bench, case: &Case) -> Result<(), String> {
     bench.store(&case.tree)?;
     let stamps = stamps(&bench.folder.join(STORE))?;
-    let ended = bench.ask(&case.line)?;
+    let ended = bench.ask_without(case.closed, case.line, None)?;
     if bench.load()? != case.tree || self::stamps(&bench.folder.join(STORE))? != stamps {
         return Err("something was written".into());
     }
@@ -176,7 +344,14 @@ fn is_wanted(ended: &Ended, wanted: &Wanted) -> bool {
         Wanted::Told(text) => {
             ended.status == Some(status::STORE) && ended.errors.contains(text.as_str())
         }
+        // The box may refuse what is asked of such a book.
+        Wanted::Warned => {
+            let warned = ended.errors.contains("note: box/book is damaged: ")
+                || ended.output.starts_with(b"unsound: ");
+            warned && matches!(ended.status, Some(status::UNSOUND | status::REFUSED))
+        }
         Wanted::Status(status) => ended.status == Some(*status),
+        Wanted::Any => ended.status.is_some(),
     }
 }
 

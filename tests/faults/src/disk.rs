@@ -105,7 +105,7 @@ impl Disk {
                 file.change(change);
             }
             Call::Cut { fd, length } => self.open_file(*fd).change(Change::Cut(*length)),
-            Call::Close | Call::Lock => return false,
+            Call::Access | Call::Close | Call::Lock => return false,
             Call::Rename { from, to } => self.rename(from, to),
             Call::Unlink { path } => {
                 self.now.remove(path);

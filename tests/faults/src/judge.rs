@@ -6,11 +6,13 @@ use std::collections::HashMap;
 use std::hash::{Hash, Hasher};
 
 use reference::history::History;
-use reference::layout::{Book, Header, BLOCK_BYTES};
+use reference::layout::{Book, Header};
 use reference::refusal::Refusal;
 use reference::store;
 
-use crate::story::{history_of, Command, Standing, Story, OUT, SIZES};
+use crate::digest::sha256;
+use crate::sealed::{self, Length, Parts};
+use crate::story::{history_of, images_of, Command, Images, Standing, Story, OUT, SIZES};
 use crate::tree::Tree;
 
 pub const BOOK: &str = "box/book";
@@ -21,13 +23,15 @@ pub const VOLUMES: u16 = 2;
 
 pub struct Judge<'a> {
     story: &'a Story,
-    /// What the store holds and its day, by its standing; there is none at 0.
+    /// What the store holds, the images that it got, and its day, by its standing; there is none
+    /// at 0.
     histories: Vec<History>,
+    images: Vec<Images>,
     days: Vec<u16>,
     /// What the restored file holds, by its standing.
     outs: Vec<Option<Vec<u8>>>,
-    /// The standing of every book that a command left.
-    books: HashMap<Vec<u8>, usize>,
+    /// The standing of every book with its lengths that a command left.
+    books: HashMap<(Vec<u8>, Vec<Length>), usize>,
     judged: HashMap<u64, Result<Standing, String>>,
 }
 
@@ -37,15 +41,19 @@ impl<'a> Judge<'a> {
         let histories: Vec<History> = (0..=changing)
             .map(|store| history_of(story.taken(store)))
             .collect();
+        let images: Vec<Images> = (0..=changing)
+            .map(|store| images_of(story.taken(store)))
+            .collect();
         let mut outs = vec![None];
         for (at, command) in story.0.iter().enumerate() {
             if let Command::Restore { volume, number } = command {
-                let history = &histories[story.standing(at).store];
-                outs.push(volume_in(history, *volume, *number));
+                let images = &images[story.standing(at).store];
+                outs.push(images.get(&(*volume, *number)).cloned());
             }
         }
         Judge {
             story,
+            images,
             days: (0..=changing).map(|store| story.day(store)).collect(),
             histories,
             outs,
@@ -56,8 +64,8 @@ impl<'a> Judge<'a> {
 
     /// A command ended well and left this store, which stands there.
     pub fn learn(&mut self, tree: &Tree, store: usize) {
-        if let Some(book) = tree.file(BOOK) {
-            let known = self.books.insert(book.to_vec(), store);
+        if let Some(file) = tree.file(BOOK) {
+            let known = self.books.insert(key_of(&sealed::open(file)), store);
             assert!(known.is_none_or(|k| k == store), "one book, two standings");
         }
     }
@@ -103,12 +111,12 @@ impl<'a> Judge<'a> {
 
     fn judge(&self, tree: &Tree) -> Result<Standing, String> {
         let out = self.restored(tree, 0, self.outs.len() - 1)?;
-        let Some(book) = tree.file(BOOK) else {
+        let Some(file) = tree.file(BOOK) else {
             return Ok(Standing { store: 0, out });
         };
         let store = *self
             .books
-            .get(book)
+            .get(&key_of(&sealed::open(file)))
             .ok_or("the book is neither the old one nor the new one")?;
         self.holds(tree, store)?;
         Ok(Standing { store, out })
@@ -116,27 +124,41 @@ impl<'a> Judge<'a> {
 
     /// Complains unless the store is sound and every read gives what this standing says.
     pub fn holds(&self, tree: &Tree, store: usize) -> Result<(), String> {
-        holds(tree, &self.histories[store])?;
-        let book = Book::over(tree.file(BOOK).unwrap_or_default());
-        let (day, wanted) = (book.header(Header::Day), self.days[store]);
+        let there = |name| tree.file(name).ok_or(format!("{name} is missing"));
+        let (file, pool, lock) = (there(BOOK)?, there(POOL)?, there(LOCK)?);
+        let id = id_in(lock).ok_or("the file lock isn't whole")?;
+        let parts = sealed::open(file);
+        is_sealed(&parts, &id)?;
+        reads(parts.book, pool, &self.histories[store])?;
+        if sorted(&parts.lengths) != self.lengths(store) {
+            return Err(format!("lengths are noted as {:?}", parts.lengths));
+        }
+        let (day, wanted) = (Book::over(parts.book).header(Header::Day), self.days[store]);
         if day != wanted {
             return Err(format!("the book's day is {day}, not {wanted}"));
         }
         Ok(())
     }
 
-    /// The backups that are kept there, each with the whole volume.
-    pub fn kept(&self, store: usize) -> Vec<(u16, u16, Vec<u8>)> {
+    /// The lengths of all images that the store got.
+    fn lengths(&self, store: usize) -> Vec<Length> {
+        let images = self.images[store].iter();
+        let length = |(&(volume, number), bytes): (&(u16, u16), &Vec<u8>)| Length {
+            volume,
+            number,
+            bytes: bytes.len() as u32,
+        };
+        images.map(length).collect()
+    }
+
+    /// The backups that are kept there, each with the image that was backed up.
+    pub fn kept(&self, store: usize) -> Vec<(u16, u16, &[u8])> {
         let history = &self.histories[store];
-        let mut kept = Vec::new();
-        for volume in 0..VOLUMES {
-            for number in 1..=history.backups(volume) as u16 {
-                if let Some(bytes) = volume_in(history, volume, number) {
-                    kept.push((volume, number, bytes));
-                }
-            }
-        }
-        kept
+        let images = self.images[store].iter();
+        images
+            .filter(|((volume, number), _)| is_kept(history, *volume, *number))
+            .map(|((volume, number), bytes)| (*volume, *number, &bytes[..]))
+            .collect()
     }
 
     pub fn story(&self) -> &'a Story {
@@ -144,26 +166,34 @@ impl<'a> Judge<'a> {
     }
 }
 
-/// The whole volume of a backup, with zeros where nothing was sent; none if it isn't kept.
-pub fn volume_in(history: &History, volume: u16, number: u16) -> Option<Vec<u8>> {
-    let mut bytes = Vec::new();
-    for lbn in 0..SIZES.lbns {
-        match history.read(volume, number, lbn) {
-            Ok(block) => bytes.extend_from_slice(block),
-            Err(Refusal::Unmapped) => bytes.resize(bytes.len() + BLOCK_BYTES, 0),
-            Err(_) => return None,
-        }
-    }
-    Some(bytes)
+fn key_of(parts: &Parts) -> (Vec<u8>, Vec<Length>) {
+    (parts.book.to_vec(), sorted(&parts.lengths))
 }
 
-/// Complains unless the store is sound and every read gives what the history says.
-fn holds(tree: &Tree, history: &History) -> Result<(), String> {
-    let there = |name| tree.file(name).ok_or(format!("{name} is missing"));
-    let (book, pool, lock) = (there(BOOK)?, there(POOL)?, there(LOCK)?);
-    if !is_lock(lock) {
-        return Err("the file lock isn't whole".into());
+fn sorted(lengths: &[Length]) -> Vec<Length> {
+    let mut lengths = lengths.to_vec();
+    lengths.sort_unstable();
+    lengths
+}
+
+fn is_kept(history: &History, volume: u16, number: u16) -> bool {
+    matches!(
+        history.read(volume, number, 0),
+        Ok(_) | Err(Refusal::Unmapped)
+    )
+}
+
+fn is_sealed(parts: &Parts, id: &[u8]) -> Result<(), String> {
+    match &parts.seal {
+        None => Err("the book has no seal".into()),
+        Some(seal) if !seal.fits => Err("the book doesn't fit its digest".into()),
+        Some(seal) if seal.id != id => Err("the book is sealed for another store".into()),
+        Some(_) => Ok(()),
     }
+}
+
+/// Complains unless the book is sound and every read gives what the history says.
+fn reads(book: &[u8], pool: &[u8], history: &History) -> Result<(), String> {
     match store::audit(book) {
         Ok(true) => {}
         Ok(false) => return Err("the audit says no".into()),
@@ -194,14 +224,19 @@ fn shown(answer: Result<&[u8], Refusal>) -> String {
     }
 }
 
-/// Three lines: the version, the date of day 0 as the story gives it, and an identity by chance.
-fn is_lock(bytes: &[u8]) -> bool {
-    const START: &[u8] = b"aspenbox 1\nday-zero 2026-01-01\nstore ";
-    let Some(rest) = bytes.strip_prefix(START) else {
-        return false;
-    };
-    let Some((b'\n', id)) = rest.split_last() else {
-        return false;
-    };
-    id.len() == 32 && id.iter().all(u8::is_ascii_hexdigit)
+/// The identity in the file lock, if that is whole: the version, the date of day 0 as the story
+/// gives it, an identity by chance, and the digest of these three lines.
+fn id_in(lock: &[u8]) -> Option<Vec<u8>> {
+    let lock = std::str::from_utf8(lock).ok()?;
+    let rest = lock.strip_prefix("aspenbox 1\nday-zero 2026-01-01\nstore ")?;
+    let (id, rest) = rest.split_once('\n')?;
+    let digest = rest.strip_prefix("digest ")?.strip_suffix('\n')?;
+    let lines = &lock[..lock.len() - rest.len()];
+    let whole = id.len() == 32 && unhex(digest)? == sha256(lines.as_bytes());
+    whole.then(|| unhex(id))?
+}
+
+fn unhex(text: &str) -> Option<Vec<u8>> {
+    let pair = |at: usize| u8::from_str_radix(text.get(at..at + 2)?, 16).ok();
+    (0..text.len()).step_by(2).map(pair).collect()
 }

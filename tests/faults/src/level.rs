@@ -12,6 +12,8 @@ pub struct Level {
     /// The faults that a power cut follows.
     pub before_cuts: &'static [How],
     pub bounds: Bounds,
+    /// Of the commands that meet rotted blocks, one in so many is tried.
+    pub repairs: usize,
     /// Stories by chance whose every call goes wrong, and those in which faults come by chance.
     pub stories: u64,
     pub soaks: u64,
@@ -26,6 +28,7 @@ impl Level {
             opened: 1,
             formatted: 6,
         },
+        repairs: 5,
         stories: 0,
         soaks: 60,
     };
@@ -37,6 +40,7 @@ impl Level {
             opened: 8,
             formatted: 100,
         },
+        repairs: 1,
         stories: 4,
         soaks: 2_000,
     };

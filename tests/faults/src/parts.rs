@@ -8,6 +8,7 @@ use std::thread;
 
 use crate::bench::{Bench, Reading};
 use crate::damage;
+use crate::heal;
 use crate::level::Level;
 use crate::played::{learn, play, Scene};
 use crate::power;
@@ -23,14 +24,16 @@ pub enum Part {
     Seen,
     Sweep,
     Power,
+    Heal,
     Damage,
     Soak,
 }
 
-pub const ALL: [Part; 5] = [
+pub const ALL: [Part; 6] = [
     Part::Seen,
     Part::Sweep,
     Part::Power,
+    Part::Heal,
     Part::Damage,
     Part::Soak,
 ];
@@ -41,6 +44,7 @@ impl Part {
             "seen" => Some(Part::Seen),
             "sweep" => Some(Part::Sweep),
             "power" => Some(Part::Power),
+            "heal" => Some(Part::Heal),
             "damage" => Some(Part::Damage),
             "soak" => Some(Part::Soak),
             _ => None,
@@ -129,6 +133,9 @@ impl Stage {
             Part::Seen => self.seen(hunt),
             Part::Sweep => self.sweep(hunt),
             Part::Power => self.power(hunt),
+            Part::Heal => self
+                .heal(hunt)
+                .unwrap_or_else(|why| Outcome::failed("healing", why)),
             Part::Damage => self.damage(hunt),
             Part::Soak => self.soak(hunt),
         }
@@ -247,6 +254,58 @@ impl Stage {
         Outcome {
             words,
             states: total.cuts,
+            ..outcome
+        }
+    }
+
+    fn heal(&self, hunt: Option<&Hunt>) -> Result<Outcome, String> {
+        let first = self.folder.join("first");
+        let bench = Bench::new(&self.program, &self.story, first, Reading::One);
+        let repairs = heal::repairs(&bench, &self.scenes)?;
+        let tried: Vec<_> = repairs.into_iter().step_by(self.level.repairs).collect();
+        let faults = self.heal_with_faults(hunt, &tried);
+        let cuts = self.heal_with_cuts(hunt, &tried);
+        let words = format!(
+            "rotted blocks: {} faults and {} states after power cuts in {} commands that heal",
+            faults.faults,
+            cuts.states,
+            tried.len()
+        );
+        Ok(Outcome {
+            passed: faults.passed + cuts.passed,
+            complaints: [faults.complaints, cuts.complaints].concat(),
+            words,
+            faults: faults.faults,
+            states: cuts.states,
+        })
+    }
+
+    fn heal_with_faults(&self, hunt: Option<&Hunt>, repairs: &[heal::Repair]) -> Outcome {
+        let cases = heal::faults(repairs);
+        let label = heal::label;
+        let outcome = self.share("repairs with faults", hunt, &cases, label, heal::try_fault);
+        Outcome {
+            faults: cases.len(),
+            ..outcome
+        }
+    }
+
+    fn heal_with_cuts(&self, hunt: Option<&Hunt>, repairs: &[heal::Repair]) -> Outcome {
+        let cases = heal::cut_off(repairs, self.level.before_cuts);
+        let total = Mutex::new(power::Counts::default());
+        let outcome = self.share(
+            "repairs with power cuts",
+            hunt,
+            &cases,
+            heal::label,
+            |bench, case| {
+                let counts = heal::try_cuts(bench, case, self.level.bounds)?;
+                total.lock().expect("no worker panics").add(counts);
+                Ok(())
+            },
+        );
+        Outcome {
+            states: total.into_inner().expect("no worker panics").cuts,
             ..outcome
         }
     }

@@ -4,7 +4,7 @@ use crate::bench::Bench;
 use crate::calls::Logged;
 use crate::disk::Disk;
 use crate::program::status;
-use crate::story::{aid, image_bytes, Command};
+use crate::story::Command;
 use crate::tree::Tree;
 
 /// A command of the story, and how things are before it.
@@ -53,8 +53,8 @@ pub fn follow(disk: &mut Disk, command: &Command, calls: &[Logged]) {
 
 /// The aid's image comes from outside, and is there for good.
 pub fn bring_image(disk: &mut Disk, command: &Command) {
-    if let Command::Backup { volume, image, .. } = command {
-        disk.put(&aid(*volume), Some(&image_bytes(image)));
+    if let Some((name, bytes)) = command.file() {
+        disk.put(&name, Some(&bytes));
     }
 }
 

@@ -152,14 +152,17 @@ fn run(
 }
 
 /// What is said to be done is there for good. So is what a refusal goes by. A restore doesn't say
-/// that the store is.
+/// that the store is, nor any other command that the restored file is.
 pub fn promised(command: &Command, ended: &Ended, bound: Standing, reached: Standing) -> Standing {
     match ended.status {
         Some(status::DONE) if !command.changes_store() => Standing {
             store: bound.store,
             ..reached
         },
-        Some(status::DONE | status::REFUSED) => reached,
+        Some(status::DONE | status::REFUSED) => Standing {
+            out: bound.out,
+            ..reached
+        },
         _ => bound,
     }
 }

@@ -12,6 +12,7 @@ use crate::fault::Fault;
 /// The statuses that aspenbox documents.
 pub mod status {
     pub const DONE: i32 = 0;
+    pub const UNSOUND: i32 = 1;
     pub const USAGE: i32 = 2;
     pub const REFUSED: i32 = 3;
     pub const FILES: i32 = 4;
@@ -51,12 +52,29 @@ impl Ended {
 impl Program {
     /// Runs a command in a folder. The shim's log is beside the folder.
     pub fn run(&self, folder: &Path, words: &[String], fault: Option<Fault>) -> io::Result<Ended> {
+        self.end(Command::new(&self.aspenbox).args(words), folder, fault)
+    }
+
+    /// The same without some of the standard streams, as a shell closes them.
+    pub fn run_without(
+        &self,
+        closed: &str,
+        folder: &Path,
+        words: &[String],
+        fault: Option<Fault>,
+    ) -> io::Result<Ended> {
+        let script = format!("exec \"$@\" {closed}");
+        let mut shell = Command::new("sh");
+        shell.args(["-c", &script, "sh"]).arg(&self.aspenbox);
+        self.end(shell.args(words), folder, fault)
+    }
+
+    fn end(&self, command: &mut Command, folder: &Path, fault: Option<Fault>) -> io::Result<Ended> {
         let log = folder.with_extension("calls");
         if log.exists() {
             fs::remove_file(&log)?;
         }
-        let mut command = Command::new(&self.aspenbox);
-        command.args(words).current_dir(folder).stdin(Stdio::null());
+        command.current_dir(folder).stdin(Stdio::null());
         command.env("LD_PRELOAD", &self.shim).env("SHIM_LOG", &log);
         // The library for fingerprints would read its settings at every start.
         command.env("OPENSSL_CONF", "/dev/null");

@@ -5,6 +5,7 @@ use std::collections::BTreeSet;
 use reference::call::Answer;
 use reference::plain::Plain;
 use reference::prng::Prng;
+use reference::refusal::Refusal;
 
 use crate::story::{letters, Command, Story, SIZES};
 
@@ -51,10 +52,10 @@ fn draw(prng: &mut Prng, commands: &[Command], day: u16) -> Command {
     }
 }
 
-/// The image with some blocks changed, and perhaps of another length.
+/// The image with some blocks changed, and perhaps of another length, also of none.
 fn changed(prng: &mut Prng, image: &str) -> String {
     let mut image = image.as_bytes().to_vec();
-    image.resize(usize::from(prng.between(1, SIZES.lbns)), b'A');
+    image.resize(usize::from(prng.between(0, SIZES.lbns)), b'A');
     for letter in &mut image {
         if prng.once_in(2) {
             *letter = prng.pick(LETTERS);
@@ -66,7 +67,8 @@ fn changed(prng: &mut Prng, image: &str) -> String {
 /// Whether the box takes the command, and room stays for one more block.
 fn is_taken(plain: &mut Plain, commands: &[Command], command: &Command) -> bool {
     if let Command::Restore { volume, number } = command {
-        return plain.read(*volume, *number, 0).is_ok();
+        let read = plain.read(*volume, *number, 0);
+        return matches!(read, Ok(_) | Err(Refusal::Unmapped));
     }
     let after = || commands.iter().chain([command]);
     let current: BTreeSet<u8> = (0..2)

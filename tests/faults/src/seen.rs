@@ -9,9 +9,7 @@ use crate::played::Scene;
 use crate::program::Program;
 
 /// What the C library has for writing or naming files and the shim doesn't know.
-const UNKNOWN: [&str; 50] = [
-    "__open64_2",
-    "__open_2",
+const UNKNOWN: [&str; 46] = [
     "__openat64_2",
     "__openat_2",
     "aio_write",
@@ -26,8 +24,6 @@ const UNKNOWN: [&str; 50] = [
     "execve",
     "fallocate",
     "fallocate64",
-    "fchmod",
-    "fchown",
     "fdopen",
     "fopen",
     "fopen64",
@@ -82,7 +78,9 @@ const READING: [&str; 17] = [
     "stat",
     "statx",
 ];
-const SHIMMED: [&str; 15] = [
+const SHIMMED: [&str; 17] = [
+    "fchmod",
+    "fchown",
     "fdatasync",
     "flock",
     "fsync",

@@ -1,5 +1,6 @@
 //! The story that is played: commands of aspenbox one after the other.
 
+use std::collections::BTreeMap;
 use std::fmt;
 
 use reference::call::{Answer, Call};
@@ -18,6 +19,9 @@ pub const SIZES: Sizes = Sizes {
 pub const STORE: &str = "box";
 /// Where volumes are restored to.
 pub const OUT: &str = "out";
+/// Zeros at the end of every block of an image. A file is cut off among them, so that its last
+/// block is the same as elsewhere and its length is no multiple of a block's.
+const ZEROS: usize = 100;
 
 #[derive(Clone, Debug)]
 pub enum Command {
@@ -26,7 +30,7 @@ pub enum Command {
         volume: u16,
         keep: u16,
     },
-    /// An image is given by letters, one for each block.
+    /// An image is given by letters, one for each block; the day says where its file is cut off.
     Backup {
         volume: u16,
         day: u16,
@@ -51,14 +55,24 @@ impl Command {
             ),
             Command::Enrol { volume, keep } => format!("enrol {STORE} {volume} --keep {keep}"),
             Command::Backup { volume, day, .. } => {
-                format!("backup {STORE} {volume} {} --day {day}", aid(*volume))
+                format!("backup {STORE} {volume} {} {}", aid(*volume), on_day(*day))
             }
-            Command::Collect { day } => format!("collect {STORE} --day {day}"),
+            Command::Collect { day } => format!("collect {STORE} {}", on_day(*day)),
             Command::Restore { volume, number } => {
                 format!("restore {STORE} {volume} {number} {OUT} --force")
             }
         };
         line.split(' ').map(String::from).collect()
+    }
+
+    /// The file that the command takes from outside, with its name.
+    pub fn file(&self) -> Option<(String, Vec<u8>)> {
+        match self {
+            Command::Backup { volume, day, image } => {
+                Some((aid(*volume), image_bytes(image, *day)))
+            }
+            _ => None,
+        }
     }
 
     /// What the box is called with. For what a volume holds it is the same whether all blocks
@@ -105,14 +119,27 @@ pub fn aid(volume: u16) -> String {
     format!("aid{volume}")
 }
 
-/// The bytes of an image. Blocks of different letters differ in both halves.
-pub fn image_bytes(image: &str) -> Vec<u8> {
+/// Whatever the clock says.
+fn on_day(day: u16) -> String {
+    format!("--day-number {day} --ahead")
+}
+
+/// The bytes of an image's file. The same blocks have another length on another day.
+fn image_bytes(image: &str, day: u16) -> Vec<u8> {
+    let mut bytes = blocks_of(image);
+    let zeros_left = usize::from(day) * 37 % ZEROS;
+    bytes.truncate(bytes.len().saturating_sub(ZEROS - zeros_left));
+    bytes
+}
+
+fn blocks_of(image: &str) -> Vec<u8> {
     image.bytes().flat_map(block_of).collect()
 }
 
+/// Blocks of different letters differ in both halves.
 fn block_of(letter: u8) -> Block {
     let mut block = [0; BLOCK_BYTES];
-    Prng::seeded(letter.into()).fill(&mut block);
+    Prng::seeded(letter.into()).fill(&mut block[..BLOCK_BYTES - ZEROS]);
     block
 }
 
@@ -120,7 +147,7 @@ fn list_of(image: &str) -> Vec<u8> {
     let lbns = usize::from(SIZES.lbns);
     let mut marks = vec![0; lbns];
     marks[..image.len()].fill(1);
-    let mut blocks = image_bytes(image);
+    let mut blocks = blocks_of(image);
     blocks.resize(BLOCK_BYTES * lbns, 0);
     let prints: Vec<u8> = blocks
         .chunks(BLOCK_BYTES)
@@ -139,6 +166,20 @@ pub fn history_of<'a>(commands: impl Iterator<Item = &'a Command>) -> History {
         history.note(&call, &Answer::Enrolled);
     }
     history
+}
+
+/// The images that were backed up, by volume and number.
+pub type Images = BTreeMap<(u16, u16), Vec<u8>>;
+
+pub fn images_of<'a>(commands: impl Iterator<Item = &'a Command>) -> Images {
+    let mut images = Images::new();
+    for command in commands {
+        if let (Command::Backup { volume, .. }, Some((_, bytes))) = (command, command.file()) {
+            let earlier = images.range((*volume, 0)..=(*volume, u16::MAX)).count();
+            images.insert((*volume, earlier as u16 + 1), bytes);
+        }
+    }
+    images
 }
 
 /// How far a story got: how many of its commands that change the store were taken, and how many
@@ -184,7 +225,7 @@ pub struct Story(pub Vec<Command>);
 
 impl Story {
     /// Shared and replaced blocks, blocks that a collection frees and the next backup takes
-    /// again, an image without changes, and volumes brought back.
+    /// again, an image that changes in its length alone, and volumes brought back.
     pub fn fixed() -> Self {
         let backup = |volume, day, image: &str| Command::Backup {
             volume,

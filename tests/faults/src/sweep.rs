@@ -13,7 +13,12 @@ pub struct Case {
     pub fault: Fault,
     /// The call's name.
     pub call: String,
+    /// Whether there is no stream to say so on. Nobody may write it into a file of the store.
+    pub unheard: bool,
 }
+
+/// As a shell closes what a command says something on.
+const UNHEARD: &str = ">&- 2>&-";
 
 /// Where `all` isn't wanted, a process isn't killed before a call if it is after the one before.
 pub fn cases(scenes: &[Scene], all: bool) -> Vec<Case> {
@@ -21,7 +26,8 @@ pub fn cases(scenes: &[Scene], all: bool) -> Vec<Case> {
     for (at, scene) in scenes.iter().enumerate() {
         for logged in scene.calls.iter().filter(|logged| logged.number > 0) {
             let wanted = |how: &How| all || *how != How::Before || logged.number == 1;
-            for how in logged.ways().into_iter().filter(wanted) {
+            let heard = logged.ways().into_iter().filter(wanted);
+            for (how, unheard) in heard.map(|how| (how, false)).chain([(How::Failed, true)]) {
                 cases.push(Case {
                     at,
                     fault: Fault {
@@ -29,6 +35,7 @@ pub fn cases(scenes: &[Scene], all: bool) -> Vec<Case> {
                         how,
                     },
                     call: logged.name.clone(),
+                    unheard,
                 });
             }
         }
@@ -38,15 +45,23 @@ pub fn cases(scenes: &[Scene], all: bool) -> Vec<Case> {
 
 pub fn label(scenes: &[Scene], case: &Case) -> String {
     let command = &scenes[case.at].command;
-    format!("{command}, {} ({})", case.fault, case.call)
+    let unheard = if case.unheard { ", unheard" } else { "" };
+    format!("{command}, {} ({}){unheard}", case.fault, case.call)
 }
 
 pub fn try_case(bench: &mut Bench, scenes: &[Scene], case: &Case) -> Result<(), String> {
     let scene = &scenes[case.at];
     let story = bench.judge.story();
     bench.store(&scene.tree)?;
-    let ended = bench.run(&scene.command, Some(case.fault))?;
-    ended_as_planned(&ended, case.fault.how)?;
+    let ended = if case.unheard {
+        bench.bring(&scene.command)?;
+        bench.ask_without(UNHEARD, &scene.command.words().join(" "), Some(case.fault))?
+    } else {
+        bench.run(&scene.command, Some(case.fault))?
+    };
+    if !case.unheard || ended.status != Some(status::FILES) {
+        ended_as_planned(&ended, case.fault.how)?;
+    }
     let tree = bench.load()?;
     let standing = bench.judge.stands(&tree)?;
     let (before, after) = (story.standing(case.at), story.standing(case.at + 1));
@@ -73,7 +88,7 @@ pub fn try_case(bench: &mut Bench, scenes: &[Scene], case: &Case) -> Result<(), 
 
 /// The process was killed if the fault does that, went on if it is harmless, and else ended well
 /// or with a message about files.
-fn ended_as_planned(ended: &Ended, how: How) -> Result<(), String> {
+pub fn ended_as_planned(ended: &Ended, how: How) -> Result<(), String> {
     let fine = match ended.status {
         None => how.kills() && ended.killed(),
         Some(status::DONE) => !how.kills(),
