@@ -35,7 +35,7 @@ journal     11 of    20 changes noted,  55 %
 1 of the held blocks wait for a collection
 volume 0: 2 backups, the newest of $(ago 10), 10 days ago
 volume 1: no backup yet
-volume 7: 1 backups, the newest of $(ago 1), 1 days ago
+volume 7: 1 backup, the newest of $(ago 1), 1 day ago
 END
 check "status in words" printed wanted
 check "and no warning" test ! -s "$work/err"
@@ -116,7 +116,7 @@ warns 0 "" --warn 91
 warns 0 "" --older 10 --warn 100
 # A backup ahead of the clock isn't old.
 expect 0 "backup 2" backup box 1 aid --day "$(date -u -d '+1 day' +%F)"
-expect 0 "volume 1: 2 backups, the newest of $(date -u -d '+1 day' +%F), 1 days ahead of the clock" status box --warn 100
+expect 0 "volume 1: 2 backups, the newest of $(date -u -d '+1 day' +%F), 1 day ahead of the clock" status box --warn 100
 expect 0 'aspenbox_volume_newest_age_days{volume="1"} -1' status box --prometheus --warn 100
 expect_json 0 '[v["age"] for v in o["volumes"]] == [10, -1, 1]' status box --warn 100
 
