@@ -31,7 +31,7 @@ content() {
     [ ! -d "$store" ] || find "$store" -type f -exec sha256sum {} + | sort
 }
 
-# The book and pool of a store as its first version had them: no digest, no lengths. age STORE
+# Makes a store one of the first version, whose book has no digest and no lengths, and whose lock has three lines: age STORE
 age() {
     # shellcheck disable=SC2086
     $program book "$1" >"$work/bare" </dev/null

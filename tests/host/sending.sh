@@ -6,10 +6,14 @@ expect 0 "enrolled" enrol box 0 --keep 10
 expect 0 "enrolled" enrol box 1 --keep 10
 blocks ABCDEFGH >image
 day=0
+# The date of a day: date_of DAY
+date_of() {
+    printf '2026-01-%02d' $(($1 + 1))
+}
 # sends NUMBER IMAGE: the next backup of volume 0 sends so many blocks, and says nothing else
 sends() {
     day=$((day + 1))
-    expect 0 "$1 of 8 blocks sent" backup box 0 "$2" --day-number $day
+    expect 0 "$1 of 8 blocks sent" backup box 0 "$2" --day "$(date_of $day)"
     check "one line" same "$(cat "$work/out" "$work/err" | wc -l)" 1
 }
 sends 8 image
@@ -22,12 +26,12 @@ for i in $(seq 20); do
     cp image "image.$i"
     sends 0 "image.$i"
 done
-expect 0 "0 of 8 blocks sent" backup box 0 image --day-number $((day + 1))
+expect 0 "0 of 8 blocks sent" backup box 0 image --day "$(date_of $((day + 1)))"
 day=$((day + 1))
 expect 0 '"journal":{"used":10,' status box --json
 
 # Another volume's blocks are another matter, and take no room in the pool.
-expect 0 "8 of 8 blocks sent, 0 new" backup box 1 image --day-number $day
+expect 0 "8 of 8 blocks sent, 0 new" backup box 1 image --day "$(date_of $day)"
 sends 0 image
 
 # An older copy of the store, whose numbers have gone on since.
@@ -47,6 +51,6 @@ expect 0 "restored" restore box 0 "$newest" back
 check "all of the image is in the backup" cmp image back
 # Back to what an older backup had: the blocks are there.
 blocks ABCDEFGH >image
-expect 0 "3 of 8 blocks sent, 0 new" backup box 0 image --day-number $((day + 1))
+expect 0 "3 of 8 blocks sent, 0 new" backup box 0 image --day "$(date_of $((day + 1)))"
 check "no temporary file is left" same "$(find . -name '*.new*')" ""
 check "nothing lies beside the images" same "$(find . -name '*.aspen')" ""
