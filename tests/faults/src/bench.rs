@@ -126,7 +126,7 @@ impl<'a> Bench<'a> {
         Ok(())
     }
 
-    fn restores(&self, volume: u16, number: u16, bytes: &[u8]) -> Result<(), String> {
+    pub fn restores(&self, volume: u16, number: u16, bytes: &[u8]) -> Result<(), String> {
         let restored = self.ask(&format!("restore {STORE} {volume} {number} -"))?;
         if restored.status != Some(status::DONE) {
             return Err(format!(

@@ -9,6 +9,7 @@ use reference::form;
 use reference::store;
 
 use crate::bench::{or_complain, Bench};
+use crate::first::made_first;
 use crate::judge::{BOOK, LOCK, POOL};
 use crate::program::{status, Ended};
 use crate::sealed::{self, Parts, SEAL_BYTES};
@@ -97,7 +98,7 @@ fn lines() -> impl Iterator<Item = Line> {
 pub fn cases(whole: &Tree, all: bool) -> Vec<Case> {
     let mut cases = Cases(Vec::new());
     cases.add_changed_books(whole, all, |_| true);
-    cases.add_changed_books(&of_the_base(whole), all, |verdict| {
+    cases.add_changed_books(&made_first(whole), all, |verdict| {
         !matches!(verdict, Verdict::Refused(_))
     });
     cases.add_books_of_other_lengths(whole);
@@ -123,14 +124,6 @@ fn without(whole: &Tree, name: &str) -> Tree {
     let mut tree = whole.clone();
     tree.remove(name);
     tree
-}
-
-/// The store as the first version had it: a book alone, and a lock of three lines.
-fn of_the_base(whole: &Tree) -> Tree {
-    let book = sealed::open(file(whole, BOOK)).book.to_vec();
-    let lines = file(whole, LOCK).split_inclusive(|&byte| byte == b'\n');
-    let lock: Vec<u8> = lines.take(3).flatten().copied().collect();
-    with(&with(whole, BOOK, book), LOCK, lock)
 }
 
 /// A changed book that is in form by itself, and which the audit finds unsound.

@@ -6,7 +6,7 @@ use std::collections::HashMap;
 use std::hash::{Hash, Hasher};
 
 use reference::history::History;
-use reference::layout::{Book, Header};
+use reference::layout::{Book, Header, BLOCK_BYTES};
 use reference::refusal::Refusal;
 use reference::store;
 
@@ -159,6 +159,22 @@ impl<'a> Judge<'a> {
             .filter(|((volume, number), _)| is_kept(history, *volume, *number))
             .map(|((volume, number), bytes)| (*volume, *number, &bytes[..]))
             .collect()
+    }
+
+    /// The blocks of a volume as of a backup, up to the last that was ever sent.
+    pub fn blocks(&self, store: usize, volume: u16, number: u16) -> Vec<u8> {
+        let (mut blocks, mut sent) = (Vec::new(), 0);
+        for lbn in 0..SIZES.lbns {
+            match self.histories[store].read(volume, number, lbn) {
+                Ok(block) => {
+                    blocks.extend_from_slice(block);
+                    sent = blocks.len();
+                }
+                Err(_) => blocks.resize(blocks.len() + BLOCK_BYTES, 0),
+            }
+        }
+        blocks.truncate(sent);
+        blocks
     }
 
     pub fn story(&self) -> &'a Story {

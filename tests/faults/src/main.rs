@@ -15,6 +15,7 @@ mod damage;
 mod digest;
 mod disk;
 mod fault;
+mod first;
 mod heal;
 mod judge;
 mod level;

@@ -8,6 +8,7 @@ use std::thread;
 
 use crate::bench::{Bench, Reading};
 use crate::damage;
+use crate::first;
 use crate::heal;
 use crate::level::Level;
 use crate::played::{learn, play, Scene};
@@ -25,15 +26,17 @@ pub enum Part {
     Sweep,
     Power,
     Heal,
+    First,
     Damage,
     Soak,
 }
 
-pub const ALL: [Part; 6] = [
+pub const ALL: [Part; 7] = [
     Part::Seen,
     Part::Sweep,
     Part::Power,
     Part::Heal,
+    Part::First,
     Part::Damage,
     Part::Soak,
 ];
@@ -45,6 +48,7 @@ impl Part {
             "sweep" => Some(Part::Sweep),
             "power" => Some(Part::Power),
             "heal" => Some(Part::Heal),
+            "first" => Some(Part::First),
             "damage" => Some(Part::Damage),
             "soak" => Some(Part::Soak),
             _ => None,
@@ -136,6 +140,7 @@ impl Stage {
             Part::Heal => self
                 .heal(hunt)
                 .unwrap_or_else(|why| Outcome::failed("healing", why)),
+            Part::First => self.first(hunt),
             Part::Damage => self.damage(hunt),
             Part::Soak => self.soak(hunt),
         }
@@ -306,6 +311,25 @@ impl Stage {
         );
         Outcome {
             states: total.into_inner().expect("no worker panics").cuts,
+            ..outcome
+        }
+    }
+
+    fn first(&self, hunt: Option<&Hunt>) -> Outcome {
+        let cases = first::cases(&self.scenes);
+        let label = |case: &first::Case| first::label(&self.scenes, case);
+        let outcome = self.share("first stores", hunt, &cases, label, |bench, case| {
+            first::try_case(bench, &self.scenes, case)
+        });
+        let words = format!(
+            "stores of the first version: {} commands, {} sealed or left alone",
+            cases.len(),
+            outcome.passed
+        );
+        let faults = cases.iter().filter(|case| case.fault.is_some()).count();
+        Outcome {
+            words,
+            faults,
             ..outcome
         }
     }

@@ -20,14 +20,17 @@ pub struct Case {
 /// As a shell closes what a command says something on.
 const UNHEARD: &str = ">&- 2>&-";
 
-/// Where `all` isn't wanted, a process isn't killed before a call if it is after the one before.
+/// Where `all` isn't wanted, a process isn't killed before a call if it is after the one before,
+/// and failures that nobody hears are those of backups.
 pub fn cases(scenes: &[Scene], all: bool) -> Vec<Case> {
     let mut cases = Vec::new();
     for (at, scene) in scenes.iter().enumerate() {
         for logged in scene.calls.iter().filter(|logged| logged.number > 0) {
             let wanted = |how: &How| all || *how != How::Before || logged.number == 1;
             let heard = logged.ways().into_iter().filter(wanted);
-            for (how, unheard) in heard.map(|how| (how, false)).chain([(How::Failed, true)]) {
+            let backs_up = matches!(scene.command, Command::Backup { .. });
+            let unheard = (all || backs_up).then_some((How::Failed, true));
+            for (how, unheard) in heard.map(|how| (how, false)).chain(unheard) {
                 cases.push(Case {
                     at,
                     fault: Fault {
