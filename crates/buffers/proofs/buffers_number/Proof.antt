@@ -17,9 +17,6 @@ in-form c = sym (c .before .form-number .ensures) ∙ c .if1 .left
 size : (c : tie.After-blocks2) → c .blocks2 .result * blockSize ≡ bookOf (c .before .before .before .before .before .args .book .now) .sizes .n * blockSize
 size c = ap (λ (n : ℕ). n * blockSize) (c .blocks2 .ensures)
 
-form-number-requires : tie.Need-form-number-requires
-form-number-requires c κs = search needs
-
 returns : tie.Need-returns
 returns c =
     let e = c .before .form-number .ensures in
@@ -27,12 +24,6 @@ returns c =
 
 blocks-requires : tie.Need-blocks-requires
 blocks-requires c κs = holds-form _ (λ i. c .before .before .before .shared-slice-known .given i .fits) (in-form c)
-
-cast-if2 : tie.Need-cast-if2
-cast-if2 c = search needs
-
-mul-if2 : tie.Need-mul-if2
-mul-if2 c = search needs
 
 returns-2 : tie.Need-returns-2
 returns-2 c =
@@ -45,4 +36,6 @@ returns-3 c =
     sym (buffers-good _ _ (in-form (c .before .before)) (omega (arith, c .if2 .left)))
 
 pub buffers-number-spec : {M : Type 1} → statement M
-buffers-number-spec = tie.close (tie.spec form-number-requires returns blocks-requires cast-if2 mul-if2 returns-2 returns-3)
+buffers-number-spec =
+    tie.close (tie.spec (λ c κs. search needs) returns blocks-requires (λ c. search needs) (λ c. search needs) returns-2
+    returns-3)

@@ -20,36 +20,15 @@ returns c =
     let s = c .before .before in
     sym (unaccepted-refused (s .args .l) (s .args .list .now) (λ a. omega arith))
 
-u16-at-requires : tie.Need-u16-at-requires
-u16-at-requires c κs = search needs
-
-cast-prints-from : tie.Need-cast-prints-from
-cast-prints-from c = search needs
-
-mul-prints-from : tie.Need-mul-prints-from
-mul-prints-from c = search needs
-
-add-prints-from : tie.Need-add-prints-from
-add-prints-from c = search needs
-
 returns-2 : tie.Need-returns-2
 unfolding pairCount listSize
 returns-2 c =
     let s = c .before .before .before .before in
     sym (unaccepted-refused (s .args .l) (s .args .list .now) (λ a. omega arith))
 
-cast-count-changes : tie.Need-cast-count-changes
-cast-count-changes c = search needs
-
 count-changes-requires : tie.Need-count-changes-requires
 unfolding pairCount
 count-changes-requires c κs = (c .before .u16-at .ensures, omega arith, omega arith)
-
-enum-known-counted : tie.Need-enum-known-counted
-enum-known-counted c = search needs
-
-enum-told : tie.Need-enum-told
-enum-told c = search needs
 
 returns-3 : tie.Need-returns-3
 returns-3 c =
@@ -62,9 +41,6 @@ counted c = sym (c .before .before .before .count-changes .ensures) ∙ c .befor
 
 within : (c : tie.After-known-told) → c .before .counted .given .0 .0 ≤ 65535
 within c = let s = start c in omega (arith, counted-within (s .args .l) (s .args .list .now) (c .before .counted .given .0 .0) (counted c))
-
-add-if3 : tie.Need-add-if3
-add-if3 c = search needs
 
 mul-if3 : tie.Need-mul-if3
 mul-if3 c = omega (arith, within c)
@@ -92,22 +68,6 @@ returns-5 c =
 
 pub check-spec : {M : Type 1} → statement M
 check-spec =
-    tie.close
-    (tie.spec
-    returns
-    u16-at-requires
-    cast-prints-from
-    mul-prints-from
-    add-prints-from
-    returns-2
-    cast-count-changes
-    count-changes-requires
-    enum-known-counted
-    enum-told
-    returns-3
-    add-if3
-    mul-if3
-    add-if3-2
-    returns-4
-    cast-t12
-    returns-5)
+    tie.close (tie.spec returns (λ c κs. search needs) (λ c. search needs) (λ c. search needs) (λ c. search needs)
+    returns-2 (λ c. search needs) count-changes-requires (λ c. search needs) (λ c. search needs) returns-3
+    (λ c. search needs) mul-if3 add-if3-2 returns-4 cast-t12 returns-5)

@@ -27,36 +27,6 @@ loop-holds : tie.Need-loop-holds Inv-loop μ-loop
 unfolding changeCount
 loop-holds c = (omega arith, omega arith, omega arith, refl, omega arith)
 
-mul-u16-at : tie.Need-mul-u16-at Inv-loop μ-loop
-mul-u16-at c = omega arith
-
-add-u16-at : tie.Need-add-u16-at Inv-loop μ-loop
-add-u16-at c = omega arith
-
-u16-at-requires : tie.Need-u16-at-requires Inv-loop μ-loop
-u16-at-requires c κs = omega arith
-
-cast-first : tie.Need-cast-first Inv-loop μ-loop
-cast-first c = omega arith
-
-mul-u16-at-2 : tie.Need-mul-u16-at-2 Inv-loop μ-loop
-mul-u16-at-2 c = omega arith
-
-add-u16-at-2 : tie.Need-add-u16-at-2 Inv-loop μ-loop
-add-u16-at-2 c = omega arith
-
-add-u16-at-3 : tie.Need-add-u16-at-3 Inv-loop μ-loop
-add-u16-at-3 c = omega arith
-
-u16-at-requires-2 : tie.Need-u16-at-requires-2 Inv-loop μ-loop
-u16-at-requires-2 c κs = omega arith
-
-cast-many : tie.Need-cast-many Inv-loop μ-loop
-cast-many c = omega arith
-
-pair-fits-requires : tie.Need-pair-fits-requires Inv-loop μ-loop
-pair-fits-requires c κs = omega arith
-
 returns : tie.Need-returns Inv-loop μ-loop
 unfolding pairAt
 returns c =
@@ -66,18 +36,6 @@ returns c =
     sym (counted-unfit (s .args .l) b
     (l .inv .3 ∙ fit-stop b (l .i) (c .before .before .before .u16-at .result) (c .before .before .u16-at2 .result) (omega arith) (omega arith) (omega arith) (s .args .l) (l .end)
     (failed (c .before .pair-fits .ensures) (c .if1 .taken))))
-
-add-end : tie.Need-add-end Inv-loop μ-loop
-add-end c = omega arith
-
-add-changes : tie.Need-add-changes Inv-loop μ-loop
-add-changes c = omega arith
-
-add-i : tie.Need-add-i Inv-loop μ-loop
-add-i c = omega arith
-
-loop-less : tie.Need-loop-less Inv-loop μ-loop
-loop-less c = omega arith
 
 loop-again : tie.Need-loop-again Inv-loop μ-loop
 unfolding pairAt
@@ -108,25 +66,7 @@ returns-2 c =
 
 pub count-changes-spec : {M : Type 1} → statement M
 count-changes-spec =
-    tie.close
-    (tie.spec
-    Inv-loop
-    μ-loop
-    loop-holds
-    mul-u16-at
-    add-u16-at
-    u16-at-requires
-    cast-first
-    mul-u16-at-2
-    add-u16-at-2
-    add-u16-at-3
-    u16-at-requires-2
-    cast-many
-    pair-fits-requires
-    returns
-    add-end
-    add-changes
-    add-i
-    loop-less
-    loop-again
+    tie.close (tie.spec Inv-loop μ-loop loop-holds (λ c. omega arith) (λ c. omega arith) (λ c κs. omega arith)
+    (λ c. omega arith) (λ c. omega arith) (λ c. omega arith) (λ c. omega arith) (λ c κs. omega arith) (λ c. omega arith)
+    (λ c κs. omega arith) returns (λ c. omega arith) (λ c. omega arith) (λ c. omega arith) (λ c. omega arith) loop-again
     returns-2)

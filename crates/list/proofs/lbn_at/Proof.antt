@@ -6,18 +6,6 @@ use Rattle.list.specs.Cursors.{in-pair, lbn-there}
 use Rattle.list.proofs.lbn_at.Statement.{statement}
 use Rattle.list.proofs.lbn_at.Tie as tie
 
-cast-u16-at : tie.Need-cast-u16-at
-cast-u16-at c = search needs
-
-mul-u16-at : tie.Need-mul-u16-at
-mul-u16-at c = search needs
-
-add-u16-at : tie.Need-add-u16-at
-add-u16-at c = search needs
-
-u16-at-requires : tie.Need-u16-at-requires
-u16-at-requires c κs = search needs
-
 add-t8 : tie.Need-add-t8
 unfolding pairAt
 add-t8 c =
@@ -34,4 +22,6 @@ returns c =
     omega arith
 
 pub lbn-at-spec : {M : Type 1} → statement M
-lbn-at-spec = tie.close (tie.spec cast-u16-at mul-u16-at add-u16-at u16-at-requires add-t8 returns)
+lbn-at-spec =
+    tie.close (tie.spec (λ c. search needs) (λ c. search needs) (λ c. search needs) (λ c κs. search needs) add-t8
+    returns)

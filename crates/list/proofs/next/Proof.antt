@@ -7,30 +7,12 @@ use Rattle.list.specs.Cursors.{in-pair, index-within, index-pair}
 use Rattle.list.proofs.next.Statement.{statement}
 use Rattle.list.proofs.next.Tie as tie
 
-cast-u16-at : tie.Need-cast-u16-at
-cast-u16-at c = search needs
-
-mul-u16-at : tie.Need-mul-u16-at
-mul-u16-at c = search needs
-
-add-u16-at : tie.Need-add-u16-at
-add-u16-at c = search needs
-
-add-u16-at-2 : tie.Need-add-u16-at-2
-add-u16-at-2 c = search needs
-
-u16-at-requires : tie.Need-u16-at-requires
-u16-at-requires c κs = search needs
-
 add-if1 : tie.Need-add-if1
 unfolding pairAt
 add-if1 c =
     let s = c .before .before .before .before in
     let k = in-pair (s .args .list .now) (s .args .at) (s .pre .1) (omega arith) in
     omega (arith, s .pre .0 .bound (s .args .at .pair) k, s .pre .1 .inside k)
-
-add-t12 : tie.Need-add-t12
-add-t12 c = search needs
 
 add-t13 : tie.Need-add-t13
 add-t13 c =
@@ -57,15 +39,5 @@ returns-2 c =
 
 pub next-spec : {M : Type 1} → statement M
 next-spec =
-    tie.close
-    (tie.spec
-    cast-u16-at
-    mul-u16-at
-    add-u16-at
-    add-u16-at-2
-    u16-at-requires
-    add-if1
-    add-t12
-    add-t13
-    returns
-    returns-2)
+    tie.close (tie.spec (λ c. search needs) (λ c. search needs) (λ c. search needs) (λ c. search needs)
+    (λ c κs. search needs) add-if1 (λ c. search needs) add-t13 returns returns-2)

@@ -13,13 +13,10 @@ returns-2 c =
     let a = c .before .before .args in
     rw (ne-eqb (a .many) 0 (λ e. omega arith), lt-leb (a .end) (a .first) (omega arith))
 
-add-result : tie.Need-add-result
-add-result c = search needs
-
 returns-3 : tie.Need-returns-3
 returns-3 c =
     let a = c .before .before .args in
     rw (ne-eqb (a .many) 0 (λ e. omega arith), le-leb (a .end) (a .first) (omega arith))
 
 pub pair-fits-spec : {M : Type 1} → statement M
-pair-fits-spec = tie.close (tie.spec returns returns-2 add-result returns-3)
+pair-fits-spec = tie.close (tie.spec returns returns-2 (λ c. search needs) returns-3)

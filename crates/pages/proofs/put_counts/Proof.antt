@@ -64,17 +64,11 @@ line5 c =
     let a = entry5 c .args in
     left-more (line4 (c .before .before .before .before .before)) (line referencesWord (a .t .references)) (from (entry5 c) 5) refl (c .put-line5 .ensures)
 
-slice-aggregate-put-line : tie.Need-slice-aggregate-put-line
-slice-aggregate-put-line c = search needs
-
 put-line-requires : tie.Need-put-line-requires
 put-line-requires c κs =
     let s = c .before .before .before in
     let a = s .args in
     left-room (whole s) (line blocksWord (a .n)) (from s 1) refl
-
-slice-aggregate-put-line-2 : tie.Need-slice-aggregate-put-line-2
-slice-aggregate-put-line-2 c = search needs
 
 put-line-requires-2 : tie.Need-put-line-requires-2
 put-line-requires-2 c κs =
@@ -82,17 +76,11 @@ put-line-requires-2 c κs =
     let a = entry1 k .args in
     left-room (line1 k) (line heldWord (a .t .held)) (from (entry1 k) 2) refl
 
-slice-aggregate-put-line-3 : tie.Need-slice-aggregate-put-line-3
-slice-aggregate-put-line-3 c = search needs
-
 put-line-requires-3 : tie.Need-put-line-requires-3
 put-line-requires-3 c κs =
     let k = c .before .before .before .before in
     let a = entry2 k .args in
     left-room (line2 k) (line freeWord (a .t .free)) (from (entry2 k) 3) refl
-
-slice-aggregate-put-line-4 : tie.Need-slice-aggregate-put-line-4
-slice-aggregate-put-line-4 c = search needs
 
 put-line-requires-4 : tie.Need-put-line-requires-4
 put-line-requires-4 c κs =
@@ -100,34 +88,17 @@ put-line-requires-4 c κs =
     let a = entry3 k .args in
     left-room (line3 k) (line waitingWord (a .t .waiting)) (from (entry3 k) 4) refl
 
-slice-aggregate-put-line-5 : tie.Need-slice-aggregate-put-line-5
-slice-aggregate-put-line-5 c = search needs
-
 put-line-requires-5 : tie.Need-put-line-requires-5
 put-line-requires-5 c κs =
     let k = c .before .before .before .before in
     let a = entry4 k .args in
     left-room (line4 k) (line referencesWord (a .t .references)) (from (entry4 k) 5) refl
 
-same-length : tie.Need-same-length
-same-length c = search needs
-
 returns : tie.Need-returns
 returns c = left-none (line5 (c .before .before)) refl
 
 pub put-counts-spec : {M : Type 1} → statement M
 put-counts-spec =
-    tie.close
-    (tie.spec
-    slice-aggregate-put-line
-    put-line-requires
-    slice-aggregate-put-line-2
-    put-line-requires-2
-    slice-aggregate-put-line-3
-    put-line-requires-3
-    slice-aggregate-put-line-4
-    put-line-requires-4
-    slice-aggregate-put-line-5
-    put-line-requires-5
-    same-length
-    returns)
+    tie.close (tie.spec (λ c. search needs) put-line-requires (λ c. search needs) put-line-requires-2
+    (λ c. search needs) put-line-requires-3 (λ c. search needs) put-line-requires-4 (λ c. search needs)
+    put-line-requires-5 (λ c. search needs) returns)

@@ -9,14 +9,8 @@ use Rattle.pages.proofs.refusal.Tie as tie
 returns : tie.Need-returns
 returns c = sym (long-number (c .before .before .args .input .now) (omega arith))
 
-form-number-requires : tie.Need-form-number-requires
-form-number-requires c κs = search needs
-
-cast-result : tie.Need-cast-result
-cast-result c = search needs
-
 returns-2 : tie.Need-returns-2
 returns-2 c = c .form-number .ensures ∙ sym (short-number (c .before .before .before .args .input .now) (omega arith))
 
 pub refusal-spec : {M : Type 1} → statement M
-refusal-spec = tie.close (tie.spec returns form-number-requires cast-result returns-2)
+refusal-spec = tie.close (tie.spec returns (λ c κs. search needs) (λ c. search needs) returns-2)

@@ -10,14 +10,8 @@ use Rattle.pages.specs.Pages.{countsPage, number-small, refused-page, co
 use Rattle.pages.proofs.tally.Statement.{statement}
 use Rattle.pages.proofs.tally.Tie as tie
 
-refusal-requires : tie.Need-refusal-requires
-refusal-requires c κs = search needs
-
 small : (c : tie.After-refusal) → c .refusal .result ≤ 2
 small c = omega (arith, number-small (c .before .before .args .input .now), c .refusal .ensures)
-
-slice-aggregate-put-line : tie.Need-slice-aggregate-put-line
-slice-aggregate-put-line c = search needs
 
 put-line-requires : tie.Need-put-line-requires
 put-line-requires c κs = rw (c .before .put-line-arg .given .0 .1, zero-add) (refused-fits _ (omega (arith, small (c .before .before .before))))
@@ -57,13 +51,5 @@ returns-2 c =
 
 pub tally-spec : {M : Type 1} → statement M
 tally-spec =
-    tie.close
-    (tie.spec
-    refusal-requires
-    slice-aggregate-put-line
-    put-line-requires
-    returns
-    blocks-requires
-    count-entries-requires
-    put-counts-requires
-    returns-2)
+    tie.close (tie.spec (λ c κs. search needs) (λ c. search needs) put-line-requires returns blocks-requires
+    count-entries-requires put-counts-requires returns-2)

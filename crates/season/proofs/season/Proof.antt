@@ -10,37 +10,7 @@ Inv-loop book₀ pool₀ sent₀ counts₀ seed₀ day₀ book pool sent counts 
 abbrev μ-loop : tie.MeasureT-loop
 μ-loop book₀ pool₀ sent₀ counts₀ seed₀ day₀ book pool sent counts seed day = 127 - day
 
-loop-holds : tie.Need-loop-holds Inv-loop μ-loop
-loop-holds c = omega arith
-
-day-of-requires : tie.Need-day-of-requires Inv-loop μ-loop
-day-of-requires c κs = tt
-
-add-day : tie.Need-add-day Inv-loop μ-loop
-add-day c = omega arith
-
-loop-less : tie.Need-loop-less Inv-loop μ-loop
-loop-less c = omega arith
-
-loop-again : tie.Need-loop-again Inv-loop μ-loop
-loop-again c = omega arith
-
-page-requires : tie.Need-page-requires Inv-loop μ-loop
-page-requires c κs = tt
-
-returns : tie.Need-returns Inv-loop μ-loop
-returns c = tt
-
 pub season-spec : {M : Type 1} → statement M
 season-spec =
-    tie.close
-    (tie.spec
-    Inv-loop
-    μ-loop
-    loop-holds
-    day-of-requires
-    add-day
-    loop-less
-    loop-again
-    page-requires
-    returns)
+    tie.close (tie.spec Inv-loop μ-loop (λ c. omega arith) (λ c κs. tt) (λ c. omega arith) (λ c. omega arith)
+    (λ c. omega arith) (λ c κs. tt) (λ c. tt))

@@ -20,25 +20,10 @@ loop-holds : tie.Need-loop-holds Inv-loop μ-loop
 loop-holds c = (omega arith, refl, refl)
 
 -- src/lib.rt:162:21
-shared-slice-read-b : tie.Need-shared-slice-read-b Inv-loop μ-loop
-shared-slice-read-b c = omega arith
-
 -- src/lib.rt:162:11
-add-b : tie.Need-add-b Inv-loop μ-loop
-add-b c = omega arith
-
 -- src/lib.rt:162:9
-slice-write-b : tie.Need-slice-write-b Inv-loop μ-loop
-slice-write-b c = omega arith
-
 -- src/lib.rt:163:9
-add-i : tie.Need-add-i Inv-loop μ-loop
-add-i c = omega arith
-
 -- src/lib.rt:161:5
-loop-less : tie.Need-loop-less Inv-loop μ-loop
-loop-less c = omega arith
-
 -- src/lib.rt:161:5
 loop-again : tie.Need-loop-again Inv-loop μ-loop
 loop-again c = let l = c .before .before .loop in let a = c .before .before .before .args in (omega arith, ap (λ (x : List ℕ). set x (a .at + l .i) (getD (now (a .src)) (l .i) 0)) (l .inv .1) ∙ sets-more (now (a .src)) (now (a .b)) (a .at) (l .i) (c .before .loop-test .taken), simp length-set (l .inv .2))
@@ -53,16 +38,5 @@ returns c = let a = c .before .before .args in let l = c .before .loop in let e 
 
 pub put-bytes-spec : {M : Type 1} → statement M
 put-bytes-spec =
-    tie.close
-    (tie.spec
-    Inv-loop
-    μ-loop
-    loop-holds
-    shared-slice-read-b
-    add-b
-    slice-write-b
-    add-i
-    loop-less
-    loop-again
-    same-length
-    returns)
+    tie.close (tie.spec Inv-loop μ-loop loop-holds (λ c. omega arith) (λ c. omega arith) (λ c. omega arith)
+    (λ c. omega arith) (λ c. omega arith) loop-again same-length returns)

@@ -28,17 +28,11 @@ long c =
     let n = c .before .count-marks .ensures in
     omega (arith, c .list-len .ensures, n .runs, n .changes, length-list (a .prints .now) (a .image .now) (a .marks .now) (f .prints) (f .image))
 
-input-ok-requires : tie.Need-input-ok-requires
-input-ok-requires c κs = search needs
-
 returns : tie.Need-returns
 returns c = wrote-none _ _ _ _ _ _ (failed (c .before .input-ok .ensures) (c .if1 .taken))
 
 count-marks-requires : tie.Need-count-marks-requires
 count-marks-requires c κs = fit c .most
-
-list-len-requires : tie.Need-list-len-requires
-list-len-requires c κs = search needs
 
 returns-2 : tie.Need-returns-2
 returns-2 c =
@@ -56,12 +50,6 @@ put-list-requires c κs =
       size = omega (arith, c .before .if2 .left, long k);
     }
 
-cast-written : tie.Need-cast-written
-cast-written c = search needs
-
-same-length : tie.Need-same-length
-same-length c = search needs
-
 returns-3 : tie.Need-returns-3
 returns-3 c =
     let k = c .before .before .before .before in
@@ -70,14 +58,5 @@ returns-3 c =
 
 pub aspen-write-list-spec : {M : Type 1} → statement M
 aspen-write-list-spec =
-    tie.close
-    (tie.spec
-    input-ok-requires
-    returns
-    count-marks-requires
-    list-len-requires
-    returns-2
-    put-list-requires
-    cast-written
-    same-length
-    returns-3)
+    tie.close (tie.spec (λ c κs. search needs) returns count-marks-requires (λ c κs. search needs) returns-2
+    put-list-requires (λ c. search needs) (λ c. search needs) returns-3)

@@ -4,20 +4,11 @@ use Rattle.writer.proofs.Marks.{counted-marked, counted-none, counted-r
 use Rattle.writer.proofs.count_mark.Statement.{statement}
 use Rattle.writer.proofs.count_mark.Tie as tie
 
-row-after-requires : tie.Need-row-after-requires
-row-after-requires c κs = search needs
-
-add-t5 : tie.Need-add-t5
-add-t5 c = search needs
-
 returns : tie.Need-returns
 returns c = counted-marked _ _ _ (c .before .before .before .row-after .ensures) (c .before .if1 .taken)
 
 returns-2 : tie.Need-returns-2
 returns-2 c = counted-none _ _ _ (c .before .before .before .before .row-after .ensures) (c .before .before .if1 .left) (c .if2 .taken)
-
-add-t6 : tie.Need-add-t6
-add-t6 c = search needs
 
 returns-3 : tie.Need-returns-3
 returns-3 c =
@@ -25,4 +16,5 @@ returns-3 c =
     counted-run _ _ _ (k .before .before .row-after .ensures) (k .if1 .left) (c .before .if2 .left)
 
 pub count-mark-spec : {M : Type 1} → statement M
-count-mark-spec = tie.close (tie.spec row-after-requires add-t5 returns returns-2 add-t6 returns-3)
+count-mark-spec =
+    tie.close (tie.spec (λ c κs. search needs) (λ c. search needs) returns returns-2 (λ c. search needs) returns-3)

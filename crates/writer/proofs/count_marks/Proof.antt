@@ -18,17 +18,8 @@ loop-holds : tie.Need-loop-holds Inv-loop μ-loop
 loop-holds c =
     (record { marked = zero-add _; ended = zero-add _; few-runs = omega arith; few-changes = omega arith }, omega arith)
 
-shared-slice-read-count-mark : tie.Need-shared-slice-read-count-mark Inv-loop μ-loop
-shared-slice-read-count-mark c = search needs
-
 count-mark-requires : tie.Need-count-mark-requires Inv-loop μ-loop
 count-mark-requires c κs = (omega arith, omega arith, omega arith)
-
-add-passed : tie.Need-add-passed Inv-loop μ-loop
-add-passed c = search needs
-
-loop-less : tie.Need-loop-less Inv-loop μ-loop
-loop-less c = search needs
 
 loop-again : tie.Need-loop-again Inv-loop μ-loop
 loop-again c =
@@ -45,15 +36,5 @@ returns c =
 
 pub count-marks-spec : {M : Type 1} → statement M
 count-marks-spec =
-    tie.close
-    (tie.spec
-    Inv-loop
-    μ-loop
-    loop-holds
-    shared-slice-read-count-mark
-    count-mark-requires
-    add-passed
-    loop-less
-    loop-again
-    count-mark-requires-2
-    returns)
+    tie.close (tie.spec Inv-loop μ-loop loop-holds (λ c. search needs) count-mark-requires (λ c. search needs)
+    (λ c. search needs) loop-again count-mark-requires-2 returns)

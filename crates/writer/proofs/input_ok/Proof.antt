@@ -17,17 +17,11 @@ returns-3 : tie.Need-returns-3
 unfolding inputOk
 returns-3 c = rw (le-leb 1 _ (c .before .before .if1 .left), le-leb _ 1024 (c .before .if2 .left), ne-eqb _ _ (c .if3 .taken))
 
-mul-if4 : tie.Need-mul-if4
-mul-if4 c = search needs
-
 returns-4 : tie.Need-returns-4
 unfolding inputOk
 returns-4 c =
     let e = c .before in
     rw (le-leb 1 _ (e .before .before .if1 .left), le-leb _ 1024 (e .before .if2 .left), eq-eqb _ _ (e .if3 .left), ne-eqb _ _ (c .if4 .taken))
-
-mul-if5 : tie.Need-mul-if5
-mul-if5 c = search needs
 
 returns-5 : tie.Need-returns-5
 unfolding inputOk
@@ -40,9 +34,6 @@ returns-5 c =
       eq-eqb _ _ (c .before .if4 .left),
       ne-eqb _ _ (c .if5 .taken),
     )
-
-marks-ok-requires : tie.Need-marks-ok-requires
-marks-ok-requires c κs = search needs
 
 returns-6 : tie.Need-returns-6
 unfolding inputOk
@@ -59,14 +50,5 @@ returns-6 c =
 
 pub input-ok-spec : {M : Type 1} → statement M
 input-ok-spec =
-    tie.close
-    (tie.spec
-    returns
-    returns-2
-    returns-3
-    mul-if4
-    returns-4
-    mul-if5
-    returns-5
-    marks-ok-requires
-    returns-6)
+    tie.close (tie.spec returns returns-2 returns-3 (λ c. search needs) returns-4 (λ c. search needs) returns-5
+    (λ c κs. search needs) returns-6)

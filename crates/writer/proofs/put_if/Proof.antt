@@ -12,12 +12,6 @@ returns c = rw (other-bytes _ _ (c .if1 .taken)) (record { list = refl; place = 
 put-bytes-requires : tie.Need-put-bytes-requires
 put-bytes-requires c κs = rw (marked-bytes _ _ (c .before .if1 .left)) at (c .before .before .before .before .pre)
 
-add-result : tie.Need-add-result
-add-result c = search needs
-
-same-length : tie.Need-same-length
-same-length c = search needs
-
 returns-2 : tie.Need-returns-2
 returns-2 c =
     let a = c .before .before .before .before .before .before .before .args in
@@ -25,4 +19,4 @@ returns-2 c =
     (record { list = c .before .before .put-bytes .ensures; place = refl })
 
 pub put-if-spec : {M : Type 1} → statement M
-put-if-spec = tie.close (tie.spec returns put-bytes-requires add-result same-length returns-2)
+put-if-spec = tie.close (tie.spec returns put-bytes-requires (λ c. search needs) (λ c. search needs) returns-2)

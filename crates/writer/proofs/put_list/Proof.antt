@@ -46,19 +46,10 @@ put-marked-requires-2 c κs =
     let k = c .before .before .before in
     (entry3 k .pre .image, prints k .room)
 
-same-length : tie.Need-same-length
-same-length c = search needs
-
 returns : tie.Need-returns
 returns c = left-last (prints (c .before .before .before .before .before .before)) (c .before .before .put-marked2 .ensures) .list
 
 pub put-list-spec : {M : Type 1} → statement M
 put-list-spec =
-    tie.close
-    (tie.spec
-    put-u16-requires
-    put-runs-requires
-    put-marked-requires
-    put-marked-requires-2
-    same-length
+    tie.close (tie.spec put-u16-requires put-runs-requires put-marked-requires put-marked-requires-2 (λ c. search needs)
     returns)

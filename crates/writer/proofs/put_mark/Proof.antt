@@ -24,9 +24,6 @@ room c =
     let a = entry k .args in
     pair-room (a .list .now) (a .p .at) (a .lbn) (a .p .row) (a .mark) (unmarked k) (c .if2 .left) (entry k .pre .2)
 
-row-after-requires : tie.Need-row-after-requires
-row-after-requires c κs = search needs
-
 returns : tie.Need-returns
 returns c =
     let a = c .before .before .before .before .args in
@@ -41,23 +38,11 @@ returns-2 c =
     let n = ended-none (a .lbn) (a .p .row) (a .mark) (unmarked k) (c .if2 .taken) in
     record { pair = pair-none _ _ _ _ _ n; row = omega (arith, c .if2 .taken, k .if1 .left, k .before .before .row-after .ensures) }
 
-sub-put-u16 : tie.Need-sub-put-u16
-sub-put-u16 c = search needs
-
 put-u16-requires : tie.Need-put-u16-requires
 put-u16-requires c κs = omega (arith, room (c .before .before))
 
-add-put-u16 : tie.Need-add-put-u16
-add-put-u16 c = search needs
-
 put-u16-requires-2 : tie.Need-put-u16-requires-2
 put-u16-requires-2 c κs = omega (arith, room (c .before .before .before .before .before .before), c .before .before .before .put-u16 .kept .0)
-
-add-t14 : tie.Need-add-t14
-add-t14 c = search needs
-
-same-length : tie.Need-same-length
-same-length c = search needs
 
 returns-3 : tie.Need-returns-3
 returns-3 c =
@@ -74,15 +59,5 @@ returns-3 c =
 
 pub put-mark-spec : {M : Type 1} → statement M
 put-mark-spec =
-    tie.close
-    (tie.spec
-    row-after-requires
-    returns
-    returns-2
-    sub-put-u16
-    put-u16-requires
-    add-put-u16
-    put-u16-requires-2
-    add-t14
-    same-length
-    returns-3)
+    tie.close (tie.spec (λ c κs. search needs) returns returns-2 (λ c. search needs) put-u16-requires
+    (λ c. search needs) put-u16-requires-2 (λ c. search needs) (λ c. search needs) returns-3)

@@ -34,12 +34,6 @@ end c =
 add-to : tie.Need-add-to Inv-loop μ-loop
 add-to c = omega (arith, end c)
 
-shared-slice-read-put-if : tie.Need-shared-slice-read-put-if Inv-loop μ-loop
-shared-slice-read-put-if c = search needs
-
-sub-put-if : tie.Need-sub-put-if Inv-loop μ-loop
-sub-put-if c = search needs
-
 part-put-if-start : tie.Need-part-put-if-start Inv-loop μ-loop
 part-put-if-start c = omega (arith, end (c .before .before))
 
@@ -50,12 +44,6 @@ put-if-requires : tie.Need-put-if-requires Inv-loop μ-loop
 put-if-requires c κs =
     let l = c .before .before .before .before .loop in
     part-room _ _ _ (l .next) (l .from) (l .i) (l .inv .1) (l .inv .2) (c .before .before .before .loop-test .taken)
-
-add-i : tie.Need-add-i Inv-loop μ-loop
-add-i c = search needs
-
-loop-less : tie.Need-loop-less Inv-loop μ-loop
-loop-less c = search needs
 
 loop-again : tie.Need-loop-again Inv-loop μ-loop
 loop-again c =
@@ -78,19 +66,5 @@ same-length c = ap length (returns c .list) ∙ simp length-sets
 
 pub put-marked-spec : {M : Type 1} → statement M
 put-marked-spec =
-    tie.close
-    (tie.spec
-    Inv-loop
-    μ-loop
-    loop-holds
-    add-to
-    shared-slice-read-put-if
-    sub-put-if
-    part-put-if-start
-    part-put-if-end
-    put-if-requires
-    add-i
-    loop-less
-    loop-again
-    same-length
-    returns)
+    tie.close (tie.spec Inv-loop μ-loop loop-holds add-to (λ c. search needs) (λ c. search needs) part-put-if-start
+    part-put-if-end put-if-requires (λ c. search needs) (λ c. search needs) loop-again same-length returns)

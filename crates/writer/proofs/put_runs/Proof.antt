@@ -21,22 +21,10 @@ abbrev μ-loop : tie.MeasureT-loop
 loop-holds : tie.Need-loop-holds Inv-loop μ-loop
 loop-holds c = (omega arith, omega arith, left-all (c .before .before .pre .1))
 
-cast-put-mark : tie.Need-cast-put-mark Inv-loop μ-loop
-cast-put-mark c = omega arith
-
-shared-slice-read-put-mark : tie.Need-shared-slice-read-put-mark Inv-loop μ-loop
-shared-slice-read-put-mark c = search needs
-
 put-mark-requires : tie.Need-put-mark-requires Inv-loop μ-loop
 put-mark-requires c κs =
     let l = c .before .before .before .loop in
     (omega arith, omega arith, next-room _ (l .p) (l .lbn) (l .inv .2) (c .before .before .loop-test .taken))
-
-add-lbn : tie.Need-add-lbn Inv-loop μ-loop
-add-lbn c = search needs
-
-loop-less : tie.Need-loop-less Inv-loop μ-loop
-loop-less c = search needs
 
 loop-again : tie.Need-loop-again Inv-loop μ-loop
 loop-again c =
@@ -46,9 +34,6 @@ loop-again c =
       row-room (k .put-mark .ensures) (l .inv .1),
       next-stored _ (l .p) (l .lbn) (l .inv .2) (k .before .before .before .loop-test .taken) (k .put-mark .ensures),
     )
-
-cast-put-mark-2 : tie.Need-cast-put-mark-2 Inv-loop μ-loop
-cast-put-mark-2 c = omega arith
 
 put-mark-requires-2 : tie.Need-put-mark-requires-2 Inv-loop μ-loop
 put-mark-requires-2 c κs =
@@ -66,18 +51,5 @@ same-length c = ap length (returns c .list) ∙ simp length-sets
 
 pub put-runs-spec : {M : Type 1} → statement M
 put-runs-spec =
-    tie.close
-    (tie.spec
-    Inv-loop
-    μ-loop
-    loop-holds
-    cast-put-mark
-    shared-slice-read-put-mark
-    put-mark-requires
-    add-lbn
-    loop-less
-    loop-again
-    cast-put-mark-2
-    put-mark-requires-2
-    same-length
-    returns)
+    tie.close (tie.spec Inv-loop μ-loop loop-holds (λ c. omega arith) (λ c. search needs) put-mark-requires
+    (λ c. search needs) (λ c. search needs) loop-again (λ c. omega arith) put-mark-requires-2 same-length returns)

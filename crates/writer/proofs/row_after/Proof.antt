@@ -5,9 +5,6 @@ use Rattle.writer.proofs.Marks.{row-marked, row-other}
 use Rattle.writer.proofs.row_after.Statement.{statement}
 use Rattle.writer.proofs.row_after.Tie as tie
 
-add-result : tie.Need-add-result
-add-result c = search needs
-
 returns : tie.Need-returns
 returns c = sym (row-marked _ _ (c .if1 .taken))
 
@@ -15,4 +12,4 @@ returns-2 : tie.Need-returns-2
 returns-2 c = sym (row-other _ _ (c .if1 .left))
 
 pub row-after-spec : {M : Type 1} → statement M
-row-after-spec = tie.close (tie.spec add-result returns returns-2)
+row-after-spec = tie.close (tie.spec (λ c. search needs) returns returns-2)

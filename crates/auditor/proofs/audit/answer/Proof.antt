@@ -11,9 +11,6 @@ use Rattle.auditor.proofs.audit.answer.Tie as tie
 in-form : (c : tie.Else1) → formNumber (now (c .before .before .before .args .book)) ≡ 0
 in-form c = sym (c .before .form-number .ensures) ∙ c .if1 .left
 
-form-number-requires : tie.Need-form-number-requires
-form-number-requires c κs = search needs
-
 returns : tie.Need-returns
 returns c = audit-refused _ _ (c .before .form-number .ensures) (c .if1 .taken)
 
@@ -27,4 +24,4 @@ returns-3 : tie.Need-returns-3
 returns-3 c = audit-no _ _ (in-form (c .before .before)) (sym (c .before .is-sound .ensures) ∙ c .if2 .left)
 
 pub answer-spec : {M : Type 1} → statement M
-answer-spec = tie.close (tie.spec form-number-requires returns is-sound-requires returns-2 returns-3)
+answer-spec = tie.close (tie.spec (λ c κs. search needs) returns is-sound-requires returns-2 returns-3)

@@ -8,22 +8,13 @@ use Rattle.auditor.proofs.audit.is_sound.Tie as tie
 abbrev start : tie.Else1 → tie.Start
 start c = c .before .before .before .before .before
 
-take-journal-requires : tie.Need-take-journal-requires
-take-journal-requires c κs = search needs
-
 returns : tie.Need-returns
 returns c = journal-no (c .before .before .before .before .before .pre) (c .before .take-journal .ensures) (not-true _ (c .if1 .taken))
-
-maps-match-requires : tie.Need-maps-match-requires
-maps-match-requires c κs = search needs
 
 returns-2 : tie.Need-returns-2
 returns-2 c =
     let j = c .before .before .before .before in
     maps-no (start j .pre) (j .before .take-journal .ensures) (not-false _ (j .if1 .left)) (c .before .maps-match .ensures) (not-true _ (c .if2 .taken))
-
-entries-match-requires : tie.Need-entries-match-requires
-entries-match-requires c κs = search needs
 
 returns-3 : tie.Need-returns-3
 returns-3 c =
@@ -31,9 +22,6 @@ returns-3 c =
     let j = m .before .before .before .before in
     entries-no (start j .pre) (j .before .take-journal .ensures) (not-false _ (j .if1 .left)) (m .before .maps-match .ensures) (not-false _ (m .if2 .left))
     (c .before .entries-match .ensures) (not-true _ (c .if3 .taken))
-
-prints-sound-requires : tie.Need-prints-sound-requires
-prints-sound-requires c κs = search needs
 
 returns-4 : tie.Need-returns-4
 returns-4 c =
@@ -45,13 +33,5 @@ returns-4 c =
 
 pub is-sound-spec : {M : Type 1} → statement M
 is-sound-spec =
-    tie.close
-    (tie.spec
-    take-journal-requires
-    returns
-    maps-match-requires
-    returns-2
-    entries-match-requires
-    returns-3
-    prints-sound-requires
-    returns-4)
+    tie.close (tie.spec (λ c κs. search needs) returns (λ c κs. search needs) returns-2 (λ c κs. search needs) returns-3
+    (λ c κs. search needs) returns-4)

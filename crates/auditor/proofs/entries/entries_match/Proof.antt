@@ -24,12 +24,6 @@ loop-holds c = (omega arith, entries-none _ _ _)
 entry-matches-requires : tie.Need-entry-matches-requires Inv-loop μ-loop
 entry-matches-requires c κs = (c .before .before .before .before .pre, omega arith)
 
-add-p : tie.Need-add-p Inv-loop μ-loop
-add-p c = search needs
-
-loop-less : tie.Need-loop-less Inv-loop μ-loop
-loop-less c = search needs
-
 loop-again : tie.Need-loop-again Inv-loop μ-loop
 loop-again c =
     let l = c .before .before .loop in
@@ -42,14 +36,5 @@ returns c =
 
 pub entries-match-spec : {M : Type 1} → statement M
 entries-match-spec =
-    tie.close
-    (tie.spec
-    Inv-loop
-    μ-loop
-    blocks-requires
-    loop-holds
-    entry-matches-requires
-    add-p
-    loop-less
-    loop-again
-    returns)
+    tie.close (tie.spec Inv-loop μ-loop blocks-requires loop-holds entry-matches-requires (λ c. search needs)
+    (λ c. search needs) loop-again returns)

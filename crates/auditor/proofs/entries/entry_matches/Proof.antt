@@ -5,26 +5,14 @@ use native.Mathlib.Omega.{arith}
 use Rattle.auditor.proofs.entries.entry_matches.Statement.{statement}
 use Rattle.auditor.proofs.entries.entry_matches.Tie as tie
 
-cast-at : tie.Need-cast-at
-cast-at c = search needs
-
 count-requires : tie.Need-count-requires
 count-requires c κs = (c .before .before .pre .0 .holds, c .before .before .pre .1)
-
-wide-requires : tie.Need-wide-requires
-wide-requires c κs = search needs
-
-mul-result : tie.Need-mul-result
-mul-result c = search needs
 
 element-copy-out-result : tie.Need-element-copy-out-result
 element-copy-out-result c = let s = c .before .before .before .before in omega (arith, s .pre .0 .holds .n, s .pre .1)
 
 expiry-requires : tie.Need-expiry-requires
 expiry-requires c κs = let s = c .before .before .before .before .before in (s .pre .0 .holds, s .pre .1)
-
-mul-result-2 : tie.Need-mul-result-2
-mul-result-2 c = search needs
 
 element-copy-out-result-2 : tie.Need-element-copy-out-result-2
 element-copy-out-result-2 c = let s = c .before .before .before .before .before .before in omega (arith, s .pre .0 .holds .n, s .pre .1)
@@ -35,14 +23,5 @@ returns c = rw (c .before .before .before .wide .ensures .0, c .before .before .
 
 pub entry-matches-spec : {M : Type 1} → statement M
 entry-matches-spec =
-    tie.close
-    (tie.spec
-    cast-at
-    count-requires
-    wide-requires
-    mul-result
-    element-copy-out-result
-    expiry-requires
-    mul-result-2
-    element-copy-out-result-2
-    returns)
+    tie.close (tie.spec (λ c. search needs) count-requires (λ c κs. search needs) (λ c. search needs)
+    element-copy-out-result expiry-requires (λ c. search needs) element-copy-out-result-2 returns)

@@ -22,12 +22,6 @@ take-row-requires c κs =
     let w = c .before .before .loop .inv .1 in
     (s .pre, (omega arith, taking-long w, w .few))
 
-add-v : tie.Need-add-v Inv-loop μ-loop
-add-v c = search needs
-
-loop-less : tie.Need-loop-less Inv-loop μ-loop
-loop-less c = search needs
-
 loop-again : tie.Need-loop-again Inv-loop μ-loop
 loop-again c =
     let s = c .before .before .before .before .before .before in
@@ -40,13 +34,5 @@ returns c =
 
 pub maps-match-spec : {M : Type 1} → statement M
 maps-match-spec =
-    tie.close
-    (tie.spec
-    Inv-loop
-    μ-loop
-    loop-holds
-    take-row-requires
-    add-v
-    loop-less
-    loop-again
+    tie.close (tie.spec Inv-loop μ-loop loop-holds take-row-requires (λ c. search needs) (λ c. search needs) loop-again
     returns)

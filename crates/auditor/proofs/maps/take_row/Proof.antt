@@ -21,9 +21,6 @@ Inv-loop book cells counts₀ v row wide good₀ l₀ counts good l =
 abbrev μ-loop : tie.MeasureT-loop
 μ-loop book cells counts₀ v row wide good₀ l₀ counts good l = wide - l
 
-mul-row : tie.Need-mul-row Inv-loop μ-loop
-mul-row c = search needs
-
 cells-requires : tie.Need-cells-requires Inv-loop μ-loop
 cells-requires c κs = c .before .pre .0 .holds
 
@@ -34,18 +31,6 @@ loop-holds c = (omega arith, matching-none _ _, counted-none _)
 cell-requires : tie.Need-cell-requires Inv-loop μ-loop
 cell-requires c κs = let s = c .before .before .before .before in (s .pre .0 .holds, (s .pre .1 .0, omega arith))
 
-cast-good : tie.Need-cast-good Inv-loop μ-loop
-cast-good c = search needs
-
-add-good : tie.Need-add-good Inv-loop μ-loop
-add-good c = search needs
-
-mul-good : tie.Need-mul-good Inv-loop μ-loop
-mul-good c = search needs
-
-element-copy-out-good : tie.Need-element-copy-out-good Inv-loop μ-loop
-element-copy-out-good c = search needs
-
 count-one-requires : tie.Need-count-one-requires Inv-loop μ-loop
 count-one-requires c κs =
     let s = c .before .before .before .before .before .before .before .before in
@@ -53,12 +38,6 @@ count-one-requires c κs =
     let p = c .before .before .before .cell .result .0 in
     let m = getD (bookOf (s .args .book .now) .maps) (s .args .v) [] in
     (l .inv .2 .long ∙ s .pre .1 .1, λ h. omega (arith, counted-le (s .args .v * rowSize) p h (s .pre .1 .2 p h) (l .inv .2), length-take (l .l) m))
-
-add-l : tie.Need-add-l Inv-loop μ-loop
-add-l c = search needs
-
-loop-less : tie.Need-loop-less Inv-loop μ-loop
-loop-less c = search needs
 
 loop-again : tie.Need-loop-again Inv-loop μ-loop
 unfolding rowMatches
@@ -84,20 +63,6 @@ returns c =
 
 pub take-row-spec : {M : Type 1} → statement M
 take-row-spec =
-    tie.close
-    (tie.spec
-    Inv-loop
-    μ-loop
-    mul-row
-    cells-requires
-    loop-holds
-    cell-requires
-    cast-good
-    add-good
-    mul-good
-    element-copy-out-good
-    count-one-requires
-    add-l
-    loop-less
-    loop-again
-    returns)
+    tie.close (tie.spec Inv-loop μ-loop (λ c. search needs) cells-requires loop-holds cell-requires (λ c. search needs)
+    (λ c. search needs) (λ c. search needs) (λ c. search needs) count-one-requires (λ c. search needs)
+    (λ c. search needs) loop-again returns)

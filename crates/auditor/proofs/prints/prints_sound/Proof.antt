@@ -28,18 +28,12 @@ loop-holds c =
     let n = c .blocks2 .ensures in
     (omega (arith, n), rw n (c .before .clear .ensures), sym (differ-none _ (c .blocks2 .result) (omega (arith, n, s .pre .holds .sized .entries))))
 
-sub-p : tie.Need-sub-p Inv-loop μ-loop
-sub-p c = search needs
-
 link-apart-requires : tie.Need-link-apart-requires Inv-loop μ-loop
 link-apart-requires c κs =
     let l = c .before .before .before .loop in
     let s = c .before .before .before .before .before .before .before .before .before in
     let e : l .p - 1 + 1 ≡ l .p = omega arith in
     (s .pre .holds, (omega (arith, l .inv .0), rw e (l .inv .1)))
-
-loop-less : tie.Need-loop-less Inv-loop μ-loop
-loop-less c = search needs
 
 loop-again : tie.Need-loop-again Inv-loop μ-loop
 loop-again c =
@@ -57,15 +51,5 @@ returns c =
 
 pub prints-sound-spec : {M : Type 1} → statement M
 prints-sound-spec =
-    tie.close
-    (tie.spec
-    Inv-loop
-    μ-loop
-    clear-requires
-    blocks-requires
-    loop-holds
-    sub-p
-    link-apart-requires
-    loop-less
-    loop-again
-    returns)
+    tie.close (tie.spec Inv-loop μ-loop clear-requires blocks-requires loop-holds (λ c. search needs)
+    link-apart-requires (λ c. search needs) loop-again returns)

@@ -30,12 +30,6 @@ take-slot-requires c κs =
     let s = c .before .before .before .before .before .before .before in
     (s .pre .0, (omega arith, l .inv .1 .expiries .long ∙ s .pre .1, l .inv .1 .long, l .inv .1 .low))
 
-add-q : tie.Need-add-q Inv-loop μ-loop
-add-q c = search needs
-
-loop-less : tie.Need-loop-less Inv-loop μ-loop
-loop-less c = search needs
-
 loop-again : tie.Need-loop-again Inv-loop μ-loop
 loop-again c =
     let l = c .before .before .before .before .before .loop in
@@ -48,14 +42,5 @@ returns c =
 
 pub take-journal-spec : {M : Type 1} → statement M
 take-journal-spec =
-    tie.close
-    (tie.spec
-    Inv-loop
-    μ-loop
-    used-slots-requires
-    loop-holds
-    take-slot-requires
-    add-q
-    loop-less
-    loop-again
-    returns)
+    tie.close (tie.spec Inv-loop μ-loop used-slots-requires loop-holds take-slot-requires (λ c. search needs)
+    (λ c. search needs) loop-again returns)

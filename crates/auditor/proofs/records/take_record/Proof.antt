@@ -10,14 +10,8 @@ use Rattle.auditor.proofs.records.take_record.Tie as tie
 known : (c : tie.After-record-at) → ReadIn (bookOf (now (c .before .before .args .book))) (c .record-at .result)
 known c = let s = c .before .before in read-in (s .pre .0) (s .args .q) (s .pre .1 .2) (c .record-at .ensures)
 
-record-at-requires : tie.Need-record-at-requires
-record-at-requires c κs = search needs
-
 replace-requires : tie.Need-replace-requires
 replace-requires c κs = (c .before .before .before .pre .1 .0, known (c .before) .place)
-
-raise-requires : tie.Need-raise-requires
-raise-requires c κs = search needs
 
 meet-requires : tie.Need-meet-requires
 meet-requires c κs = known (c .before .before .before .before .before) .place
@@ -36,11 +30,5 @@ returns c =
 
 pub take-record-spec : {M : Type 1} → statement M
 take-record-spec =
-    tie.close
-    (tie.spec
-    record-at-requires
-    replace-requires
-    raise-requires
-    meet-requires
-    unmapped-or-held-requires
-    returns)
+    tie.close (tie.spec (λ c κs. search needs) replace-requires (λ c κs. search needs) meet-requires
+    unmapped-or-held-requires returns)

@@ -26,12 +26,6 @@ take-record-requires c κs =
     let s = c .before .before .before .before .before .before in
     (s .pre .0, (s .pre .1 .0, l .inv .1 .expiries .long ∙ s .pre .1 .1, omega arith))
 
-add-q : tie.Need-add-q Inv-loop μ-loop
-add-q c = search needs
-
-loop-less : tie.Need-loop-less Inv-loop μ-loop
-loop-less c = search needs
-
 loop-again : tie.Need-loop-again Inv-loop μ-loop
 loop-again c =
     let l = c .before .before .before .before .before .loop in
@@ -47,5 +41,5 @@ returns c =
 
 pub take-records-spec : {M : Type 1} → statement M
 take-records-spec =
-    tie.close
-    (tie.spec Inv-loop μ-loop loop-holds take-record-requires add-q loop-less loop-again returns)
+    tie.close (tie.spec Inv-loop μ-loop loop-holds take-record-requires (λ c. search needs) (λ c. search needs)
+    loop-again returns)

@@ -20,12 +20,6 @@ retention-requires c κs = (c .before .before .pre .0 .holds, known c .volume)
 add-until : tie.Need-add-until
 add-until c = omega (arith, known (c .before .before), c .before .retention .ensures)
 
-day-requires : tie.Need-day-requires
-day-requires c κs = search needs
-
-add-stamp : tie.Need-add-stamp
-add-stamp c = search needs
-
 add-end : tie.Need-add-end
 add-end c = omega (arith, known (c .before .before .before .before))
 
@@ -44,13 +38,5 @@ returns c =
 
 pub take-slot-spec : {M : Type 1} → statement M
 take-slot-spec =
-    tie.close
-    (tie.spec
-    slot-at-requires
-    retention-requires
-    add-until
-    day-requires
-    add-stamp
-    add-end
-    take-records-requires
-    returns)
+    tie.close (tie.spec slot-at-requires retention-requires add-until (λ c κs. search needs) (λ c. search needs) add-end
+    take-records-requires returns)

@@ -4,12 +4,6 @@ use borrow.Author.Needs.{needs}
 use Rattle.book.proofs.entry.count.Statement.{statement}
 use Rattle.book.proofs.entry.count.Tie as tie
 
-entry-place-requires : tie.Need-entry-place-requires
-entry-place-requires c κs = search needs
-
-shared-slice-read-result : tie.Need-shared-slice-read-result
-shared-slice-read-result c = search needs
-
 returns : tie.Need-returns
 returns c =
     let s = c .before .before .before in
@@ -17,4 +11,4 @@ returns c =
     count-at (s .args .book .now) (s .args .p .0) (at .result) (s .pre .1) (at .ensures)
 
 pub count-spec : {M : Type 1} → statement M
-count-spec = tie.close (tie.spec entry-place-requires shared-slice-read-result returns)
+count-spec = tie.close (tie.spec (λ c κs. search needs) (λ c. search needs) returns)

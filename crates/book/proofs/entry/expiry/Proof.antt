@@ -5,15 +5,6 @@ use borrow.Author.Needs.{needs}
 use Rattle.book.proofs.entry.expiry.Statement.{statement}
 use Rattle.book.proofs.entry.expiry.Tie as tie
 
-entry-place-requires : tie.Need-entry-place-requires
-entry-place-requires c κs = search needs
-
-add-u16-at : tie.Need-add-u16-at
-add-u16-at c = search needs
-
-u16-at-requires : tie.Need-u16-at-requires
-u16-at-requires c κs = search needs
-
 returns : tie.Need-returns
 returns c =
     let s = c .before .before .before in
@@ -21,4 +12,4 @@ returns c =
     c .u16-at .ensures ∙ expiry-at (s .args .book .now) (s .args .p .0) (at .result) (s .pre .1) (at .ensures)
 
 pub expiry-spec : {M : Type 1} → statement M
-expiry-spec = tie.close (tie.spec entry-place-requires add-u16-at u16-at-requires returns)
+expiry-spec = tie.close (tie.spec (λ c κs. search needs) (λ c. search needs) (λ c κs. search needs) returns)

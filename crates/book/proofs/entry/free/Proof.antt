@@ -8,18 +8,6 @@ use borrow.Author.Needs.{needs}
 use Rattle.book.proofs.entry.free.Statement.{statement}
 use Rattle.book.proofs.entry.free.Tie as tie
 
-entry-place-requires : tie.Need-entry-place-requires
-entry-place-requires c κs = search needs
-
-add-book : tie.Need-add-book
-add-book c = search needs
-
-slice-write-book : tie.Need-slice-write-book
-slice-write-book c = search needs
-
-add-fill : tie.Need-add-fill
-add-fill c = search needs
-
 fill-requires : tie.Need-fill-requires
 fill-requires c κs = simp length-set (omega arith)
 
@@ -34,12 +22,5 @@ returns c =
 
 pub free-spec : {M : Type 1} → statement M
 free-spec =
-    tie.close
-    (tie.spec
-    entry-place-requires
-    add-book
-    slice-write-book
-    add-fill
-    fill-requires
-    same-length
-    returns)
+    tie.close (tie.spec (λ c κs. search needs) (λ c. search needs) (λ c. search needs) (λ c. search needs) fill-requires
+    same-length returns)

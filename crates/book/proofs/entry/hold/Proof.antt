@@ -8,18 +8,6 @@ use borrow.Author.Needs.{needs}
 use Rattle.book.proofs.entry.hold.Statement.{statement}
 use Rattle.book.proofs.entry.hold.Tie as tie
 
-entry-place-requires : tie.Need-entry-place-requires
-entry-place-requires c κs = search needs
-
-add-book : tie.Need-add-book
-add-book c = search needs
-
-slice-write-book : tie.Need-slice-write-book
-slice-write-book c = search needs
-
-add-put-bytes : tie.Need-add-put-bytes
-add-put-bytes c = search needs
-
 put-bytes-requires : tie.Need-put-bytes-requires
 put-bytes-requires c κs = simp length-set (omega arith)
 
@@ -35,12 +23,5 @@ returns c =
 
 pub hold-spec : {M : Type 1} → statement M
 hold-spec =
-    tie.close
-    (tie.spec
-    entry-place-requires
-    add-book
-    slice-write-book
-    add-put-bytes
-    put-bytes-requires
-    same-length
-    returns)
+    tie.close (tie.spec (λ c κs. search needs) (λ c. search needs) (λ c. search needs) (λ c. search needs)
+    put-bytes-requires same-length returns)

@@ -4,15 +4,6 @@ use borrow.Author.Needs.{needs}
 use Rattle.book.proofs.entry.is_held.Statement.{statement}
 use Rattle.book.proofs.entry.is_held.Tie as tie
 
-entry-place-requires : tie.Need-entry-place-requires
-entry-place-requires c κs = search needs
-
-add-result : tie.Need-add-result
-add-result c = search needs
-
-shared-slice-read-result : tie.Need-shared-slice-read-result
-shared-slice-read-result c = search needs
-
 returns : tie.Need-returns
 returns c =
     let s = c .before .before .before in
@@ -20,5 +11,4 @@ returns c =
     held-at (s .args .book .now) (s .args .p .0) (at .result) (s .pre .1) (at .ensures)
 
 pub is-held-spec : {M : Type 1} → statement M
-is-held-spec =
-    tie.close (tie.spec entry-place-requires add-result shared-slice-read-result returns)
+is-held-spec = tie.close (tie.spec (λ c κs. search needs) (λ c. search needs) (λ c. search needs) returns)

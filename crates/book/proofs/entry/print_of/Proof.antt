@@ -9,24 +9,6 @@ use borrow.Author.Needs.{needs}
 use Rattle.book.proofs.entry.print_of.Statement.{statement}
 use Rattle.book.proofs.entry.print_of.Tie as tie
 
-entry-place-requires : tie.Need-entry-place-requires
-entry-place-requires c κs = search needs
-
-add-from : tie.Need-add-from
-add-from c = search needs
-
-add-end : tie.Need-add-end
-add-end c = search needs
-
-sub-result : tie.Need-sub-result
-sub-result c = search needs
-
-part-result-start : tie.Need-part-result-start
-part-result-start c = search needs
-
-part-result-end : tie.Need-part-result-end
-part-result-end c = search needs
-
 returns : tie.Need-returns
 returns c =
     let s = c .before .before .before in
@@ -37,12 +19,5 @@ returns c =
 
 pub print-of-spec : {M : Type 1} → statement M
 print-of-spec =
-    tie.close
-    (tie.spec
-    entry-place-requires
-    add-from
-    add-end
-    sub-result
-    part-result-start
-    part-result-end
-    returns)
+    tie.close (tie.spec (λ c κs. search needs) (λ c. search needs) (λ c. search needs) (λ c. search needs)
+    (λ c. search needs) (λ c. search needs) returns)

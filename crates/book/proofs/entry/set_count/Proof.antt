@@ -4,19 +4,10 @@ use borrow.Author.Needs.{needs}
 use Rattle.book.proofs.entry.set_count.Statement.{statement}
 use Rattle.book.proofs.entry.set_count.Tie as tie
 
-entry-place-requires : tie.Need-entry-place-requires
-entry-place-requires c κs = search needs
-
-slice-write-book : tie.Need-slice-write-book
-slice-write-book c = search needs
-
-same-length : tie.Need-same-length
-same-length c = search needs
-
 returns : tie.Need-returns
 returns c =
     let s = c .before .before in
     is-count (s .pre .0) (s .args .p .0) (c .entry-place .result) (s .pre .1) (c .entry-place .ensures) (s .args .c)
 
 pub set-count-spec : {M : Type 1} → statement M
-set-count-spec = tie.close (tie.spec entry-place-requires slice-write-book same-length returns)
+set-count-spec = tie.close (tie.spec (λ c κs. search needs) (λ c. search needs) (λ c. search needs) returns)

@@ -4,18 +4,6 @@ use borrow.Author.Needs.{needs}
 use Rattle.book.proofs.entry.set_expiry.Statement.{statement}
 use Rattle.book.proofs.entry.set_expiry.Tie as tie
 
-entry-place-requires : tie.Need-entry-place-requires
-entry-place-requires c κs = search needs
-
-add-put-u16 : tie.Need-add-put-u16
-add-put-u16 c = search needs
-
-put-u16-requires : tie.Need-put-u16-requires
-put-u16-requires c κs = search needs
-
-same-length : tie.Need-same-length
-same-length c = search needs
-
 returns : tie.Need-returns
 returns c =
     let s = c .before .before .before .before .before .before in
@@ -25,4 +13,4 @@ returns c =
 
 pub set-expiry-spec : {M : Type 1} → statement M
 set-expiry-spec =
-    tie.close (tie.spec entry-place-requires add-put-u16 put-u16-requires same-length returns)
+    tie.close (tie.spec (λ c κs. search needs) (λ c. search needs) (λ c κs. search needs) (λ c. search needs) returns)

@@ -4,21 +4,6 @@ use borrow.Author.Needs.{needs}
 use Rattle.book.proofs.fresh.blank.Statement.{statement}
 use Rattle.book.proofs.fresh.blank.Tie as tie
 
-fill-requires : tie.Need-fill-requires
-fill-requires c κs = search needs
-
-fill-requires-2 : tie.Need-fill-requires-2
-fill-requires-2 c κs = search needs
-
-add-fill : tie.Need-add-fill
-add-fill c = search needs
-
-fill-requires-3 : tie.Need-fill-requires-3
-fill-requires-3 c κs = search needs
-
-same-length : tie.Need-same-length
-same-length c = search needs
-
 returns : tie.Need-returns
 returns c =
     let s = c .before .before .before .before .before .before .before .before .before .before .before .before .before in
@@ -30,4 +15,5 @@ returns c =
 
 pub blank-spec : {M : Type 1} → statement M
 blank-spec =
-    tie.close (tie.spec fill-requires fill-requires-2 add-fill fill-requires-3 same-length returns)
+    tie.close (tie.spec (λ c κs. search needs) (λ c κs. search needs) (λ c. search needs) (λ c κs. search needs)
+    (λ c. search needs) returns)

@@ -5,11 +5,8 @@ use Rattle.book.specs.Read.{l-at}
 use Rattle.book.proofs.header.cells.Statement.{statement}
 use Rattle.book.proofs.header.cells.Tie as tie
 
-u16-at-requires : tie.Need-u16-at-requires
-u16-at-requires c κs = search needs
-
 returns : tie.Need-returns
 returns c = c .u16-at .ensures ∙ l-at (c .before .before .args .book .now)
 
 pub cells-spec : {M : Type 1} → statement M
-cells-spec = tie.close (tie.spec u16-at-requires returns)
+cells-spec = tie.close (tie.spec (λ c κs. search needs) returns)

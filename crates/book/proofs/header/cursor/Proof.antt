@@ -5,11 +5,8 @@ use Rattle.book.specs.Read.{cursor-at}
 use Rattle.book.proofs.header.cursor.Statement.{statement}
 use Rattle.book.proofs.header.cursor.Tie as tie
 
-u16-at-requires : tie.Need-u16-at-requires
-u16-at-requires c κs = search needs
-
 returns : tie.Need-returns
 returns c = c .u16-at .ensures ∙ cursor-at (c .before .before .args .book .now)
 
 pub cursor-spec : {M : Type 1} → statement M
-cursor-spec = tie.close (tie.spec u16-at-requires returns)
+cursor-spec = tie.close (tie.spec (λ c κs. search needs) returns)

@@ -5,11 +5,8 @@ use Rattle.book.specs.Read.{j-at}
 use Rattle.book.proofs.header.journal.Statement.{statement}
 use Rattle.book.proofs.header.journal.Tie as tie
 
-u16-at-requires : tie.Need-u16-at-requires
-u16-at-requires c κs = search needs
-
 returns : tie.Need-returns
 returns c = c .u16-at .ensures ∙ j-at (c .before .before .args .book .now)
 
 pub journal-spec : {M : Type 1} → statement M
-journal-spec = tie.close (tie.spec u16-at-requires returns)
+journal-spec = tie.close (tie.spec (λ c κs. search needs) returns)

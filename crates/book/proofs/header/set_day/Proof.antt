@@ -4,16 +4,10 @@ use borrow.Author.Needs.{needs}
 use Rattle.book.proofs.header.set_day.Statement.{statement}
 use Rattle.book.proofs.header.set_day.Tie as tie
 
-put-u16-requires : tie.Need-put-u16-requires
-put-u16-requires c κs = search needs
-
-same-length : tie.Need-same-length
-same-length c = search needs
-
 returns : tie.Need-returns
 returns c =
     let s = c .before .before .before .before .before in
     is-day (s .pre) (s .args .day) (c .before .before .put-u16 .ensures)
 
 pub set-day-spec : {M : Type 1} → statement M
-set-day-spec = tie.close (tie.spec put-u16-requires same-length returns)
+set-day-spec = tie.close (tie.spec (λ c κs. search needs) (λ c. search needs) returns)

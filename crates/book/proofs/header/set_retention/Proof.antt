@@ -4,18 +4,6 @@ use borrow.Author.Needs.{needs}
 use Rattle.book.proofs.header.set_retention.Statement.{statement}
 use Rattle.book.proofs.header.set_retention.Tie as tie
 
-mul-put-u16 : tie.Need-mul-put-u16
-mul-put-u16 c = search needs
-
-add-put-u16 : tie.Need-add-put-u16
-add-put-u16 c = search needs
-
-put-u16-requires : tie.Need-put-u16-requires
-put-u16-requires c κs = search needs
-
-same-length : tie.Need-same-length
-same-length c = search needs
-
 returns : tie.Need-returns
 returns c =
     let s = c .before .before .before .before .before in
@@ -23,4 +11,4 @@ returns c =
 
 pub set-retention-spec : {M : Type 1} → statement M
 set-retention-spec =
-    tie.close (tie.spec mul-put-u16 add-put-u16 put-u16-requires same-length returns)
+    tie.close (tie.spec (λ c. search needs) (λ c. search needs) (λ c κs. search needs) (λ c. search needs) returns)

@@ -5,11 +5,8 @@ use Rattle.book.specs.Read.{s-at}
 use Rattle.book.proofs.header.slots.Statement.{statement}
 use Rattle.book.proofs.header.slots.Tie as tie
 
-u16-at-requires : tie.Need-u16-at-requires
-u16-at-requires c κs = search needs
-
 returns : tie.Need-returns
 returns c = c .u16-at .ensures ∙ s-at (c .before .before .args .book .now)
 
 pub slots-spec : {M : Type 1} → statement M
-slots-spec = tie.close (tie.spec u16-at-requires returns)
+slots-spec = tie.close (tie.spec (λ c κs. search needs) returns)

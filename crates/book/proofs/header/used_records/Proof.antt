@@ -5,11 +5,8 @@ use Rattle.book.specs.Read.{u-at}
 use Rattle.book.proofs.header.used_records.Statement.{statement}
 use Rattle.book.proofs.header.used_records.Tie as tie
 
-u16-at-requires : tie.Need-u16-at-requires
-u16-at-requires c κs = search needs
-
 returns : tie.Need-returns
 returns c = c .u16-at .ensures ∙ u-at (c .before .before .args .book .now)
 
 pub used-records-spec : {M : Type 1} → statement M
-used-records-spec = tie.close (tie.spec u16-at-requires returns)
+used-records-spec = tie.close (tie.spec (λ c κs. search needs) returns)

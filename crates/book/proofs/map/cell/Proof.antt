@@ -5,12 +5,6 @@ use borrow.Author.Needs.{needs}
 use Rattle.book.proofs.map.cell.Statement.{statement}
 use Rattle.book.proofs.map.cell.Tie as tie
 
-cell-place-requires : tie.Need-cell-place-requires
-cell-place-requires c κs = search needs
-
-u16-at-requires : tie.Need-u16-at-requires
-u16-at-requires c κs = search needs
-
 returns : tie.Need-returns
 returns c =
     let s = c .before .before .before in
@@ -19,4 +13,4 @@ returns c =
     ∙ cell-at (s .args .book .now) (s .args .v) (s .args .lbn .0) (at .result) (s .pre .1 .0) (s .pre .1 .1) (at .ensures .0)
 
 pub cell-spec : {M : Type 1} → statement M
-cell-spec = tie.close (tie.spec cell-place-requires u16-at-requires returns)
+cell-spec = tie.close (tie.spec (λ c κs. search needs) (λ c κs. search needs) returns)

@@ -18,18 +18,6 @@ inside c =
     let s = c .before .before .before in
     omega (arith, row-room (s .args .v) (c .before .cells .result) (s .pre .1))
 
-cells-requires : tie.Need-cells-requires
-cells-requires c κs = search needs
-
-cast-size : tie.Need-cast-size
-cast-size c = search needs
-
-mul-size : tie.Need-mul-size
-mul-size c = search needs
-
-maps-from-requires : tie.Need-maps-from-requires
-maps-from-requires c κs = search needs
-
 mul-from : tie.Need-mul-from
 mul-from c = omega (arith, inside c)
 
@@ -38,12 +26,6 @@ add-from c = omega (arith, inside c)
 
 add-end : tie.Need-add-end
 add-end c = omega (arith, inside c)
-
-sub-result : tie.Need-sub-result
-sub-result c = search needs
-
-part-result-start : tie.Need-part-result-start
-part-result-start c = search needs
 
 part-result-end : tie.Need-part-result-end
 part-result-end c = omega (arith, inside c)
@@ -61,16 +43,5 @@ returns c =
 
 pub row-spec : {M : Type 1} → statement M
 row-spec =
-    tie.close
-    (tie.spec
-    cells-requires
-    cast-size
-    mul-size
-    maps-from-requires
-    mul-from
-    add-from
-    add-end
-    sub-result
-    part-result-start
-    part-result-end
-    returns)
+    tie.close (tie.spec (λ c κs. search needs) (λ c. search needs) (λ c. search needs) (λ c κs. search needs) mul-from
+    add-from add-end (λ c. search needs) (λ c. search needs) part-result-end returns)

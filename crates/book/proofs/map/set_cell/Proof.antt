@@ -4,15 +4,6 @@ use borrow.Author.Needs.{needs}
 use Rattle.book.proofs.map.set_cell.Statement.{statement}
 use Rattle.book.proofs.map.set_cell.Tie as tie
 
-cell-place-requires : tie.Need-cell-place-requires
-cell-place-requires c κs = search needs
-
-put-u16-requires : tie.Need-put-u16-requires
-put-u16-requires c κs = search needs
-
-same-length : tie.Need-same-length
-same-length c = search needs
-
 returns : tie.Need-returns
 returns c =
     let s = c .before .before .before .before .before .before .before in
@@ -21,4 +12,4 @@ returns c =
     (s .pre .1 .0) (s .pre .1 .1) (at .ensures .0) (c .before .before .put-u16 .ensures)
 
 pub set-cell-spec : {M : Type 1} → statement M
-set-cell-spec = tie.close (tie.spec cell-place-requires put-u16-requires same-length returns)
+set-cell-spec = tie.close (tie.spec (λ c κs. search needs) (λ c κs. search needs) (λ c. search needs) returns)

@@ -5,28 +5,10 @@ use borrow.Author.Needs.{needs}
 use Rattle.book.proofs.place.cell_place.Statement.{statement}
 use Rattle.book.proofs.place.cell_place.Tie as tie
 
-maps-from-requires : tie.Need-maps-from-requires
-maps-from-requires c κs = search needs
-
-cells-requires : tie.Need-cells-requires
-cells-requires c κs = search needs
-
-cast-l : tie.Need-cast-l
-cast-l c = search needs
-
-mul-result : tie.Need-mul-result
-mul-result c = search needs
-
 mul-result-2 : tie.Need-mul-result-2
 mul-result-2 c =
     let s = c .before .before .before in
     omega (arith, cell-room (s .args .v) (s .args .lbn .0) (c .cells .result) (s .pre .1 .0) (omega arith))
-
-cast-result : tie.Need-cast-result
-cast-result c = search needs
-
-mul-result-3 : tie.Need-mul-result-3
-mul-result-3 c = search needs
 
 add-result : tie.Need-add-result
 add-result c =
@@ -47,15 +29,5 @@ returns c =
 
 pub cell-place-spec : {M : Type 1} → statement M
 cell-place-spec =
-    tie.close
-    (tie.spec
-    maps-from-requires
-    cells-requires
-    cast-l
-    mul-result
-    mul-result-2
-    cast-result
-    mul-result-3
-    add-result
-    add-result-2
-    returns)
+    tie.close (tie.spec (λ c κs. search needs) (λ c κs. search needs) (λ c. search needs) (λ c. search needs)
+    mul-result-2 (λ c. search needs) (λ c. search needs) add-result add-result-2 returns)

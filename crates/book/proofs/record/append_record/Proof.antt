@@ -8,24 +8,6 @@ use borrow.Author.Needs.{needs}
 use Rattle.book.proofs.record.append_record.Statement.{statement}
 use Rattle.book.proofs.record.append_record.Tie as tie
 
-used-records-requires : tie.Need-used-records-requires
-used-records-requires c κs = search needs
-
-record-place-requires : tie.Need-record-place-requires
-record-place-requires c κs = search needs
-
-put-three-requires : tie.Need-put-three-requires
-put-three-requires c κs = search needs
-
-add-put-u16 : tie.Need-add-put-u16
-add-put-u16 c = search needs
-
-put-u16-requires : tie.Need-put-u16-requires
-put-u16-requires c κs = search needs
-
-same-length : tie.Need-same-length
-same-length c = search needs
-
 returns : tie.Need-returns
 returns c =
     let s = c .before .before .before .before .before .before .before .before .before .before .before .before .before in
@@ -41,12 +23,5 @@ returns c =
 
 pub append-record-spec : {M : Type 1} → statement M
 append-record-spec =
-    tie.close
-    (tie.spec
-    used-records-requires
-    record-place-requires
-    put-three-requires
-    add-put-u16
-    put-u16-requires
-    same-length
-    returns)
+    tie.close (tie.spec (λ c κs. search needs) (λ c κs. search needs) (λ c κs. search needs) (λ c. search needs)
+    (λ c κs. search needs) (λ c. search needs) returns)

@@ -4,28 +4,11 @@ use Rattle.book.specs.Form.{sizesOk}
 use Rattle.book.proofs.sizes.sizes_ok.Statement.{statement}
 use Rattle.book.proofs.sizes.sizes_ok.Tie as tie
 
-in-range-requires : tie.Need-in-range-requires
-in-range-requires c κs = search needs
-
-in-range-requires-2 : tie.Need-in-range-requires-2
-in-range-requires-2 c κs = search needs
-
-in-range-requires-3 : tie.Need-in-range-requires-3
-in-range-requires-3 c κs = search needs
-
-in-range-requires-4 : tie.Need-in-range-requires-4
-in-range-requires-4 c κs = search needs
-
 returns : tie.Need-returns
 unfolding sizesOk
 returns c = rw (c .before .before .before .in-range .ensures, c .before .before .in-range2 .ensures, c .before .in-range3 .ensures, c .in-range4 .ensures)
 
 pub sizes-ok-spec : {M : Type 1} → statement M
 sizes-ok-spec =
-    tie.close
-    (tie.spec
-    in-range-requires
-    in-range-requires-2
-    in-range-requires-3
-    in-range-requires-4
+    tie.close (tie.spec (λ c κs. search needs) (λ c κs. search needs) (λ c κs. search needs) (λ c κs. search needs)
     returns)

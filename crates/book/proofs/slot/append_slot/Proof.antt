@@ -8,24 +8,6 @@ use borrow.Author.Needs.{needs}
 use Rattle.book.proofs.slot.append_slot.Statement.{statement}
 use Rattle.book.proofs.slot.append_slot.Tie as tie
 
-used-slots-requires : tie.Need-used-slots-requires
-used-slots-requires c κs = search needs
-
-slot-place-requires : tie.Need-slot-place-requires
-slot-place-requires c κs = search needs
-
-put-slot-requires : tie.Need-put-slot-requires
-put-slot-requires c κs = search needs
-
-add-put-u16 : tie.Need-add-put-u16
-add-put-u16 c = search needs
-
-put-u16-requires : tie.Need-put-u16-requires
-put-u16-requires c κs = search needs
-
-same-length : tie.Need-same-length
-same-length c = search needs
-
 returns : tie.Need-returns
 returns c =
     let s = c .before .before .before .before .before .before .before .before .before .before .before .before .before in
@@ -41,12 +23,5 @@ returns c =
 
 pub append-slot-spec : {M : Type 1} → statement M
 append-slot-spec =
-    tie.close
-    (tie.spec
-    used-slots-requires
-    slot-place-requires
-    put-slot-requires
-    add-put-u16
-    put-u16-requires
-    same-length
-    returns)
+    tie.close (tie.spec (λ c κs. search needs) (λ c κs. search needs) (λ c κs. search needs) (λ c. search needs)
+    (λ c κs. search needs) (λ c. search needs) returns)

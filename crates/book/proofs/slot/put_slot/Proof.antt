@@ -8,20 +8,8 @@ use borrow.Author.Needs.{needs}
 use Rattle.book.proofs.slot.put_slot.Statement.{statement}
 use Rattle.book.proofs.slot.put_slot.Tie as tie
 
-cast-b : tie.Need-cast-b
-cast-b c = search needs
-
-slice-write-b : tie.Need-slice-write-b
-slice-write-b c = search needs
-
-add-b : tie.Need-add-b
-add-b c = search needs
-
 slice-write-b-2 : tie.Need-slice-write-b-2
 slice-write-b-2 c = simp length-set (omega arith)
-
-add-put-three : tie.Need-add-put-three
-add-put-three c = search needs
 
 put-three-requires : tie.Need-put-three-requires
 put-three-requires c κs = simp length-set (omega arith)
@@ -34,13 +22,5 @@ returns c = c .before .before .put-three .ensures ∙ simp towards-suc
 
 pub put-slot-spec : {M : Type 1} → statement M
 put-slot-spec =
-    tie.close
-    (tie.spec
-    cast-b
-    slice-write-b
-    add-b
-    slice-write-b-2
-    add-put-three
-    put-three-requires
-    same-length
-    returns)
+    tie.close (tie.spec (λ c. search needs) (λ c. search needs) (λ c. search needs) slice-write-b-2 (λ c. search needs)
+    put-three-requires same-length returns)

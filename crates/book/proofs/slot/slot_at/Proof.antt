@@ -6,33 +6,6 @@ use borrow.Author.Needs.{needs}
 use Rattle.book.proofs.slot.slot_at.Statement.{statement}
 use Rattle.book.proofs.slot.slot_at.Tie as tie
 
-slot-place-requires : tie.Need-slot-place-requires
-slot-place-requires c κs = search needs
-
-shared-slice-read-wide : tie.Need-shared-slice-read-wide
-shared-slice-read-wide c = search needs
-
-wide-requires : tie.Need-wide-requires
-wide-requires c κs = search needs
-
-add-u16-at : tie.Need-add-u16-at
-add-u16-at c = search needs
-
-u16-at-requires : tie.Need-u16-at-requires
-u16-at-requires c κs = search needs
-
-add-u16-at-2 : tie.Need-add-u16-at-2
-add-u16-at-2 c = search needs
-
-u16-at-requires-2 : tie.Need-u16-at-requires-2
-u16-at-requires-2 c κs = search needs
-
-add-u16-at-3 : tie.Need-add-u16-at-3
-add-u16-at-3 c = search needs
-
-u16-at-requires-3 : tie.Need-u16-at-requires-3
-u16-at-requires-3 c κs = search needs
-
 returns : tie.Need-returns
 returns c =
     let s = c .before .before .before .before .before .before .before in
@@ -47,15 +20,6 @@ returns c =
 
 pub slot-at-spec : {M : Type 1} → statement M
 slot-at-spec =
-    tie.close
-    (tie.spec
-    slot-place-requires
-    shared-slice-read-wide
-    wide-requires
-    add-u16-at
-    u16-at-requires
-    add-u16-at-2
-    u16-at-requires-2
-    add-u16-at-3
-    u16-at-requires-3
+    tie.close (tie.spec (λ c κs. search needs) (λ c. search needs) (λ c κs. search needs) (λ c. search needs)
+    (λ c κs. search needs) (λ c. search needs) (λ c κs. search needs) (λ c. search needs) (λ c κs. search needs)
     returns)

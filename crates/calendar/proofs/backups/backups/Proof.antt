@@ -20,20 +20,11 @@ passed c = sym (c .before .enrolled-number .ensures) ∙ c .if1 .left
 formed-book : (c : tie.Else1) → Formed (now (c .before .before .before .before .args .book))
 formed-book c = formed _ (λ i. c .before .before .before .shared-slice-known .given i .fits) (passed-enrolled _ _ (passed c) .form)
 
-enrolled-number-requires : tie.Need-enrolled-number-requires
-enrolled-number-requires c κs = search needs
-
 returns : tie.Need-returns
 returns c = told-refused _ _ _ _ (c .before .enrolled-number .ensures) (c .if1 .taken)
 
 count-backups-requires : tie.Need-count-backups-requires
 count-backups-requires c κs = formed-book c .holds
-
-cast-if2 : tie.Need-cast-if2
-cast-if2 c = search needs
-
-mul-if2 : tie.Need-mul-if2
-mul-if2 c = search needs
 
 returns-2 : tie.Need-returns-2
 returns-2 c =
@@ -56,9 +47,6 @@ put-rows-requires c κs =
     let e = k .before .before in
     (formed-book e, (passed-enrolled _ _ (passed e) .inside, room k))
 
-same-length : tie.Need-same-length
-same-length c = search needs
-
 returns-3 : tie.Need-returns-3
 returns-3 c =
     let r = c .before .before in
@@ -68,14 +56,5 @@ returns-3 c =
 
 pub backups-spec : {M : Type 1} → statement M
 backups-spec =
-    tie.close
-    (tie.spec
-    enrolled-number-requires
-    returns
-    count-backups-requires
-    cast-if2
-    mul-if2
-    returns-2
-    put-rows-requires
-    same-length
-    returns-3)
+    tie.close (tie.spec (λ c κs. search needs) returns count-backups-requires (λ c. search needs) (λ c. search needs)
+    returns-2 put-rows-requires (λ c. search needs) returns-3)

@@ -9,14 +9,8 @@ use borrow.Author.Needs.{needs}
 use Rattle.calendar.proofs.backups.kept_until.Statement.{statement}
 use Rattle.calendar.proofs.backups.kept_until.Tie as tie
 
-used-slots-requires : tie.Need-used-slots-requires
-used-slots-requires c κs = search needs
-
 returns : tie.Need-returns
 returns c = sym (until-newest _ _ _ (omega arith))
-
-slot-at-requires : tie.Need-slot-at-requires
-slot-at-requires c κs = search needs
 
 add-result : tie.Need-add-result
 add-result c =
@@ -32,5 +26,4 @@ returns-2 c =
     rw (k .slot-at .ensures .day) (sym (until-replaced (bookOf (now (a .book))) (a .at) (a .days) (omega arith)))
 
 pub kept-until-spec : {M : Type 1} → statement M
-kept-until-spec =
-    tie.close (tie.spec used-slots-requires returns slot-at-requires add-result returns-2)
+kept-until-spec = tie.close (tie.spec (λ c κs. search needs) returns (λ c κs. search needs) add-result returns-2)

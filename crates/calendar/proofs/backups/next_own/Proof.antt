@@ -29,12 +29,6 @@ returns c =
     let l = k .before .before .loop in
     record { above = l .inv .0; later = l .inv .1; own = λ h. sym (k .slot-at .ensures .volume) ∙ c .if1 .taken }
 
-add-r : tie.Need-add-r Inv-loop μ-loop
-add-r c = omega arith
-
-loop-less : tie.Need-loop-less Inv-loop μ-loop
-loop-less c = omega arith
-
 loop-again : tie.Need-loop-again Inv-loop μ-loop
 loop-again c =
     let k = c .before .before in
@@ -50,15 +44,5 @@ returns-2 c =
 
 pub next-own-spec : {M : Type 1} → statement M
 next-own-spec =
-    tie.close
-    (tie.spec
-    Inv-loop
-    μ-loop
-    used-slots-requires
-    loop-holds
-    slot-at-requires
-    returns
-    add-r
-    loop-less
-    loop-again
-    returns-2)
+    tie.close (tie.spec Inv-loop μ-loop used-slots-requires loop-holds slot-at-requires returns (λ c. omega arith)
+    (λ c. omega arith) loop-again returns-2)

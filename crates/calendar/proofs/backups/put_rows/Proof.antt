@@ -38,9 +38,6 @@ loop-holds c =
     let p = c .before .before .before .before .before .pre in
     (rows-left (c .next-own .ensures) (p .1 .1), c .next-own .ensures .own)
 
-add-next-own : tie.Need-add-next-own Inv-loop μ-loop
-add-next-own c = omega arith
-
 next-own-requires-2 : tie.Need-next-own-requires-2 Inv-loop μ-loop
 next-own-requires-2 c κs = c .before .before .before .before .before .before .before .pre .0 .holds
 
@@ -92,18 +89,5 @@ same-length c = ap length (returns c) ∙ simp length-sets
 
 pub put-rows-spec : {M : Type 1} → statement M
 put-rows-spec =
-    tie.close
-    (tie.spec
-    Inv-loop
-    μ-loop
-    used-slots-requires
-    retention-requires
-    next-own-requires
-    loop-holds
-    add-next-own
-    next-own-requires-2
-    put-row-requires
-    loop-less
-    loop-again
-    same-length
-    returns)
+    tie.close (tie.spec Inv-loop μ-loop used-slots-requires retention-requires next-own-requires loop-holds
+    (λ c. omega arith) next-own-requires-2 put-row-requires loop-less loop-again same-length returns)

@@ -17,17 +17,8 @@ formed c = sym (c .before .form-number .ensures) ∙ c .if1 .left
 holds : (c : tie.Else1) → Holds (now (c .before .before .before .before .args .book))
 holds c = holds-form _ (λ i. c .before .before .before .slice-known .given i .fits) (formed c)
 
-form-number-requires : tie.Need-form-number-requires
-form-number-requires c κs = search needs
-
-same-length : tie.Need-same-length
-same-length c = search needs
-
 returns : tie.Need-returns
 returns c = collect-misformed _ _ _ _ (c .before .form-number .ensures) (c .if1 .taken)
-
-same-length-2 : tie.Need-same-length-2
-same-length-2 c = search needs
 
 returns-2 : tie.Need-returns-2
 returns-2 c = collect-late _ _ _ (formed (c .before)) (omega arith)
@@ -35,20 +26,11 @@ returns-2 c = collect-late _ _ _ (formed (c .before)) (omega arith)
 day-requires : tie.Need-day-requires
 day-requires c κs = holds (c .before .before)
 
-same-length-3 : tie.Need-same-length-3
-same-length-3 c = search needs
-
 returns-3 : tie.Need-returns-3
 returns-3 c = collect-early _ _ _ (formed (c .before .before .before .before)) (omega arith)
 
 sweep-requires : tie.Need-sweep-requires
 sweep-requires c κs = holds (c .before .before .before .before .before)
-
-set-day-requires : tie.Need-set-day-requires
-set-day-requires c κs = search needs
-
-same-length-4 : tie.Need-same-length-4
-same-length-4 c = search needs
 
 returns-4 : tie.Need-returns-4
 returns-4 c =
@@ -58,17 +40,5 @@ returns-4 c =
 
 pub collect-spec : {M : Type 1} → statement M
 collect-spec =
-    tie.close
-    (tie.spec
-    form-number-requires
-    same-length
-    returns
-    same-length-2
-    returns-2
-    day-requires
-    same-length-3
-    returns-3
-    sweep-requires
-    set-day-requires
-    same-length-4
-    returns-4)
+    tie.close (tie.spec (λ c κs. search needs) (λ c. search needs) returns (λ c. search needs) returns-2 day-requires
+    (λ c. search needs) returns-3 sweep-requires (λ c κs. search needs) (λ c. search needs) returns-4)

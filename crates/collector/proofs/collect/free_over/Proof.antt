@@ -6,22 +6,10 @@ use Rattle.collector.specs.Sweep.{free-kept, free-freed}
 use Rattle.collector.proofs.collect.free_over.Statement.{statement}
 use Rattle.collector.proofs.collect.free_over.Tie as tie
 
-is-over-requires : tie.Need-is-over-requires
-is-over-requires c κs = search needs
-
-same-length : tie.Need-same-length
-same-length c = search needs
-
 returns : tie.Need-returns
 returns c =
     let e = failed (c .before .is-over .ensures) (c .if1 .taken) in
     (sym e, free-kept _ _ _ (c .before .before .before .before .pre .0) e)
-
-free-requires : tie.Need-free-requires
-free-requires c κs = search needs
-
-same-length-2 : tie.Need-same-length-2
-same-length-2 c = search needs
 
 returns-2 : tie.Need-returns-2
 returns-2 c =
@@ -31,4 +19,5 @@ returns-2 c =
 
 pub free-over-spec : {M : Type 1} → statement M
 free-over-spec =
-    tie.close (tie.spec is-over-requires same-length returns free-requires same-length-2 returns-2)
+    tie.close (tie.spec (λ c κs. search needs) (λ c. search needs) returns (λ c κs. search needs) (λ c. search needs)
+    returns-2)

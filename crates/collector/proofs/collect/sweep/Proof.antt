@@ -19,23 +19,11 @@ abbrev μ-loop : tie.MeasureT-loop
 counted : (c : tie.Joined1 Inv-loop μ-loop) → c .if1 .freed ≡ c .before .before .before .before .before .before .loop .freed + bit (c .before .before .before .free-over .result)
 counted c = ⊎-elim (λ w. rw (w .0 .taken) (w .1)) (λ w. rw (w .0 .left) (omega (arith, w .1))) (c .if1 .came)
 
-blocks-requires : tie.Need-blocks-requires Inv-loop μ-loop
-blocks-requires c κs = search needs
-
 loop-holds : tie.Need-loop-holds Inv-loop μ-loop
 loop-holds c = sweeping-start _ (c .before .before .before .pre)
 
 free-over-requires : tie.Need-free-over-requires Inv-loop μ-loop
 free-over-requires c κs = let s = c .before .before .loop .inv in (s .book .holds, sweeping-inside s (omega arith))
-
-add-freed : tie.Need-add-freed Inv-loop μ-loop
-add-freed c = omega arith
-
-add-p : tie.Need-add-p Inv-loop μ-loop
-add-p c = omega arith
-
-loop-less : tie.Need-loop-less Inv-loop μ-loop
-loop-less c = omega arith
 
 loop-again : tie.Need-loop-again Inv-loop μ-loop
 loop-again c =
@@ -51,16 +39,5 @@ returns c = sweeping-end _ (c .before .before .before .before .before .pre) (c .
 
 pub sweep-spec : {M : Type 1} → statement M
 sweep-spec =
-    tie.close
-    (tie.spec
-    Inv-loop
-    μ-loop
-    blocks-requires
-    loop-holds
-    free-over-requires
-    add-freed
-    add-p
-    loop-less
-    loop-again
-    same-length
-    returns)
+    tie.close (tie.spec Inv-loop μ-loop (λ c κs. search needs) loop-holds free-over-requires (λ c. omega arith)
+    (λ c. omega arith) (λ c. omega arith) loop-again same-length returns)

@@ -24,29 +24,17 @@ allowed : (c : tie.Else2) → enrolNumber (bookOf (now (c .before .before .befor
     ≡ 0
 allowed c = sym (c .before .enrol-number .ensures) ∙ c .if2 .left
 
-form-number-requires : tie.Need-form-number-requires
-form-number-requires c κs = search needs
-
-same-length : tie.Need-same-length
-same-length c = search needs
-
 returns : tie.Need-returns
 returns c = enrol-misformed _ _ _ _ (c .before .form-number .ensures) (c .if1 .taken)
 
 enrol-number-requires : tie.Need-enrol-number-requires
 enrol-number-requires c κs = holds (c .before)
 
-same-length-2 : tie.Need-same-length-2
-same-length-2 c = search needs
-
 returns-2 : tie.Need-returns-2
 returns-2 c = enrol-refused _ _ _ (formed (c .before .before .before)) _ (c .before .enrol-number .ensures) (c .if2 .taken)
 
 set-retention-requires : tie.Need-set-retention-requires
 set-retention-requires c κs = let d = c .before in (holds (d .before .before .before), enrol-volume _ _ _ (allowed d) .0)
-
-same-length-3 : tie.Need-same-length-3
-same-length-3 c = search needs
 
 returns-3 : tie.Need-returns-3
 returns-3 c =
@@ -55,14 +43,5 @@ returns-3 c =
 
 pub aspen-enrol-spec : {M : Type 1} → statement M
 aspen-enrol-spec =
-    tie.close
-    (tie.spec
-    form-number-requires
-    same-length
-    returns
-    enrol-number-requires
-    same-length-2
-    returns-2
-    set-retention-requires
-    same-length-3
-    returns-3)
+    tie.close (tie.spec (λ c κs. search needs) (λ c. search needs) returns enrol-number-requires (λ c. search needs)
+    returns-2 set-retention-requires (λ c. search needs) returns-3)

@@ -16,9 +16,6 @@ none c = sym (c .before .retention .ensures) ∙ c .if2 .left
 returns : tie.Need-returns
 returns c = sym (number-above _ _ _ (omega arith))
 
-retention-requires : tie.Need-retention-requires
-retention-requires c κs = search needs
-
 returns-2 : tie.Need-returns-2
 returns-2 c = sym (number-enrolled _ _ _ (λ e. c .if2 .taken (c .before .retention .ensures ∙ e)))
 
@@ -32,5 +29,4 @@ returns-5 : tie.Need-returns-5
 returns-5 c = sym (number-none _ _ _ (omega arith) (none (c .before .before)) (c .before .if3 .left) (omega arith))
 
 pub enrol-number-spec : {M : Type 1} → statement M
-enrol-number-spec =
-    tie.close (tie.spec returns retention-requires returns-2 returns-3 returns-4 returns-5)
+enrol-number-spec = tie.close (tie.spec returns (λ c κs. search needs) returns-2 returns-3 returns-4 returns-5)

@@ -25,14 +25,8 @@ sizes c = passed (c .before .sizes-ok .ensures) (c .if1 .left)
 fits : (c : tie.Else2) → length (now (c .before .before .before .before .before .args .book)) ≡ bookSize (given (c .before .before .before .before .before))
 fits c = omega arith
 
-sizes-ok-requires : tie.Need-sizes-ok-requires
-sizes-ok-requires c κs = search needs
-
 returns : tie.Need-returns
 returns c = format-sizes _ (given (c .before .before .before)) (failed (c .before .sizes-ok .ensures) (c .if1 .taken))
-
-size-requires : tie.Need-size-requires
-size-requires c κs = search needs
 
 returns-2 : tie.Need-returns-2
 returns-2 c = format-length _ (given (c .before .before .before .before .before)) (λ e. omega arith)
@@ -42,9 +36,6 @@ format-requires c κs =
     let d = c .before in
     (bounds-ok (given (d .before .before .before .before .before)) (sizes (d .before .before)), fits d)
 
-same-length : tie.Need-same-length
-same-length c = search needs
-
 returns-3 : tie.Need-returns-3
 returns-3 c =
     let d = c .before .before .before .before in
@@ -52,12 +43,5 @@ returns-3 c =
 
 pub aspen-format-spec : {M : Type 1} → statement M
 aspen-format-spec =
-    tie.close
-    (tie.spec
-    sizes-ok-requires
-    returns
-    size-requires
-    returns-2
-    format-requires
-    same-length
-    returns-3)
+    tie.close (tie.spec (λ c κs. search needs) returns (λ c κs. search needs) returns-2 format-requires
+    (λ c. search needs) returns-3)

@@ -12,9 +12,6 @@ use Rattle.figures.proofs.enrolled.enrolled_number.Tie as tie
 in-form : (c : tie.Else1) → formNumber (now (c .before .before .before .args .book)) ≡ 0
 in-form c = sym (c .before .form-number .ensures) ∙ c .if1 .left
 
-form-number-requires : tie.Need-form-number-requires
-form-number-requires c κs = search needs
-
 returns : tie.Need-returns
 returns c = enrolled-misformed _ _ (c .before .form-number .ensures) (c .if1 .taken)
 
@@ -36,11 +33,4 @@ returns-4 c =
 
 pub enrolled-number-spec : {M : Type 1} → statement M
 enrolled-number-spec =
-    tie.close
-    (tie.spec
-    form-number-requires
-    returns
-    returns-2
-    retention-requires
-    returns-3
-    returns-4)
+    tie.close (tie.spec (λ c κs. search needs) returns returns-2 retention-requires returns-3 returns-4)

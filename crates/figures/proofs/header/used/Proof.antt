@@ -15,9 +15,6 @@ in-form c = sym (c .before .form-number .ensures) ∙ c .if1 .left
 holds : (c : tie.Else1) → Holds (now (c .before .before .before .args .book))
 holds c = holds-form _ (λ i. c .before .before .shared-slice-known .given i .fits) (in-form c)
 
-form-number-requires : tie.Need-form-number-requires
-form-number-requires c κs = search needs
-
 returns : tie.Need-returns
 returns c = used-refused _ (c .before .form-number .ensures) (c .if1 .taken)
 
@@ -38,11 +35,4 @@ returns-2 c =
 
 pub used-spec : {M : Type 1} → statement M
 used-spec =
-    tie.close
-    (tie.spec
-    form-number-requires
-    returns
-    used-slots-requires
-    used-records-requires
-    day-requires
-    returns-2)
+    tie.close (tie.spec (λ c κs. search needs) returns used-slots-requires used-records-requires day-requires returns-2)

@@ -16,9 +16,6 @@ passed c = sym (c .before .enrolled-number .ensures) ∙ c .if1 .left
 holds : (c : tie.Else1) → Holds (now (c .before .before .before .args .book))
 holds c = holds-form _ (λ i. c .before .before .shared-slice-known .given i .fits) (passed-enrolled _ _ (passed c) .form)
 
-enrolled-number-requires : tie.Need-enrolled-number-requires
-enrolled-number-requires c κs = search needs
-
 returns : tie.Need-returns
 returns c = volume-refused _ _ (c .before .enrolled-number .ensures) (c .if1 .taken)
 
@@ -32,11 +29,4 @@ returns-2 : tie.Need-returns-2
 returns-2 c = let k = c .before in volume-told _ _ (passed (k .before)) (k .retention .ensures) (c .count-backups .ensures)
 
 pub volume-spec : {M : Type 1} → statement M
-volume-spec =
-    tie.close
-    (tie.spec
-    enrolled-number-requires
-    returns
-    retention-requires
-    count-backups-requires
-    returns-2)
+volume-spec = tie.close (tie.spec (λ c κs. search needs) returns retention-requires count-backups-requires returns-2)

@@ -21,19 +21,10 @@ loop-holds : tie.Need-loop-holds Inv-loop μ-loop
 unfolding entriesOk
 loop-holds c = (omega arith, refl)
 
-entry-ok-requires : tie.Need-entry-ok-requires Inv-loop μ-loop
-entry-ok-requires c κs = omega arith
-
 returns : tie.Need-returns Inv-loop μ-loop
 returns c =
     let l = c .before .before .before .loop in
     sym (l .inv .1 ∙ each-stop _ _ _ (omega arith) (failed (c .before .entry-ok .ensures) (c .if1 .taken)))
-
-add-p : tie.Need-add-p Inv-loop μ-loop
-add-p c = omega arith
-
-loop-less : tie.Need-loop-less Inv-loop μ-loop
-loop-less c = omega arith
 
 loop-again : tie.Need-loop-again Inv-loop μ-loop
 loop-again c =
@@ -45,14 +36,5 @@ returns-2 c = sym (c .before .loop .inv .1 ∙ each-none _ _ _ (omega arith))
 
 pub entries-ok-spec : {M : Type 1} → statement M
 entries-ok-spec =
-    tie.close
-    (tie.spec
-    Inv-loop
-    μ-loop
-    loop-holds
-    entry-ok-requires
-    returns
-    add-p
-    loop-less
-    loop-again
-    returns-2)
+    tie.close (tie.spec Inv-loop μ-loop loop-holds (λ c κs. omega arith) returns (λ c. omega arith) (λ c. omega arith)
+    loop-again returns-2)

@@ -24,9 +24,6 @@ blocks c = passed (c .before .blocks-ok .ensures) (c .if3 .left)
 slots : (c : tie.Else4) → slotsOk (now (c .before .before .before .before .before .before .before .before .before .args .book)) ≡ true
 slots c = passed (c .before .slots-ok .ensures) (c .if4 .left)
 
-layout-ok-requires : tie.Need-layout-ok-requires
-layout-ok-requires c κs = search needs
-
 returns : tie.Need-returns
 returns c = sym (number-1 _ (failed (c .before .layout-ok .ensures) (c .if1 .taken)))
 
@@ -82,16 +79,5 @@ returns-6 c =
 
 pub form-number-spec : {M : Type 1} → statement M
 form-number-spec =
-    tie.close
-    (tie.spec
-    layout-ok-requires
-    returns
-    head-ok-requires
-    returns-2
-    blocks-ok-requires
-    returns-3
-    slots-ok-requires
-    returns-4
-    journal-ok-requires
-    returns-5
-    returns-6)
+    tie.close (tie.spec (λ c κs. search needs) returns head-ok-requires returns-2 blocks-ok-requires returns-3
+    slots-ok-requires returns-4 journal-ok-requires returns-5 returns-6)

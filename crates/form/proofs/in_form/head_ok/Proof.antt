@@ -4,30 +4,6 @@ use Rattle.form.specs.Checks.{headOk}
 use Rattle.form.proofs.in_form.head_ok.Statement.{statement}
 use Rattle.form.proofs.in_form.head_ok.Tie as tie
 
-u16-at-requires : tie.Need-u16-at-requires
-u16-at-requires c κs = search needs
-
-u16-at-requires-2 : tie.Need-u16-at-requires-2
-u16-at-requires-2 c κs = search needs
-
-u16-at-requires-3 : tie.Need-u16-at-requires-3
-u16-at-requires-3 c κs = search needs
-
-u16-at-requires-4 : tie.Need-u16-at-requires-4
-u16-at-requires-4 c κs = search needs
-
-u16-at-requires-5 : tie.Need-u16-at-requires-5
-u16-at-requires-5 c κs = search needs
-
-u16-at-requires-6 : tie.Need-u16-at-requires-6
-u16-at-requires-6 c κs = search needs
-
-u16-at-requires-7 : tie.Need-u16-at-requires-7
-u16-at-requires-7 c κs = search needs
-
-u16-at-requires-8 : tie.Need-u16-at-requires-8
-u16-at-requires-8 c κs = search needs
-
 returns : tie.Need-returns
 unfolding headOk
 returns c =
@@ -38,14 +14,5 @@ returns c =
 
 pub head-ok-spec : {M : Type 1} → statement M
 head-ok-spec =
-    tie.close
-    (tie.spec
-    u16-at-requires
-    u16-at-requires-2
-    u16-at-requires-3
-    u16-at-requires-4
-    u16-at-requires-5
-    u16-at-requires-6
-    u16-at-requires-7
-    u16-at-requires-8
-    returns)
+    tie.close (tie.spec (λ c κs. search needs) (λ c κs. search needs) (λ c κs. search needs) (λ c κs. search needs)
+    (λ c κs. search needs) (λ c κs. search needs) (λ c κs. search needs) (λ c κs. search needs) returns)

@@ -11,27 +11,6 @@ returns : tie.Need-returns
 unfolding layoutOk
 returns c = rw (lt-leb _ _ (c .if1 .taken))
 
-u16-at-requires : tie.Need-u16-at-requires
-u16-at-requires c κs = search needs
-
-u16-at-requires-2 : tie.Need-u16-at-requires-2
-u16-at-requires-2 c κs = search needs
-
-u16-at-requires-3 : tie.Need-u16-at-requires-3
-u16-at-requires-3 c κs = search needs
-
-u16-at-requires-4 : tie.Need-u16-at-requires-4
-u16-at-requires-4 c κs = search needs
-
-u16-at-requires-5 : tie.Need-u16-at-requires-5
-u16-at-requires-5 c κs = search needs
-
-sizes-ok-requires : tie.Need-sizes-ok-requires
-sizes-ok-requires c κs = search needs
-
-size-requires : tie.Need-size-requires
-size-requires c κs = search needs
-
 returns-2 : tie.Need-returns-2
 returns-2 c =
     let d = c .before .before .before in
@@ -41,14 +20,5 @@ returns-2 c =
 
 pub layout-ok-spec : {M : Type 1} → statement M
 layout-ok-spec =
-    tie.close
-    (tie.spec
-    returns
-    u16-at-requires
-    u16-at-requires-2
-    u16-at-requires-3
-    u16-at-requires-4
-    u16-at-requires-5
-    sizes-ok-requires
-    size-requires
-    returns-2)
+    tie.close (tie.spec returns (λ c κs. search needs) (λ c κs. search needs) (λ c κs. search needs)
+    (λ c κs. search needs) (λ c κs. search needs) (λ c κs. search needs) (λ c κs. search needs) returns-2)

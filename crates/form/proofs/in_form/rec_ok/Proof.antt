@@ -5,24 +5,6 @@ use Rattle.form.specs.Checks.{rec-tests}
 use Rattle.form.proofs.in_form.rec_ok.Statement.{statement}
 use Rattle.form.proofs.in_form.rec_ok.Tie as tie
 
-u16-at-requires : tie.Need-u16-at-requires
-u16-at-requires c κs = search needs
-
-add-u16-at : tie.Need-add-u16-at
-add-u16-at c = search needs
-
-u16-at-requires-2 : tie.Need-u16-at-requires-2
-u16-at-requires-2 c κs = search needs
-
-pbn-ok-requires : tie.Need-pbn-ok-requires
-pbn-ok-requires c κs = search needs
-
-add-u16-at-2 : tie.Need-add-u16-at-2
-add-u16-at-2 c = search needs
-
-u16-at-requires-3 : tie.Need-u16-at-requires-3
-u16-at-requires-3 c κs = search needs
-
 returns : tie.Need-returns
 returns c =
     let s = c .before .before .before .before .before in
@@ -31,12 +13,5 @@ returns c =
 
 pub rec-ok-spec : {M : Type 1} → statement M
 rec-ok-spec =
-    tie.close
-    (tie.spec
-    u16-at-requires
-    add-u16-at
-    u16-at-requires-2
-    pbn-ok-requires
-    add-u16-at-2
-    u16-at-requires-3
-    returns)
+    tie.close (tie.spec (λ c κs. search needs) (λ c. search needs) (λ c κs. search needs) (λ c κs. search needs)
+    (λ c. search needs) (λ c κs. search needs) returns)

@@ -17,20 +17,8 @@ loop-holds : tie.Need-loop-holds Inv-loop μ-loop
 unfolding recordsOk
 loop-holds c = (omega arith, sym (each-none _ _ _ (omega arith)))
 
-mul-rec-ok : tie.Need-mul-rec-ok Inv-loop μ-loop
-mul-rec-ok c = omega arith
-
-add-rec-ok : tie.Need-add-rec-ok Inv-loop μ-loop
-add-rec-ok c = omega arith
-
 rec-ok-requires : tie.Need-rec-ok-requires Inv-loop μ-loop
 rec-ok-requires c κs = (omega arith, (omega arith, omega arith))
-
-add-q : tie.Need-add-q Inv-loop μ-loop
-add-q c = omega arith
-
-loop-less : tie.Need-loop-less Inv-loop μ-loop
-loop-less c = omega arith
 
 loop-again : tie.Need-loop-again Inv-loop μ-loop
 unfolding recordsOk
@@ -43,15 +31,5 @@ returns c =
 
 pub used-records-ok-spec : {M : Type 1} → statement M
 used-records-ok-spec =
-    tie.close
-    (tie.spec
-    Inv-loop
-    μ-loop
-    loop-holds
-    mul-rec-ok
-    add-rec-ok
-    rec-ok-requires
-    add-q
-    loop-less
-    loop-again
-    returns)
+    tie.close (tie.spec Inv-loop μ-loop loop-holds (λ c. omega arith) (λ c. omega arith) rec-ok-requires
+    (λ c. omega arith) (λ c. omega arith) loop-again returns)

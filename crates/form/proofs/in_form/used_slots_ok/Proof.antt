@@ -23,12 +23,6 @@ abbrev μ-loop : tie.MeasureT-loop
 loop-holds : tie.Need-loop-holds Inv-loop μ-loop
 loop-holds c = (omega arith, omega arith, refl)
 
-mul-at : tie.Need-mul-at Inv-loop μ-loop
-mul-at c = omega arith
-
-add-at : tie.Need-add-at Inv-loop μ-loop
-add-at c = omega arith
-
 slot-ok-requires : tie.Need-slot-ok-requires Inv-loop μ-loop
 slot-ok-requires c κs =
     let p = c .before .before .before .before .pre in
@@ -60,47 +54,11 @@ bounds : (c : tie.Else1 Inv-loop μ-loop)
     (getD (now (a .b)) (a .from + m .loop .q * 8) 0 < 8) × (num (now (a .b)) (a .from + m .loop .q * 8 + 2) ≤ num (now (a .b)) dayPlace)
 bounds c = slot-bounds _ _ _ _ _ (here c)
 
-add-u16-at : tie.Need-add-u16-at Inv-loop μ-loop
-add-u16-at c = omega arith
-
-u16-at-requires : tie.Need-u16-at-requires Inv-loop μ-loop
-u16-at-requires c κs = omega arith
-
 add-lasts : tie.Need-add-lasts Inv-loop μ-loop
 add-lasts c = record { fits = omega (arith, bounds (c .before)) }
 
-shared-slice-read-wide : tie.Need-shared-slice-read-wide Inv-loop μ-loop
-shared-slice-read-wide c = omega arith
-
-wide-requires : tie.Need-wide-requires Inv-loop μ-loop
-wide-requires c κs = tt
-
-cast-lasts : tie.Need-cast-lasts Inv-loop μ-loop
-cast-lasts c = omega arith
-
-mul-lasts : tie.Need-mul-lasts Inv-loop μ-loop
-mul-lasts c = omega arith
-
 array-write-lasts : tie.Need-array-write-lasts Inv-loop μ-loop
 array-write-lasts c = omega (arith, bounds (c .before .before .before))
-
-add-u16-at-2 : tie.Need-add-u16-at-2 Inv-loop μ-loop
-add-u16-at-2 c = omega arith
-
-u16-at-requires-2 : tie.Need-u16-at-requires-2 Inv-loop μ-loop
-u16-at-requires-2 c κs = omega arith
-
-cast-next : tie.Need-cast-next Inv-loop μ-loop
-cast-next c = omega arith
-
-add-next : tie.Need-add-next Inv-loop μ-loop
-add-next c = omega arith
-
-add-q : tie.Need-add-q Inv-loop μ-loop
-add-q c = omega arith
-
-loop-less : tie.Need-loop-less Inv-loop μ-loop
-loop-less c = omega arith
 
 loop-again : tie.Need-loop-again Inv-loop μ-loop
 loop-again c =
@@ -122,28 +80,7 @@ returns-2 c =
 
 pub used-slots-ok-spec : {M : Type 1} → statement M
 used-slots-ok-spec =
-    tie.close
-    (tie.spec
-    Inv-loop
-    μ-loop
-    loop-holds
-    mul-at
-    add-at
-    slot-ok-requires
-    returns
-    add-u16-at
-    u16-at-requires
-    add-lasts
-    shared-slice-read-wide
-    wide-requires
-    cast-lasts
-    mul-lasts
-    array-write-lasts
-    add-u16-at-2
-    u16-at-requires-2
-    cast-next
-    add-next
-    add-q
-    loop-less
-    loop-again
-    returns-2)
+    tie.close (tie.spec Inv-loop μ-loop loop-holds (λ c. omega arith) (λ c. omega arith) slot-ok-requires returns
+    (λ c. omega arith) (λ c κs. omega arith) add-lasts (λ c. omega arith) (λ c κs. tt) (λ c. omega arith)
+    (λ c. omega arith) array-write-lasts (λ c. omega arith) (λ c κs. omega arith) (λ c. omega arith) (λ c. omega arith)
+    (λ c. omega arith) (λ c. omega arith) loop-again returns-2)

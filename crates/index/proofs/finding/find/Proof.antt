@@ -17,23 +17,11 @@ lowest c =
     let s = b .before .before .before in
     c .search .ensures ∙ search-start _ _ 0 (s .pre .1 .0) (omega arith) (b .bucket-of .result) (b .bucket-of .ensures .0) (b .bucket-of .ensures .1)
 
-bucket-of-requires : tie.Need-bucket-of-requires
-bucket-of-requires c κs = search needs
-
-mul-search : tie.Need-mul-search
-mul-search c = search needs
-
-element-copy-out-search : tie.Need-element-copy-out-search
-element-copy-out-search c = search needs
-
 search-requires : tie.Need-search-requires
 search-requires c κs =
     let b = c .before in
     let s = b .before .before .before in
     (s .pre .0, (s .pre .1 .1, chain-start _ _ 0 (s .pre .1 .0) (omega arith) (b .bucket-of .result) (b .bucket-of .ensures .0) (b .bucket-of .ensures .1)))
-
-blocks-requires : tie.Need-blocks-requires
-blocks-requires c κs = search needs
 
 returns : tie.Need-returns
 returns c =
@@ -49,12 +37,5 @@ returns-2 c =
 
 pub find-spec : {M : Type 1} → statement M
 find-spec =
-    tie.close
-    (tie.spec
-    bucket-of-requires
-    mul-search
-    element-copy-out-search
-    search-requires
-    blocks-requires
-    returns
-    returns-2)
+    tie.close (tie.spec (λ c κs. search needs) (λ c. search needs) (λ c. search needs) search-requires
+    (λ c κs. search needs) returns returns-2)

@@ -21,9 +21,6 @@ abbrev μ-loop : tie.MeasureT-loop
 inside : (c : tie.In-loop Inv-loop μ-loop) → c .before .loop .q < length (bookOf (c .before .before .before .before .before .args .book .now) .entries)
 inside c = omega (arith, c .before .before .before .before .before .pre .0 .sized .entries)
 
-blocks-requires : tie.Need-blocks-requires Inv-loop μ-loop
-blocks-requires c κs = search needs
-
 loop-holds : tie.Need-loop-holds Inv-loop μ-loop
 loop-holds c = (c .before .before .before .pre .1 .1, refl)
 
@@ -42,12 +39,6 @@ returns c =
     let s = i .before .before .before .before .before in
     sym (l .inv .1 ∙ search-stop _ (s .args .print .now) _ (l .q) (l .inv .0) (inside i)
     (rw (c .before .before .print-of .ensures) at (sym (c .before .same-print .ensures) ∙ c .if1 .taken)))
-
-cast-q : tie.Need-cast-q Inv-loop μ-loop
-cast-q c = search needs
-
-mul-q : tie.Need-mul-q Inv-loop μ-loop
-mul-q c = search needs
 
 element-copy-out-q : tie.Need-element-copy-out-q Inv-loop μ-loop
 element-copy-out-q c =
@@ -78,18 +69,5 @@ returns-2 c =
 
 pub search-spec : {M : Type 1} → statement M
 search-spec =
-    tie.close
-    (tie.spec
-    Inv-loop
-    μ-loop
-    blocks-requires
-    loop-holds
-    print-of-requires
-    same-print-requires
-    returns
-    cast-q
-    mul-q
-    element-copy-out-q
-    loop-less
-    loop-again
-    returns-2)
+    tie.close (tie.spec Inv-loop μ-loop (λ c κs. search needs) loop-holds print-of-requires same-print-requires returns
+    (λ c. search needs) (λ c. search needs) element-copy-out-q loop-less loop-again returns-2)

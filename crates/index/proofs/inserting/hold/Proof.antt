@@ -49,46 +49,13 @@ module _ (c : tie.After-bucket-of Inv-loop μ-loop) where
   index : Indexed (without (start c .args .p .0) (entries c)) (start c .args .heads .now) (start c .args .nexts .now)
   index = held-without (start c .args .print .now) (start c .args .p .0) (start c .args .book .now) held (start c .pre .1 .0 .1) (start c .pre .1 .1 .1)
 
-hold-requires : tie.Need-hold-requires Inv-loop μ-loop
-hold-requires c κs = search needs
-
-cast-at : tie.Need-cast-at Inv-loop μ-loop
-cast-at c = search needs
-
-bucket-of-requires : tie.Need-bucket-of-requires Inv-loop μ-loop
-bucket-of-requires c κs = search needs
-
-mul-first : tie.Need-mul-first Inv-loop μ-loop
-mul-first c = search needs
-
-element-copy-out-first : tie.Need-element-copy-out-first Inv-loop μ-loop
-element-copy-out-first c = search needs
-
-mul-nexts : tie.Need-mul-nexts Inv-loop μ-loop
-mul-nexts c = search needs
-
 element-write-nexts : tie.Need-element-write-nexts Inv-loop μ-loop
 element-write-nexts c = room (c .before .before .before)
-
-mul-heads : tie.Need-mul-heads Inv-loop μ-loop
-mul-heads c = search needs
-
-element-write-heads : tie.Need-element-write-heads Inv-loop μ-loop
-element-write-heads c = search needs
-
-same-length : tie.Need-same-length Inv-loop μ-loop
-same-length c = search needs
 
 returns : tie.Need-returns Inv-loop μ-loop
 returns c =
     let b = c .before .before .before in
     (held b, insert-first (joins b) (index b) (b .bucket-of .result) (b .bucket-of .ensures .1) (home b) (omega (arith, c .if1 .taken)))
-
-cast-q : tie.Need-cast-q Inv-loop μ-loop
-cast-q c = search needs
-
-mul-next : tie.Need-mul-next Inv-loop μ-loop
-mul-next c = search needs
 
 element-copy-out-next : tie.Need-element-copy-out-next Inv-loop μ-loop
 element-copy-out-next c = omega (arith, c .if1 .left, room (c .before .before .before))
@@ -97,12 +64,6 @@ loop-holds : tie.Need-loop-holds Inv-loop μ-loop
 loop-holds c =
     let b = c .before .before .before .before in
     (walk-start (joins b) (index b) (b .bucket-of .result) (b .bucket-of .ensures .1) (home b) (omega (arith, c .before .if1 .left)), refl)
-
-cast-q-2 : tie.Need-cast-q-2 Inv-loop μ-loop
-cast-q-2 c = search needs
-
-mul-next-2 : tie.Need-mul-next-2 Inv-loop μ-loop
-mul-next-2 c = search needs
 
 element-copy-out-next-2 : tie.Need-element-copy-out-next-2 Inv-loop μ-loop
 element-copy-out-next-2 c = omega (arith, c .if2 .taken, room (c .before .before .before .before .before .before .before))
@@ -119,20 +80,11 @@ loop-again c =
     let b = c .before .before .before .before .before .before .before .before in
     (rw (l .inv .1) (walk-more (joins b) (index b) (l .q) (l .inv .0) (rw (l .inv .1) at (c .before .if2 .taken))), refl)
 
-mul-nexts-2 : tie.Need-mul-nexts-2 Inv-loop μ-loop
-mul-nexts-2 c = search needs
-
 element-write-nexts-2 : tie.Need-element-write-nexts-2 Inv-loop μ-loop
 element-write-nexts-2 c = room (c .before .before .before .before .before .before .before)
 
-mul-nexts-3 : tie.Need-mul-nexts-3 Inv-loop μ-loop
-mul-nexts-3 c = search needs
-
 element-write-nexts-3 : tie.Need-element-write-nexts-3 Inv-loop μ-loop
 element-write-nexts-3 c = omega (arith, c .before .before .loop .inv .0 .below, room (c .before .before .before .before .before .before .before))
-
-same-length-2 : tie.Need-same-length-2 Inv-loop μ-loop
-same-length-2 c = search needs
 
 returns-2 : tie.Need-returns-2 Inv-loop μ-loop
 returns-2 c =
@@ -142,33 +94,8 @@ returns-2 c =
 
 pub hold-spec : {M : Type 1} → statement M
 hold-spec =
-    tie.close
-    (tie.spec
-    Inv-loop
-    μ-loop
-    hold-requires
-    cast-at
-    bucket-of-requires
-    mul-first
-    element-copy-out-first
-    mul-nexts
-    element-write-nexts
-    mul-heads
-    element-write-heads
-    same-length
-    returns
-    cast-q
-    mul-next
-    element-copy-out-next
-    loop-holds
-    cast-q-2
-    mul-next-2
-    element-copy-out-next-2
-    loop-less
-    loop-again
-    mul-nexts-2
-    element-write-nexts-2
-    mul-nexts-3
-    element-write-nexts-3
-    same-length-2
-    returns-2)
+    tie.close (tie.spec Inv-loop μ-loop (λ c κs. search needs) (λ c. search needs) (λ c κs. search needs)
+    (λ c. search needs) (λ c. search needs) (λ c. search needs) element-write-nexts (λ c. search needs)
+    (λ c. search needs) (λ c. search needs) returns (λ c. search needs) (λ c. search needs) element-copy-out-next
+    loop-holds (λ c. search needs) (λ c. search needs) element-copy-out-next-2 loop-less loop-again (λ c. search needs)
+    element-write-nexts-2 (λ c. search needs) element-write-nexts-3 (λ c. search needs) returns-2)

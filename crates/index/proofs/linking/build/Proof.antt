@@ -14,17 +14,11 @@ Inv-loop book heads₀ nexts₀ p₀ heads nexts p = (p ≤ p₀) × IndexedFrom
 abbrev μ-loop : tie.MeasureT-loop
 μ-loop book heads₀ nexts₀ p₀ heads nexts p = p
 
-clear-requires : tie.Need-clear-requires Inv-loop μ-loop
-clear-requires c κs = search needs
-
 blocks-requires : tie.Need-blocks-requires Inv-loop μ-loop
 blocks-requires c κs = c .before .before .before .before .pre
 
 loop-holds : tie.Need-loop-holds Inv-loop μ-loop
 loop-holds c = (omega arith, rw (c .blocks2 .ensures) (c .before .clear .ensures))
-
-sub-p : tie.Need-sub-p Inv-loop μ-loop
-sub-p c = search needs
 
 link-requires : tie.Need-link-requires Inv-loop μ-loop
 link-requires c κs =
@@ -32,9 +26,6 @@ link-requires c κs =
     let n = c .before .before .before .before .blocks2 in
     let e : l .p - 1 + 1 ≡ l .p = omega arith in
     (c .before .before .before .before .before .before .before .before .before .pre, (omega (arith, n .ensures, l .inv .0), rw e (l .inv .1)))
-
-loop-less : tie.Need-loop-less Inv-loop μ-loop
-loop-less c = search needs
 
 loop-again : tie.Need-loop-again Inv-loop μ-loop
 loop-again c = (omega arith, c .link .ensures)
@@ -47,15 +38,5 @@ returns c =
 
 pub build-spec : {M : Type 1} → statement M
 build-spec =
-    tie.close
-    (tie.spec
-    Inv-loop
-    μ-loop
-    clear-requires
-    blocks-requires
-    loop-holds
-    sub-p
-    link-requires
-    loop-less
-    loop-again
-    returns)
+    tie.close (tie.spec Inv-loop μ-loop (λ c κs. search needs) blocks-requires loop-holds (λ c. search needs)
+    link-requires (λ c. search needs) loop-again returns)

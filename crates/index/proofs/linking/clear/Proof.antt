@@ -4,9 +4,6 @@ use borrow.Author.Needs.{needs}
 use Rattle.index.proofs.linking.clear.Statement.{statement}
 use Rattle.index.proofs.linking.clear.Tie as tie
 
-blocks-requires : tie.Need-blocks-requires
-blocks-requires c κs = search needs
-
 returns : tie.Need-returns
 returns c =
     let n = c .before .before .blocks2 in
@@ -14,4 +11,4 @@ returns c =
     linked-none _ (n .result) (z .sized .entries) (n .ensures) (z .n)
 
 pub clear-spec : {M : Type 1} → statement M
-clear-spec = tie.close (tie.spec blocks-requires returns)
+clear-spec = tie.close (tie.spec (λ c κs. search needs) returns)

@@ -14,25 +14,16 @@ use Rattle.index.proofs.linking.link.Tie as tie
 inside : (s : tie.Start) → s .args .p .0 < length (bookOf (s .args .book .now) .entries)
 inside s = omega (arith, s .pre .0 .sized .entries)
 
-is-held-requires : tie.Need-is-held-requires
-is-held-requires c κs = search needs
-
 returns : tie.Need-returns
 returns c =
     let s = c .before .before .before in
     let es = bookOf (s .args .book .now) .entries in
     linked-free es (s .args .p .0) (inside s) _ _ (s .pre .1 .1) (failed (c .before .is-held .ensures) (c .if1 .taken))
 
-print-of-requires : tie.Need-print-of-requires
-print-of-requires c κs = search needs
-
 bucket-of-requires : tie.Need-bucket-of-requires
 bucket-of-requires c κs =
     let s = c .before .before .before .before in
     ap length (c .print-of .ensures) ∙ s .pre .0 .sized .prints (s .args .p .0) (s .pre .1 .0)
-
-prepend-requires : tie.Need-prepend-requires
-prepend-requires c κs = search needs
 
 returns-2 : tie.Need-returns-2
 returns-2 c =
@@ -46,11 +37,5 @@ returns-2 c =
 
 pub link-spec : {M : Type 1} → statement M
 link-spec =
-    tie.close
-    (tie.spec
-    is-held-requires
-    returns
-    print-of-requires
-    bucket-of-requires
-    prepend-requires
+    tie.close (tie.spec (λ c κs. search needs) returns (λ c κs. search needs) bucket-of-requires (λ c κs. search needs)
     returns-2)

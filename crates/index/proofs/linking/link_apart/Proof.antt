@@ -23,9 +23,6 @@ start c = c .before .before .before .before .before
 held : (c : tie.After-bucket-of) → entryAt (bookOf (start c .args .book .now) .entries) (start c .args .p .0) .held ≡ true
 held c = passed (c .before .before .before .is-held .ensures) (c .before .before .if1 .left)
 
-is-held-requires : tie.Need-is-held-requires
-is-held-requires c κs = search needs
-
 returns : tie.Need-returns
 returns c =
     let s = c .before .before .before in
@@ -33,19 +30,10 @@ returns c =
     let k = failed (c .before .is-held .ensures) (c .if1 .taken) in
     (sym (apart-free es (s .args .p .0) k), linked-free es (s .args .p .0) (inside s) _ _ (s .pre .1 .1) k)
 
-print-of-requires : tie.Need-print-of-requires
-print-of-requires c κs = search needs
-
 bucket-of-requires : tie.Need-bucket-of-requires
 bucket-of-requires c κs =
     let s = c .before .before .before .before in
     ap length (c .print-of .ensures) ∙ s .pre .0 .sized .prints (s .args .p .0) (s .pre .1 .0)
-
-mul-search : tie.Need-mul-search
-mul-search c = search needs
-
-element-copy-out-search : tie.Need-element-copy-out-search
-element-copy-out-search c = search needs
 
 search-requires : tie.Need-search-requires
 search-requires c κs =
@@ -57,12 +45,6 @@ search-requires c κs =
         chain-start _ _ (s .args .p .0 + 1) (s .pre .1 .1) (omega (arith, inside s)) (b .bucket-of .result) (b .bucket-of .ensures .0) (b .bucket-of .ensures .1),
       ),
     )
-
-prepend-requires : tie.Need-prepend-requires
-prepend-requires c κs = search needs
-
-blocks-requires : tie.Need-blocks-requires
-blocks-requires c κs = search needs
 
 returns-2 : tie.Need-returns-2
 returns-2 c =
@@ -79,15 +61,5 @@ returns-2 c =
 
 pub link-apart-spec : {M : Type 1} → statement M
 link-apart-spec =
-    tie.close
-    (tie.spec
-    is-held-requires
-    returns
-    print-of-requires
-    bucket-of-requires
-    mul-search
-    element-copy-out-search
-    search-requires
-    prepend-requires
-    blocks-requires
-    returns-2)
+    tie.close (tie.spec (λ c κs. search needs) returns (λ c κs. search needs) bucket-of-requires (λ c. search needs)
+    (λ c. search needs) search-requires (λ c κs. search needs) (λ c κs. search needs) returns-2)

@@ -49,9 +49,6 @@ number c =
 allowed : (c : tie.Else5) → Allowed (bookOf (c .before .before .before .before .before .before .before .before .before .before .before .before .before .before .before .before .before .before .args .book .now)) (c .before .before .before .before .before .before .before .before .before .before .before .before .before .before .before .before .before .before .args .v) (c .before .before .before .before .before .before .before .before .before .before .before .before .before .before .before .before .before .before .args .day) (c .before .before .before .before .before .before .before .before .before .before .before .before .before .before .before .before .before .before .args .list .now)
 allowed c = number-zero (bookOf (c .before .before .before .before .before .before .before .before .before .before .before .before .before .before .before .before .before .before .args .book .now)) (c .before .before .before .before .before .before .before .before .before .before .before .before .before .before .before .before .before .before .args .v) (c .before .before .before .before .before .before .before .before .before .before .before .before .before .before .before .before .before .before .args .day) (c .before .before .before .before .before .before .before .before .before .before .before .before .before .before .before .before .before .before .args .list .now) (number (c .before) ∙ c .if5 .left)
 
-lent-number-requires : tie.Need-lent-number-requires
-lent-number-requires c κs = search needs
-
 returns : tie.Need-returns
 unfolding AllowedBy
 returns c = lent-refused (c .before .before .before .before .before .args .book .now) (c .before .before .before .before .before .args .pool .now) (c .before .before .before .before .before .args .spare) _ _ _ _ (c .before .lent-number .ensures) (c .if1 .taken)
@@ -87,15 +84,6 @@ returns-4 c =
 
 cells-requires : tie.Need-cells-requires
 cells-requires c κs = form (c .before .before .before .before .before .before) .holds
-
-check-requires : tie.Need-check-requires
-check-requires c κs = search needs
-
-enum-known-checked : tie.Need-enum-known-checked
-enum-known-checked c = search needs
-
-enum-told : tie.Need-enum-told
-enum-told c = search needs
 
 returns-5 : tie.Need-returns-5
 unfolding AllowedBy
@@ -152,23 +140,6 @@ returns-7 c =
 
 pub allow-spec : {M : Type 1} → statement M
 allow-spec =
-    tie.close
-    (tie.spec
-    lent-number-requires
-    returns
-    returns-2
-    retention-requires
-    returns-3
-    backups-of-requires
-    bad-day-requires
-    returns-4
-    cells-requires
-    check-requires
-    enum-known-checked
-    enum-told
-    returns-5
-    room-requires
-    returns-6
-    add-until
-    add-number
-    returns-7)
+    tie.close (tie.spec (λ c κs. search needs) returns returns-2 retention-requires returns-3 backups-of-requires
+    bad-day-requires returns-4 cells-requires (λ c κs. search needs) (λ c. search needs) (λ c. search needs) returns-5
+    room-requires returns-6 add-until add-number returns-7)

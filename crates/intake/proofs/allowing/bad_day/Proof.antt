@@ -12,9 +12,6 @@ use Rattle.intake.proofs.allowing.bad_day.Tie as tie
 returns : tie.Need-returns
 returns c = day-late (bookOf (c .before .before .args .book .now)) (c .before .before .args .v) (c .before .before .args .day) (c .if1 .taken)
 
-day-requires : tie.Need-day-requires
-day-requires c κs = search needs
-
 returns-2 : tie.Need-returns-2
 returns-2 c =
     day-early (bookOf (c .before .before .before .before .args .book .now)) (c .before .before .before .before .args .v) (c .before .before .before .before .args .day) (c .before .before .if1 .left) (omega (arith, c .before .day .ensures, c .if2 .taken))
@@ -31,4 +28,4 @@ returns-4 c =
     ∙ day-next (bookOf (a .book .now)) (a .v) (a .day) (c .before .before .before .before .before .if1 .left) (omega (arith, c .before .before .before .before .day .ensures, c .before .before .before .if2 .left)) (λ e. c .before .if3 .left (c .before .before .before .before .before .before .before .pre .1 .count ∙ e))
 
 pub bad-day-spec : {M : Type 1} → statement M
-bad-day-spec = tie.close (tie.spec returns day-requires returns-2 returns-3 returns-4)
+bad-day-spec = tie.close (tie.spec returns (λ c κs. search needs) returns-2 returns-3 returns-4)

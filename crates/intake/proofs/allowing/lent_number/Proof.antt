@@ -9,9 +9,6 @@ use Rattle.intake.proofs.allowing.lent_number.Tie as tie
 good : (c : tie.Else1) → buffersNumber (c .before .before .before .before .args .book .now) (c .before .before .before .before .args .pool .now) ≡ 0
 good c = sym (c .before .buffers-number .ensures) ∙ c .if1 .left
 
-buffers-number-requires : tie.Need-buffers-number-requires
-buffers-number-requires c κs = search needs
-
 returns : tie.Need-returns
 returns c = lent-first _ _ _ _ (c .before .buffers-number .ensures) (c .if1 .taken)
 
@@ -22,4 +19,4 @@ returns-3 : tie.Need-returns-3
 returns-3 c = lent-none _ _ _ (good (c .before)) (c .if2 .left)
 
 pub lent-number-spec : {M : Type 1} → statement M
-lent-number-spec = tie.close (tie.spec buffers-number-requires returns returns-2 returns-3)
+lent-number-spec = tie.close (tie.spec (λ c κs. search needs) returns returns-2 returns-3)

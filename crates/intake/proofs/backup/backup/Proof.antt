@@ -14,24 +14,6 @@ ready : (c : tie.After-allowed) → Ready (c .before .before .before .before .be
 unfolding AllowedBy
 ready c = rw (c .allowed .given .1) at (c .before .before .allow .ensures)
 
-allow-requires : tie.Need-allow-requires
-allow-requires c κs = search needs
-
-enum-known-allowed : tie.Need-enum-known-allowed
-enum-known-allowed c = search needs
-
-enum-told : tie.Need-enum-told
-enum-told c = search needs
-
-allowed-number-requires : tie.Need-allowed-number-requires
-allowed-number-requires c κs = search needs
-
-same-length : tie.Need-same-length
-same-length c = search needs
-
-same-length-2 : tie.Need-same-length-2
-same-length-2 c = search needs
-
 returns : tie.Need-returns
 returns c =
     let a = c .before .before .before .before .before .before .before .before .before .before .args in
@@ -52,24 +34,6 @@ work-through-requires c κs =
     let r = ready (c .before .before .before .before .before .before .before .before .before .before) in
     ((r .formed, c .before .before .before .before .before .copy .ensures), ((r .job, r .volume), r .room))
 
-enum-known-step : tie.Need-enum-known-step
-enum-known-step c = search needs
-
-enum-told-2 : tie.Need-enum-told-2
-enum-told-2 c = search needs
-
-step-number-requires : tie.Need-step-number-requires
-step-number-requires c κs = search needs
-
-same-length-3 : tie.Need-same-length-3
-same-length-3 c = search needs
-
-same-length-4 : tie.Need-same-length-4
-same-length-4 c = search needs
-
-same-length-5 : tie.Need-same-length-5
-same-length-5 c = search needs
-
 returns-2 : tie.Need-returns-2
 returns-2 c =
     let a = c .before .before .before .before .before .before .before .before .before .before .before .before .before .before .before .before .before .before .before .before .before .before .before .before .before .before .before .before .before .args in
@@ -79,15 +43,6 @@ returns-2 c =
 copy-requires-2 : tie.Need-copy-requires-2
 copy-requires-2 c κs = sym (c .before .before .before .before .before .before .before .before .before .work-through .kept .1 .1 .0 ∙ ap length (c .before .before .before .before .before .before .before .before .before .before .before .before .before .before .before .copy .ensures))
 
-same-length-6 : tie.Need-same-length-6
-same-length-6 c = search needs
-
-same-length-7 : tie.Need-same-length-7
-same-length-7 c = search needs
-
-same-length-8 : tie.Need-same-length-8
-same-length-8 c = search needs
-
 returns-3 : tie.Need-returns-3
 returns-3 c =
     let a = c .before .before .before .before .before .before .before .before .before .before .before .before .before .before .before .before .before .before .before .before .before .before .before .before .before .before .before .before .before .before .before .before .before .before .args in
@@ -96,28 +51,8 @@ returns-3 c =
 
 pub backup-spec : {M : Type 1} → statement M
 backup-spec =
-    tie.close
-    (tie.spec
-    allow-requires
-    enum-known-allowed
-    enum-told
-    allowed-number-requires
-    same-length
-    same-length-2
-    returns
-    slice-relend-prefix-work
-    slice-aggregate-work
-    copy-requires
-    work-through-requires
-    enum-known-step
-    enum-told-2
-    step-number-requires
-    same-length-3
-    same-length-4
-    same-length-5
-    returns-2
-    copy-requires-2
-    same-length-6
-    same-length-7
-    same-length-8
-    returns-3)
+    tie.close (tie.spec (λ c κs. search needs) (λ c. search needs) (λ c. search needs) (λ c κs. search needs)
+    (λ c. search needs) (λ c. search needs) returns slice-relend-prefix-work slice-aggregate-work copy-requires
+    work-through-requires (λ c. search needs) (λ c. search needs) (λ c κs. search needs) (λ c. search needs)
+    (λ c. search needs) (λ c. search needs) returns-2 copy-requires-2 (λ c. search needs) (λ c. search needs)
+    (λ c. search needs) returns-3)

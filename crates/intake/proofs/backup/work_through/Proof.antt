@@ -27,18 +27,6 @@ run-changes-requires c κs =
     let s = c .before .before .before .before .before .before .before in
     rw (s .pre .0 .1) ((s .pre .0 .0 .holds, s .pre .0 .0 .holds), (s .pre .1 .0, standing-start (s .args .book .now) (s .pre .0 .0)))
 
-enum-known-step : tie.Need-enum-known-step
-enum-known-step c = search needs
-
-enum-told : tie.Need-enum-told
-enum-told c = search needs
-
-same-length : tie.Need-same-length
-same-length c = search needs
-
-same-length-2 : tie.Need-same-length-2
-same-length-2 c = search needs
-
 returns : tie.Need-returns
 returns c =
     let s = c .before .before .before .before .before .before .before .before .before .before .before .before in
@@ -55,9 +43,6 @@ store-all-requires c κs =
       storable (a .book .now) (s .pre .0 .0) (a .pool .now) (a .list .now) (a .shape) (s .pre .1 .0 .0) (a .v) (a .day) (a .until) _ _ _ h,
     )
 
-used-records-requires : tie.Need-used-records-requires
-used-records-requires c κs = search needs
-
 close-requires : tie.Need-close-requires
 close-requires c κs =
     let s = c .before .before .before .before .before .before .before .before .before .before .before .before .before .before .before .before .before .before .before .before .before in
@@ -68,12 +53,6 @@ close-requires c κs =
       (omega (arith, s .pre .1 .1, ap (λ (ts : List Slot). length ts) (st .slots), ap (λ (z : Sizes). z .s) (st .sizes)), s .pre .1 .0 .1),
     )
 
-same-length-3 : tie.Need-same-length-3
-same-length-3 c = search needs
-
-same-length-4 : tie.Need-same-length-4
-same-length-4 c = search needs
-
 returns-2 : tie.Need-returns-2
 returns-2 c =
     let s = c .before .before .before .before .before .before .before .before .before .before .before .before .before .before .before .before .before .before .before .before .before .before .before .before in
@@ -83,17 +62,6 @@ returns-2 c =
 
 pub work-through-spec : {M : Type 1} → statement M
 work-through-spec =
-    tie.close
-    (tie.spec
-    run-changes-requires
-    enum-known-step
-    enum-told
-    same-length
-    same-length-2
-    returns
-    store-all-requires
-    used-records-requires
-    close-requires
-    same-length-3
-    same-length-4
-    returns-2)
+    tie.close (tie.spec run-changes-requires (λ c. search needs) (λ c. search needs) (λ c. search needs)
+    (λ c. search needs) returns store-all-requires (λ c κs. search needs) close-requires (λ c. search needs)
+    (λ c. search needs) returns-2)

@@ -24,15 +24,6 @@ loop-holds c = (omega arith, omega arith, passed-none _ _)
 slot-at-requires : tie.Need-slot-at-requires Inv-loop μ-loop
 slot-at-requires c κs = (c .before .before .before .before .pre, omega arith)
 
-add-count : tie.Need-add-count Inv-loop μ-loop
-add-count c = omega arith
-
-add-q : tie.Need-add-q Inv-loop μ-loop
-add-q c = omega arith
-
-loop-less : tie.Need-loop-less Inv-loop μ-loop
-loop-less c = omega arith
-
 loop-again : tie.Need-loop-again Inv-loop μ-loop
 loop-again c =
     let k = c .before .before in
@@ -52,15 +43,5 @@ returns c =
 
 pub backups-of-spec : {M : Type 1} → statement M
 backups-of-spec =
-    tie.close
-    (tie.spec
-    Inv-loop
-    μ-loop
-    used-slots-requires
-    loop-holds
-    slot-at-requires
-    add-count
-    add-q
-    loop-less
-    loop-again
-    returns)
+    tie.close (tie.spec Inv-loop μ-loop used-slots-requires loop-holds slot-at-requires (λ c. omega arith)
+    (λ c. omega arith) (λ c. omega arith) loop-again returns)

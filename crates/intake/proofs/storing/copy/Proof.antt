@@ -5,14 +5,8 @@ use borrow.Author.Needs.{needs}
 use Rattle.intake.proofs.storing.copy.Statement.{statement}
 use Rattle.intake.proofs.storing.copy.Tie as tie
 
-put-bytes-requires : tie.Need-put-bytes-requires
-put-bytes-requires c κs = search needs
-
-same-length : tie.Need-same-length
-same-length c = search needs
-
 returns : tie.Need-returns
 returns c = c .before .before .put-bytes .ensures ∙ sets-whole (c .before .before .before .before .before .before .args .src .now) (c .before .before .before .before .before .before .args .dst .now) (sym (c .before .before .before .before .before .before .pre))
 
 pub copy-spec : {M : Type 1} → statement M
-copy-spec = tie.close (tie.spec put-bytes-requires same-length returns)
+copy-spec = tie.close (tie.spec (λ c κs. search needs) (λ c. search needs) returns)

@@ -52,12 +52,6 @@ store-block-requires c κs =
       ),
     )
 
-add-p : tie.Need-add-p Inv-loop μ-loop
-add-p c = search needs
-
-loop-less : tie.Need-loop-less Inv-loop μ-loop
-loop-less c = search needs
-
 loop-again : tie.Need-loop-again Inv-loop μ-loop
 loop-again c =
     let s = c .before .before .before .before .before .before .before .before .before .before .before in
@@ -70,9 +64,6 @@ loop-again c =
           (omega (arith, size (c .before .before .before .before .before .before), c .before .before .before .before .loop-test .taken)) (l .inv .2)),
     )
 
-same-length : tie.Need-same-length Inv-loop μ-loop
-same-length c = search needs
-
 returns : tie.Need-returns Inv-loop μ-loop
 returns c =
     let s = c .before .before .before .before .before .before .before in
@@ -83,15 +74,5 @@ returns c =
 
 pub store-all-spec : {M : Type 1} → statement M
 store-all-spec =
-    tie.close
-    (tie.spec
-    Inv-loop
-    μ-loop
-    blocks-requires
-    loop-holds
-    store-block-requires
-    add-p
-    loop-less
-    loop-again
-    same-length
-    returns)
+    tie.close (tie.spec Inv-loop μ-loop blocks-requires loop-holds store-block-requires (λ c. search needs)
+    (λ c. search needs) loop-again (λ c. search needs) returns)

@@ -28,48 +28,18 @@ held c = passed (c .before .is-held2 .ensures) (c .if2 .left)
 mark : (c : tie.Else2) → getD (c .before .before .before .before .before .before .before .before .args .by .now) (c .before .before .before .before .before .before .before .before .args .p .0) 0 < c .before .before .before .before .before .before .before .before .args .shape .changes
 mark c = c .before .before .before .before .before .before .before .before .pre .1 .1 (free (c .before .before)) (held c)
 
-is-held-requires : tie.Need-is-held-requires
-is-held-requires c κs = search needs
-
 returns : tie.Need-returns
 returns c =
     let a = c .before .before .before .before .before .before .args in
     stored-old (bookOf (a .book .now) .entries) (bookOf (a .work .now) .entries) (a .by .now) (a .list .now) (a .pool .now) (a .p .0) (sym (c .before .is-held .ensures) ∙ c .if1 .taken)
-
-is-held-requires-2 : tie.Need-is-held-requires-2
-is-held-requires-2 c κs = search needs
 
 returns-2 : tie.Need-returns-2
 returns-2 c =
     let a = c .before .before .before .before .before .before .before .before .args in
     stored-free (bookOf (a .book .now) .entries) (bookOf (a .work .now) .entries) (a .by .now) (a .list .now) (a .pool .now) (a .p .0) (free (c .before .before)) (failed (c .before .is-held2 .ensures) (c .if2 .taken))
 
-cast-at : tie.Need-cast-at
-cast-at c = search needs
-
-mul-from : tie.Need-mul-from
-mul-from c = search needs
-
-add-to : tie.Need-add-to
-add-to c = search needs
-
-mul-i : tie.Need-mul-i
-mul-i c = search needs
-
-element-copy-out-i : tie.Need-element-copy-out-i
-element-copy-out-i c = search needs
-
 cast-i : tie.Need-cast-i
 cast-i c = omega (arith, mark (c .before .before), c .before .before .before .before .before .before .before .before .before .before .pre .0 .2 .size)
-
-sub-copy : tie.Need-sub-copy
-sub-copy c = search needs
-
-part-copy-start : tie.Need-part-copy-start
-part-copy-start c = search needs
-
-part-copy-end : tie.Need-part-copy-end
-part-copy-end c = search needs
 
 block-of-requires : tie.Need-block-of-requires
 block-of-requires c κs = (c .before .before .before .before .before .before .before .before .before .before .before .pre .0 .2, mark (c .before .before .before))
@@ -83,9 +53,6 @@ copy-requires c κs =
     ∙ length-part (a .pool .now) at blockSize (omega (arith, s .pre .1 .0 .0, s .pre .1 .0 .2))
     ∙ sym (ap length (c .block-of .ensures) ∙ length-block (a .list .now) (a .shape) (s .pre .0 .2) _ (omega (arith, mark (c .before .before .before .before), s .pre .0 .2 .changes)))
 
-same-length : tie.Need-same-length
-same-length c = search needs
-
 returns-3 : tie.Need-returns-3
 returns-3 c =
     let a = c .before .before .before .before .before .before .before .before .before .before .before .before .before .before .before .args in
@@ -95,22 +62,6 @@ returns-3 c =
 
 pub store-block-spec : {M : Type 1} → statement M
 store-block-spec =
-    tie.close
-    (tie.spec
-    is-held-requires
-    returns
-    is-held-requires-2
-    returns-2
-    cast-at
-    mul-from
-    add-to
-    mul-i
-    element-copy-out-i
-    cast-i
-    sub-copy
-    part-copy-start
-    part-copy-end
-    block-of-requires
-    copy-requires
-    same-length
-    returns-3)
+    tie.close (tie.spec (λ c κs. search needs) returns (λ c κs. search needs) returns-2 (λ c. search needs)
+    (λ c. search needs) (λ c. search needs) (λ c. search needs) (λ c. search needs) cast-i (λ c. search needs)
+    (λ c. search needs) (λ c. search needs) block-of-requires copy-requires (λ c. search needs) returns-3)

@@ -31,18 +31,6 @@ place-requires c κs =
     let s = c .before .before .before .before .before .before .before .before in
     (s .pre .0, ((s .pre .1 .0 .0, s .pre .1 .0 .1), (s .pre .1 .1 .0, s .pre .1 .1 .1 .1)))
 
-enum-known-placed : tie.Need-enum-known-placed
-enum-known-placed c = search needs
-
-enum-told : tie.Need-enum-told
-enum-told c = search needs
-
-placed-number-requires : tie.Need-placed-number-requires
-placed-number-requires c κs = search needs
-
-same-length : tie.Need-same-length
-same-length c = search needs
-
 returns : tie.Need-returns
 unfolding StillIndexed
 returns c =
@@ -70,9 +58,6 @@ move-to-requires c κs =
     let lbn = change-below (x .sizes .l) (a .list .now) (job .good) (a .i) b in
     (h .3, ((s .pre .1 .0 .2, omega (arith, s .pre .1 .1 .1 .0), omega (arith, h .2)), ((omega (arith, st .records, job .room), omega (arith, st .touched, s .pre .0 .0 .l)), st .maps)))
 
-same-length-2 : tie.Need-same-length-2
-same-length-2 c = search needs
-
 returns-2 : tie.Need-returns-2
 returns-2 c =
     let d = c .before .before .before .before .before in
@@ -87,14 +72,5 @@ returns-2 c =
 
 pub change-spec : {M : Type 1} → statement M
 change-spec =
-    tie.close
-    (tie.spec
-    place-requires
-    enum-known-placed
-    enum-told
-    placed-number-requires
-    same-length
-    returns
-    move-to-requires
-    same-length-2
-    returns-2)
+    tie.close (tie.spec place-requires (λ c. search needs) (λ c. search needs) (λ c κs. search needs)
+    (λ c. search needs) returns move-to-requires (λ c. search needs) returns-2)

@@ -70,24 +70,12 @@ lbn-at-requires c κs =
     let l = c .before .before .loop .inv in
     (start (c .before .before .before) .pre .1 .0 .0 .whole, l .4, omega (arith, l .5, c .if1 .taken))
 
-cast-change : tie.Need-cast-change Inv-loop μ-loop
-cast-change c = search needs
-
 change-requires : tie.Need-change-requires Inv-loop μ-loop
 change-requires c κs =
     let t = c .before .before .before .before .before in
     let s = start (t .before .before .before) in
     let l = t .before .before .loop .inv in
     ((s .pre .0 .0, l .2), ((s .pre .1 .0 .0, t .if1 .taken, s .pre .1 .0 .1), (l .3, (c .before .before .before .before .lbn-at .ensures ∙ ap (λ (k : ℕ). changeAt (s .args .list .now) k .lbn) (l .5), l .7))))
-
-enum-known-step : tie.Need-enum-known-step Inv-loop μ-loop
-enum-known-step c = search needs
-
-enum-told : tie.Need-enum-told Inv-loop μ-loop
-enum-told c = search needs
-
-same-length : tie.Need-same-length Inv-loop μ-loop
-same-length c = search needs
 
 returns : tie.Need-returns Inv-loop μ-loop
 returns c =
@@ -102,12 +90,6 @@ next-requires c κs =
     let t = turn (c .before .before .before .before .before) in
     let l = t .before .before .loop .inv in
     (start (t .before .before .before) .pre .1 .0 .0 .whole, l .4, omega (arith, l .5, t .if1 .taken))
-
-add-i : tie.Need-add-i Inv-loop μ-loop
-add-i c = search needs
-
-loop-less : tie.Need-loop-less Inv-loop μ-loop
-loop-less c = search needs
 
 loop-again : tie.Need-loop-again Inv-loop μ-loop
 unfolding SteppedBy StillIndexed
@@ -127,9 +109,6 @@ loop-again c =
       indexed (c .before .before),
     )
 
-same-length-2 : tie.Need-same-length-2 Inv-loop μ-loop
-same-length-2 c = search needs
-
 returns-2 : tie.Need-returns-2 Inv-loop μ-loop
 returns-2 c =
     let l = c .before .before .loop in
@@ -139,23 +118,6 @@ returns-2 c =
 
 pub run-changes-spec : {M : Type 1} → statement M
 run-changes-spec =
-    tie.close
-    (tie.spec
-    Inv-loop
-    μ-loop
-    build-requires
-    start-requires
-    loop-holds
-    lbn-at-requires
-    cast-change
-    change-requires
-    enum-known-step
-    enum-told
-    same-length
-    returns
-    next-requires
-    add-i
-    loop-less
-    loop-again
-    same-length-2
-    returns-2)
+    tie.close (tie.spec Inv-loop μ-loop build-requires start-requires loop-holds lbn-at-requires (λ c. search needs)
+    change-requires (λ c. search needs) (λ c. search needs) (λ c. search needs) returns next-requires
+    (λ c. search needs) (λ c. search needs) loop-again (λ c. search needs) returns-2)

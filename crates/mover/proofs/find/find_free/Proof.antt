@@ -11,24 +11,6 @@ use borrow.Author.Needs.{needs}
 use Rattle.mover.proofs.find.find_free.Statement.{statement}
 use Rattle.mover.proofs.find.find_free.Tie as tie
 
-cursor-requires : tie.Need-cursor-requires
-cursor-requires c κs = search needs
-
-blocks-requires : tie.Need-blocks-requires
-blocks-requires c κs = search needs
-
-first-free-requires : tie.Need-first-free-requires
-first-free-requires c κs = search needs
-
-enum-known-up : tie.Need-enum-known-up
-enum-known-up c = search needs
-
-enum-told : tie.Need-enum-told
-enum-told c = search needs
-
-first-free-requires-2 : tie.Need-first-free-requires-2
-first-free-requires-2 c κs = search needs
-
 returns : tie.Need-returns
 returns c =
     let b = c .before .before .before .before .before .before .before in
@@ -50,13 +32,5 @@ returns-2 c =
 
 pub find-free-spec : {M : Type 1} → statement M
 find-free-spec =
-    tie.close
-    (tie.spec
-    cursor-requires
-    blocks-requires
-    first-free-requires
-    enum-known-up
-    enum-told
-    first-free-requires-2
-    returns
-    returns-2)
+    tie.close (tie.spec (λ c κs. search needs) (λ c κs. search needs) (λ c κs. search needs) (λ c. search needs)
+    (λ c. search needs) (λ c κs. search needs) returns returns-2)

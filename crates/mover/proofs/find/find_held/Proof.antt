@@ -13,21 +13,6 @@ use borrow.Author.Needs.{needs}
 use Rattle.mover.proofs.find.find_held.Statement.{statement}
 use Rattle.mover.proofs.find.find_held.Tie as tie
 
-mul-from : tie.Need-mul-from
-mul-from c = search needs
-
-add-to : tie.Need-add-to
-add-to c = search needs
-
-sub-find : tie.Need-sub-find
-sub-find c = search needs
-
-part-find-start : tie.Need-part-find-start
-part-find-start c = search needs
-
-part-find-end : tie.Need-part-find-end
-part-find-end c = search needs
-
 find-requires : tie.Need-find-requires
 find-requires c κs =
     let s = c .before .before .before in
@@ -40,5 +25,5 @@ returns c =
 
 pub find-held-spec : {M : Type 1} → statement M
 find-held-spec =
-    tie.close
-    (tie.spec mul-from add-to sub-find part-find-start part-find-end find-requires returns)
+    tie.close (tie.spec (λ c. search needs) (λ c. search needs) (λ c. search needs) (λ c. search needs)
+    (λ c. search needs) find-requires returns)

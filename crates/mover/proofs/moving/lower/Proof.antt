@@ -34,15 +34,9 @@ returns c = lower-none (c .before .before .before .args .until) (c .before .befo
 count-requires : tie.Need-count-requires
 count-requires c κs = (c .before .before .before .before .pre .0, inside (c .before))
 
-same-length : tie.Need-same-length
-same-length c = search needs
-
 returns-2 : tie.Need-returns-2
 returns-2 c =
     lower-zero (c .before .before .before .before .before .before .args .until) (c .before .before .before .before .before .before .args .before .0) (c .before .before .before .before .before .before .args .work .now) _ (c .before .before .before .if1 .left) (sym (c .before .count .ensures) ∙ c .if2 .taken)
-
-sub-set-count : tie.Need-sub-set-count
-sub-set-count c = search needs
 
 set-count-requires : tie.Need-set-count-requires
 set-count-requires c κs = (c .before .before .before .before .before .before .before .pre .0, inside (c .before .before .before .before))
@@ -55,17 +49,11 @@ set-expiry-requires : tie.Need-set-expiry-requires
 unfolding withEntries
 set-expiry-requires c κs = (c .before .before .before .before .before .before .set-count .ensures .holds, omega (arith, inside (c .before .before .before .before .before .before .before .before .before .before .before), ap (λ (x : Book). x .sizes .n) (c .before .before .before .before .before .before .set-count .ensures .book)))
 
-same-length-2 : tie.Need-same-length-2
-same-length-2 c = search needs
-
 returns-3 : tie.Need-returns-3
 returns-3 c =
     let a = c .before .before .before .before .before .before .before .before .before .before .before .before .before .before .before .before .before .args in
     lower-early (a .until) (a .before .0) (a .work .now) (c .before .before .before .before .before .before .before .before .before .before .before .before .before .before .if1 .left) (some (c .before .before .before .before .before .before .before .before .before .before .before)) (within (c .before .before .before .before .before .before .before .before .before .before .before .before .before .before)) (c .before .before .before .before .before .before .before .before .before .set-count .last .0) (down (c .before .before .before .before .before .before .before .before .before)) _
     (omega (arith, c .before .before .before .before .before .expiry .ensures, c .before .before .before .before .if3 .taken)) (c .before .before .set-expiry .ensures)
-
-same-length-3 : tie.Need-same-length-3
-same-length-3 c = search needs
 
 returns-4 : tie.Need-returns-4
 returns-4 c =
@@ -75,17 +63,5 @@ returns-4 c =
 
 pub lower-spec : {M : Type 1} → statement M
 lower-spec =
-    tie.close
-    (tie.spec
-    returns
-    count-requires
-    same-length
-    returns-2
-    sub-set-count
-    set-count-requires
-    expiry-requires
-    set-expiry-requires
-    same-length-2
-    returns-3
-    same-length-3
-    returns-4)
+    tie.close (tie.spec returns count-requires (λ c. search needs) returns-2 (λ c. search needs) set-count-requires
+    expiry-requires set-expiry-requires (λ c. search needs) returns-3 (λ c. search needs) returns-4)

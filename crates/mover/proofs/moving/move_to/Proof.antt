@@ -42,15 +42,9 @@ counted : (c : tie.After-count) → c .count .result
 unfolding withEntries
 counted c = c .count .ensures ∙ ap (λ (x : Book). entryAt (x .entries) (c .before .before .before .before .before .before .before .before .before .before .args .p .0) .count) (low (c .before .before) .book)
 
-cell-requires : tie.Need-cell-requires
-cell-requires c κs = search needs
-
 lower-requires : tie.Need-lower-requires
 lower-requires c κs =
     (c .before .before .before .before .pre .0, rw (c .before .cell .ensures) (cell-ok (bookOf (c .before .before .before .before .args .work .now) .maps) (bookOf (c .before .before .before .before .args .work .now) .sizes .n) (c .before .before .before .before .args .v) (c .before .before .before .before .args .lbn .0) (c .before .before .before .before .pre .1 .1 .1)))
-
-same-length : tie.Need-same-length
-same-length c = search needs
 
 returns : tie.Need-returns
 unfolding MovedBy
@@ -61,9 +55,6 @@ returns c =
 count-requires : tie.Need-count-requires
 unfolding withEntries
 count-requires c κs = (low (c .before) .holds, omega (arith, c .before .before .before .before .before .before .before .before .before .pre .1 .0 .2, ap (λ (x : Book). x .sizes .n) (low (c .before) .book)))
-
-same-length-2 : tie.Need-same-length-2
-same-length-2 c = search needs
 
 returns-2 : tie.Need-returns-2
 unfolding MovedBy
@@ -92,15 +83,9 @@ name-block-requires c κs =
       ),
     )
 
-touches-requires : tie.Need-touches-requires
-touches-requires c κs = search needs
-
 add-touched : tie.Need-add-touched
 add-touched c =
     omega (arith, c .before .touches .ensures, at-most-two (eqb (c .before .before .before .before .before .before .before .before .before .before .before .before .before .before .cell .result .0) unmapped), c .before .before .before .before .before .before .before .before .before .before .before .before .before .before .before .before .before .pre .1 .1 .0 .1)
-
-same-length-3 : tie.Need-same-length-3
-same-length-3 c = search needs
 
 returns-3 : tie.Need-returns-3
 unfolding MovedBy withEntries
@@ -120,17 +105,5 @@ returns-3 c =
 
 pub move-to-spec : {M : Type 1} → statement M
 move-to-spec =
-    tie.close
-    (tie.spec
-    cell-requires
-    lower-requires
-    same-length
-    returns
-    count-requires
-    same-length-2
-    returns-2
-    name-block-requires
-    touches-requires
-    add-touched
-    same-length-3
-    returns-3)
+    tie.close (tie.spec (λ c κs. search needs) lower-requires (λ c. search needs) returns count-requires
+    (λ c. search needs) returns-2 name-block-requires (λ c κs. search needs) add-touched (λ c. search needs) returns-3)

@@ -9,12 +9,6 @@ use borrow.Author.Needs.{needs}
 use Rattle.mover.proofs.moving.name_block.Statement.{statement}
 use Rattle.mover.proofs.moving.name_block.Tie as tie
 
-add-set-count : tie.Need-add-set-count
-add-set-count c = search needs
-
-set-count-requires : tie.Need-set-count-requires
-set-count-requires c κs = search needs
-
 set-cell-requires : tie.Need-set-cell-requires
 unfolding withEntries
 set-cell-requires c κs =
@@ -29,9 +23,6 @@ append-record-requires c κs =
       omega (arith, c .before .before .before .before .before .before .before .before .before .before .pre .1 .1 .0 .0, ap (λ (x : Book). length (x .records)) i, ap (λ (x : Book). length (x .records)) j, ap (λ (x : Book). x .sizes .j) i, ap (λ (x : Book). x .sizes .j) j),
     )
 
-same-length : tie.Need-same-length
-same-length c = search needs
-
 returns : tie.Need-returns
 returns c =
     let s = c .before .before .before .before .before .before .before .before .before .before .before .before .before in
@@ -40,11 +31,5 @@ returns c =
 
 pub name-block-spec : {M : Type 1} → statement M
 name-block-spec =
-    tie.close
-    (tie.spec
-    add-set-count
-    set-count-requires
-    set-cell-requires
-    append-record-requires
-    same-length
-    returns)
+    tie.close (tie.spec (λ c. search needs) (λ c κs. search needs) set-cell-requires append-record-requires
+    (λ c. search needs) returns)

@@ -34,33 +34,15 @@ looked c =
     ∙ ap (λ (f : List ℕ). foundOf (findHeld (bookOf (a .work .now) .entries) f))
     (ap (λ (f : List ℕ). part f (a .i * printSize) printSize) (c .before .prints .ensures) ∙ print-part (a .list .now) (a .shape .changes) (a .i) (start c .pre .1 .0 .1)))
 
-prints-requires : tie.Need-prints-requires
-prints-requires c κs = search needs
-
 find-held-requires : tie.Need-find-held-requires
 find-held-requires c κs =
     let s = c .before .before .before .before .before .before .before .before in
     (s .pre .0 .1, (s .pre .1 .1 .1, omega (arith, ap length (c .prints .ensures), prints-size (s .args .list .now) (s .args .shape) (s .pre .1 .0 .0 .whole), s .pre .1 .0 .1)))
 
-enum-known-held : tie.Need-enum-known-held
-enum-known-held c = search needs
-
-enum-told : tie.Need-enum-told
-enum-told c = search needs
-
 find-free-requires : tie.Need-find-free-requires
 find-free-requires c κs =
     let s = start (c .before .before .before) in
     (s .pre .0 .1, s .pre .1 .1 .0 .cursor)
-
-enum-known-free : tie.Need-enum-known-free
-enum-known-free c = search needs
-
-enum-told-2 : tie.Need-enum-told-2
-enum-told-2 c = search needs
-
-same-length : tie.Need-same-length
-same-length c = search needs
 
 returns : tie.Need-returns
 returns c =
@@ -85,9 +67,6 @@ add-taken : tie.Need-add-taken
 add-taken c =
     let s = start (c .before .before .before .before .before .before .before .before .before .before .before .before .before .before .before) in
     omega (arith, s .pre .1 .1 .0 .taken, below s, changes-within (bookOf (s .args .book .now) .sizes .l) (s .args .list .now) (s .pre .1 .0 .0 .good), s .pre .0 .0 .l)
-
-same-length-2 : tie.Need-same-length-2
-same-length-2 c = search needs
 
 returns-2 : tie.Need-returns-2
 returns-2 c =
@@ -122,9 +101,6 @@ same-block-requires c κs =
       ),
     )
 
-same-length-3 : tie.Need-same-length-3
-same-length-3 c = search needs
-
 returns-3 : tie.Need-returns-3
 returns-3 c =
     let f = c .before .before .before .before .before .before in
@@ -136,9 +112,6 @@ returns-3 c =
           (failed (c .before .same-block .ensures) (c .if1 .taken)),
       s .pre .1 .1 .1,
     )
-
-same-length-4 : tie.Need-same-length-4
-same-length-4 c = search needs
 
 returns-4 : tie.Need-returns-4
 returns-4 c =
@@ -154,23 +127,6 @@ returns-4 c =
 
 pub place-spec : {M : Type 1} → statement M
 place-spec =
-    tie.close
-    (tie.spec
-    prints-requires
-    find-held-requires
-    enum-known-held
-    enum-told
-    find-free-requires
-    enum-known-free
-    enum-told-2
-    same-length
-    returns
-    take-block-requires
-    add-taken
-    same-length-2
-    returns-2
-    same-block-requires
-    same-length-3
-    returns-3
-    same-length-4
-    returns-4)
+    tie.close (tie.spec (λ c κs. search needs) find-held-requires (λ c. search needs) (λ c. search needs)
+    find-free-requires (λ c. search needs) (λ c. search needs) (λ c. search needs) returns take-block-requires add-taken
+    (λ c. search needs) returns-2 same-block-requires (λ c. search needs) returns-3 (λ c. search needs) returns-4)

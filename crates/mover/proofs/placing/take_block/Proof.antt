@@ -25,41 +25,14 @@ size : (c : tie.After-blocks2) → c .blocks2 .result ≡ bookOf (start (c .befo
 unfolding withEntries
 size c = c .blocks2 .ensures ∙ ap (λ (x : Book). x .sizes .n) (held (c .before .before .before .before) .book)
 
-print-of-requires : tie.Need-print-of-requires
-print-of-requires c κs = search needs
-
 hold-requires : tie.Need-hold-requires
 hold-requires c κs =
     let s = c .before .before .before .before .before .before in
     let small = ap length (c .print-of .ensures) ∙ length-print (s .args .list .now) (s .args .shape) (s .pre .1 .0 .0) (s .args .i) (omega (arith, s .pre .1 .0 .1, s .pre .1 .0 .0 .changes)) in
     (s .pre .0, (s .pre .1 .1 .0, (small, s .pre .1 .1 .1)))
 
-blocks-requires : tie.Need-blocks-requires
-blocks-requires c κs = search needs
-
-add-set-cursor : tie.Need-add-set-cursor
-add-set-cursor c = search needs
-
 rem-set-cursor : tie.Need-rem-set-cursor
 rem-set-cursor c = omega (arith, size (c .before .before), start (c .before .before .before .before .before .before) .pre .1 .1 .0 .0)
-
-set-cursor-requires : tie.Need-set-cursor-requires
-set-cursor-requires c κs = search needs
-
-cast-at : tie.Need-cast-at
-cast-at c = search needs
-
-cast-by : tie.Need-cast-by
-cast-by c = search needs
-
-mul-by : tie.Need-mul-by
-mul-by c = search needs
-
-element-write-by : tie.Need-element-write-by
-element-write-by c = search needs
-
-same-length : tie.Need-same-length
-same-length c = search needs
 
 returns : tie.Need-returns
 returns c =
@@ -74,17 +47,6 @@ returns c =
 
 pub take-block-spec : {M : Type 1} → statement M
 take-block-spec =
-    tie.close
-    (tie.spec
-    print-of-requires
-    hold-requires
-    blocks-requires
-    add-set-cursor
-    rem-set-cursor
-    set-cursor-requires
-    cast-at
-    cast-by
-    mul-by
-    element-write-by
-    same-length
-    returns)
+    tie.close (tie.spec (λ c κs. search needs) hold-requires (λ c κs. search needs) (λ c. search needs) rem-set-cursor
+    (λ c κs. search needs) (λ c. search needs) (λ c. search needs) (λ c. search needs) (λ c. search needs)
+    (λ c. search needs) returns)

@@ -15,9 +15,6 @@ in-form c = sym (c .before .form-number .ensures) ∙ c .if1 .left
 holds : (c : tie.Else1) → Holds (now (c .before .before .before .args .book))
 holds c = holds-form _ (λ i. c .before .before .shared-slice-known .given i .fits) (in-form c)
 
-form-number-requires : tie.Need-form-number-requires
-form-number-requires c κs = search needs
-
 returns : tie.Need-returns
 returns c = counted-refused _ (c .before .form-number .ensures) (c .if1 .taken)
 
@@ -27,16 +24,12 @@ count-entries-requires c κs = holds c
 blocks-requires : tie.Need-blocks-requires
 blocks-requires c κs = holds (c .before)
 
-cast-held : tie.Need-cast-held
-cast-held c = search needs
-
-cast-waiting : tie.Need-cast-waiting
-cast-waiting c = search needs
-
 returns-2 : tie.Need-returns-2
 returns-2 c =
     let k = c .before .before in
     counted-up _ (in-form (k .before .before)) (k .blocks2 .ensures) (k .before .count-entries .ensures .0)
 
 pub count-spec : {M : Type 1} → statement M
-count-spec = tie.close (tie.spec form-number-requires returns count-entries-requires blocks-requires cast-held cast-waiting returns-2)
+count-spec =
+    tie.close (tie.spec (λ c κs. search needs) returns count-entries-requires blocks-requires (λ c. search needs)
+    (λ c. search needs) returns-2)

@@ -33,9 +33,6 @@ count-entry-requires c κs =
 add-p : tie.Need-add-p Inv-loop μ-loop
 add-p c = omega (arith, c .before .before .before .before .before .before .before .pre .n)
 
-loop-less : tie.Need-loop-less Inv-loop μ-loop
-loop-less c = omega arith
-
 loop-again : tie.Need-loop-again Inv-loop μ-loop
 loop-again c =
     let k = c .before in
@@ -53,16 +50,5 @@ returns c =
 
 pub count-entries-spec : {M : Type 1} → statement M
 count-entries-spec =
-    tie.close
-    (tie.spec
-    Inv-loop
-    μ-loop
-    blocks-requires
-    loop-holds
-    is-held-requires
-    count-requires
-    count-entry-requires
-    add-p
-    loop-less
-    loop-again
-    returns)
+    tie.close (tie.spec Inv-loop μ-loop blocks-requires loop-holds is-held-requires count-requires count-entry-requires
+    add-p (λ c. omega arith) loop-again returns)

@@ -5,37 +5,16 @@ use Rattle.pages.specs.Counts.{counted-free, counted-waiting, counted-na
 use Rattle.pages.proofs.counts.count_entry.Statement.{statement}
 use Rattle.pages.proofs.counts.count_entry.Tie as tie
 
-wide-requires : tie.Need-wide-requires
-wide-requires c κs = search needs
-
-cast-references : tie.Need-cast-references
-cast-references c = search needs
-
-add-references : tie.Need-add-references
-add-references c = search needs
-
-add-t8 : tie.Need-add-t8
-add-t8 c = search needs
-
 returns : tie.Need-returns
 returns c =
     let a = c .before .before .before .before .args in
     counted-free (a .t) (a .held) (c .before .before .before .wide .ensures .0) (not-true (a .held) (c .before .if1 .taken))
-
-add-t9 : tie.Need-add-t9
-add-t9 c = search needs
-
-add-t10 : tie.Need-add-t10
-add-t10 c = search needs
 
 returns-2 : tie.Need-returns-2
 returns-2 c =
     let e = c .before .before .before in
     let a = e .before .before .before .args in
     counted-waiting (a .t) (a .held) (e .before .before .wide .ensures .0) (not-false (a .held) (e .if1 .left)) (c .before .before .if2 .taken)
-
-add-t6 : tie.Need-add-t6
-add-t6 c = search needs
 
 returns-3 : tie.Need-returns-3
 returns-3 c =
@@ -45,15 +24,5 @@ returns-3 c =
 
 pub count-entry-spec : {M : Type 1} → statement M
 count-entry-spec =
-    tie.close
-    (tie.spec
-    wide-requires
-    cast-references
-    add-references
-    add-t8
-    returns
-    add-t9
-    add-t10
-    returns-2
-    add-t6
-    returns-3)
+    tie.close (tie.spec (λ c κs. search needs) (λ c. search needs) (λ c. search needs) (λ c. search needs) returns
+    (λ c. search needs) (λ c. search needs) returns-2 (λ c. search needs) returns-3)

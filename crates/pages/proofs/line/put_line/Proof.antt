@@ -14,17 +14,11 @@ put-bytes-requires c κs =
     let s = c .before .before .before in
     omega (arith, line-length (s .args .word .now) (s .args .n), s .pre)
 
-add-blank : tie.Need-add-blank
-add-blank c = search needs
-
 slice-write-page : tie.Need-slice-write-page
 slice-write-page c =
     let k = c .before .before in
     let s = k .before .before .before .before in
     omega (arith, line-length (s .args .word .now) (s .args .n), s .pre, k .put-bytes .kept .0)
-
-add-put-decimal : tie.Need-add-put-decimal
-add-put-decimal c = search needs
 
 put-decimal-requires : tie.Need-put-decimal-requires
 put-decimal-requires c κs =
@@ -62,14 +56,5 @@ same-length c = ap length (returns c .list) ∙ simp length-sets
 
 pub put-line-spec : {M : Type 1} → statement M
 put-line-spec =
-    tie.close
-    (tie.spec
-    put-bytes-requires
-    add-blank
-    slice-write-page
-    add-put-decimal
-    put-decimal-requires
-    slice-write-page-2
-    add-result
-    same-length
-    returns)
+    tie.close (tie.spec put-bytes-requires (λ c. search needs) slice-write-page (λ c. search needs) put-decimal-requires
+    slice-write-page-2 add-result same-length returns)

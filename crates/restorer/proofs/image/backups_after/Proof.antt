@@ -30,15 +30,6 @@ returns c =
     let l = k .before .before .loop in
     skipped-stop _ _ _ (l .q) (l .missing) (l .inv .1) (k .slot-at .result) (k .slot-at .ensures) (omega arith) (omega arith)
 
-sub-missing : tie.Need-sub-missing Inv-loop μ-loop
-sub-missing c = omega arith
-
-add-q : tie.Need-add-q Inv-loop μ-loop
-add-q c = omega arith
-
-loop-less : tie.Need-loop-less Inv-loop μ-loop
-loop-less c = omega arith
-
 loop-again : tie.Need-loop-again Inv-loop μ-loop
 loop-again c =
     let k = c .before .before in
@@ -58,16 +49,5 @@ returns-2 c =
 
 pub backups-after-spec : {M : Type 1} → statement M
 backups-after-spec =
-    tie.close
-    (tie.spec
-    Inv-loop
-    μ-loop
-    used-slots-requires
-    loop-holds
-    slot-at-requires
-    returns
-    sub-missing
-    add-q
-    loop-less
-    loop-again
-    returns-2)
+    tie.close (tie.spec Inv-loop μ-loop used-slots-requires loop-holds slot-at-requires returns (λ c. omega arith)
+    (λ c. omega arith) (λ c. omega arith) loop-again returns-2)

@@ -16,9 +16,6 @@ Inv-loop book first number lbn end q₀ q =
 abbrev μ-loop : tie.MeasureT-loop
 μ-loop book first number lbn end q₀ q = end - q
 
-add-end : tie.Need-add-end Inv-loop μ-loop
-add-end c = omega arith
-
 loop-holds : tie.Need-loop-holds Inv-loop μ-loop
 loop-holds c = (omega arith, omega arith, refl)
 
@@ -33,12 +30,6 @@ returns c =
     let rs = bookOf (now (a .book)) .records in
     let here = span-here (a .lbn .0) rs (l .q) (a .first + a .number) (omega arith) (omega arith) (sym (k .record-at .ensures .lbn) ∙ c .before .if1 .taken) in
     ap (λ (n : ℕ). At (record { 0 = n })) (k .record-at .ensures .before) ∙ sym (sym (span-whole (a .lbn .0) (a .first) (a .number) rs) ∙ l .inv .2 ∙ here)
-
-add-q : tie.Need-add-q Inv-loop μ-loop
-add-q c = omega arith
-
-loop-less : tie.Need-loop-less Inv-loop μ-loop
-loop-less c = omega arith
 
 loop-again : tie.Need-loop-again Inv-loop μ-loop
 loop-again c =
@@ -58,15 +49,5 @@ returns-2 c =
 
 pub first-before-spec : {M : Type 1} → statement M
 first-before-spec =
-    tie.close
-    (tie.spec
-    Inv-loop
-    μ-loop
-    add-end
-    loop-holds
-    record-at-requires
-    returns
-    add-q
-    loop-less
-    loop-again
-    returns-2)
+    tie.close (tie.spec Inv-loop μ-loop (λ c. omega arith) loop-holds record-at-requires returns (λ c. omega arith)
+    (λ c. omega arith) loop-again returns-2)

@@ -7,18 +7,6 @@ use Rattle.restorer.specs.Befores.{image-before, image-current}
 use Rattle.restorer.proofs.image.image_at.Statement.{statement}
 use Rattle.restorer.proofs.image.image_at.Tie as tie
 
-later-before-requires : tie.Need-later-before-requires
-later-before-requires c κs = search needs
-
-enum-known-found : tie.Need-enum-known-found
-enum-known-found c = search needs
-
-enum-told : tie.Need-enum-told
-enum-told c = search needs
-
-cell-requires : tie.Need-cell-requires
-cell-requires c κs = search needs
-
 returns : tie.Need-returns
 returns c =
     let k = c .before .before .before in
@@ -34,5 +22,5 @@ returns-2 c =
 
 pub image-at-spec : {M : Type 1} → statement M
 image-at-spec =
-    tie.close
-    (tie.spec later-before-requires enum-known-found enum-told cell-requires returns returns-2)
+    tie.close (tie.spec (λ c κs. search needs) (λ c. search needs) (λ c. search needs) (λ c κs. search needs) returns
+    returns-2)

@@ -8,26 +8,8 @@ use Rattle.restorer.specs.After.{kept-newest, kept-replaced}
 use Rattle.restorer.proofs.image.is_kept.Statement.{statement}
 use Rattle.restorer.proofs.image.is_kept.Tie as tie
 
-used-slots-requires : tie.Need-used-slots-requires
-used-slots-requires c κs = search needs
-
 returns : tie.Need-returns
 returns c = sym (kept-newest _ _ _ (omega arith))
-
-slot-at-requires : tie.Need-slot-at-requires
-slot-at-requires c κs = search needs
-
-cast-result : tie.Need-cast-result
-cast-result c = search needs
-
-add-result : tie.Need-add-result
-add-result c = search needs
-
-day-requires : tie.Need-day-requires
-day-requires c κs = search needs
-
-cast-result-2 : tie.Need-cast-result-2
-cast-result-2 c = search needs
 
 returns-2 : tie.Need-returns-2
 returns-2 c =
@@ -38,13 +20,5 @@ returns-2 c =
 
 pub is-kept-spec : {M : Type 1} → statement M
 is-kept-spec =
-    tie.close
-    (tie.spec
-    used-slots-requires
-    returns
-    slot-at-requires
-    cast-result
-    add-result
-    day-requires
-    cast-result-2
-    returns-2)
+    tie.close (tie.spec (λ c κs. search needs) returns (λ c κs. search needs) (λ c. search needs) (λ c. search needs)
+    (λ c κs. search needs) (λ c. search needs) returns-2)

@@ -24,12 +24,6 @@ loop-holds c = (omega arith, refl)
 slot-before-requires : tie.Need-slot-before-requires Inv-loop μ-loop
 slot-before-requires c κs = (c .before .before .before .before .pre, omega arith)
 
-enum-told : tie.Need-enum-told Inv-loop μ-loop
-enum-told c = search needs
-
-enum-told-2 : tie.Need-enum-told-2 Inv-loop μ-loop
-enum-told-2 c = search needs
-
 returns : tie.Need-returns Inv-loop μ-loop
 returns c =
     let k = c .before .before in
@@ -37,12 +31,6 @@ returns c =
     let a = k .before .before .before .before .before .args in
     let e = c .enum-told2 .given .1 in
     e ∙ sym (l .inv .1 ∙ later-here (bookOf (now (a .book))) (a .v) (l .q) (a .lbn .0) _ (omega arith) (sym (k .slot-before .ensures) ∙ e))
-
-add-q : tie.Need-add-q Inv-loop μ-loop
-add-q c = omega arith
-
-loop-less : tie.Need-loop-less Inv-loop μ-loop
-loop-less c = omega arith
 
 loop-again : tie.Need-loop-again Inv-loop μ-loop
 loop-again c =
@@ -59,17 +47,5 @@ returns-2 c =
 
 pub later-before-spec : {M : Type 1} → statement M
 later-before-spec =
-    tie.close
-    (tie.spec
-    Inv-loop
-    μ-loop
-    used-slots-requires
-    loop-holds
-    slot-before-requires
-    enum-told
-    enum-told-2
-    returns
-    add-q
-    loop-less
-    loop-again
-    returns-2)
+    tie.close (tie.spec Inv-loop μ-loop used-slots-requires loop-holds slot-before-requires (λ c. search needs)
+    (λ c. search needs) returns (λ c. omega arith) (λ c. omega arith) loop-again returns-2)

@@ -10,9 +10,6 @@ use Rattle.restorer.specs.Befores.{slot-own, slot-other}
 use Rattle.restorer.proofs.image.slot_before.Statement.{statement}
 use Rattle.restorer.proofs.image.slot_before.Tie as tie
 
-slot-at-requires : tie.Need-slot-at-requires
-slot-at-requires c κs = search needs
-
 returns : tie.Need-returns
 returns c =
     let k = c .before .before in
@@ -36,4 +33,4 @@ returns-2 c =
     rw own (c .first-before .ensures)
 
 pub slot-before-spec : {M : Type 1} → statement M
-slot-before-spec = tie.close (tie.spec slot-at-requires returns first-before-requires returns-2)
+slot-before-spec = tie.close (tie.spec (λ c κs. search needs) returns first-before-requires returns-2)

@@ -6,14 +6,8 @@ use Rattle.restorer.specs.ReadingLaws.{block-outside, block-unmapped, bl
 use Rattle.restorer.proofs.read.block_before.Statement.{statement}
 use Rattle.restorer.proofs.read.block_before.Tie as tie
 
-cells-requires : tie.Need-cells-requires
-cells-requires c κs = search needs
-
 returns : tie.Need-returns
 returns c = sym (block-outside _ _ _ _ (omega arith))
-
-image-at-requires : tie.Need-image-at-requires
-image-at-requires c κs = search needs
 
 returns-2 : tie.Need-returns-2
 returns-2 c =
@@ -26,5 +20,4 @@ returns-3 c =
     sym (block-found _ _ _ _ (omega arith) (k .image-at .result .0) (k .image-at .ensures) (λ e. omega arith))
 
 pub block-before-spec : {M : Type 1} → statement M
-block-before-spec =
-    tie.close (tie.spec cells-requires returns image-at-requires returns-2 returns-3)
+block-before-spec = tie.close (tie.spec (λ c κs. search needs) returns (λ c κs. search needs) returns-2 returns-3)

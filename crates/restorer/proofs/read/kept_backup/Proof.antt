@@ -9,9 +9,6 @@ use Rattle.restorer.proofs.read.kept_backup.Tie as tie
 returns : tie.Need-returns
 returns c = backup-above _ _ _ (omega arith)
 
-retention-requires : tie.Need-retention-requires
-retention-requires c κs = search needs
-
 returns-2 : tie.Need-returns-2
 returns-2 c = backup-unenrolled _ _ _ (omega arith)
 
@@ -20,18 +17,12 @@ returns-3 c =
     let d = c .before .before in
     backup-zero _ _ _ (d .retention .result) (d .retention .ensures) (omega arith) (λ e. omega arith) (omega arith)
 
-backups-after-requires : tie.Need-backups-after-requires
-backups-after-requires c κs = search needs
-
 returns-4 : tie.Need-returns-4
 returns-4 c =
     let a = c .before .before in
     let d = a .before .before .before in
     backup-missing _ _ _ (d .retention .result) (d .retention .ensures) (omega arith) (λ e. omega arith)
     (a .backups-after .result) (a .backups-after .ensures) (λ e. omega arith) (λ e. omega arith)
-
-is-kept-requires : tie.Need-is-kept-requires
-is-kept-requires c κs = search needs
 
 returns-5 : tie.Need-returns-5
 returns-5 c =
@@ -51,14 +42,5 @@ returns-6 c =
 
 pub kept-backup-spec : {M : Type 1} → statement M
 kept-backup-spec =
-    tie.close
-    (tie.spec
-    returns
-    retention-requires
-    returns-2
-    returns-3
-    backups-after-requires
-    returns-4
-    is-kept-requires
-    returns-5
-    returns-6)
+    tie.close (tie.spec returns (λ c κs. search needs) returns-2 returns-3 (λ c κs. search needs) returns-4
+    (λ c κs. search needs) returns-5 returns-6)

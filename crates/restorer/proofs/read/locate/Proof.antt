@@ -19,9 +19,6 @@ none c = sym (c .before .buffers-number .ensures) ∙ c .if1 .left
 ready : (c : tie.Else1) → Formed (now (c .before .before .before .before .args .book))
 ready c = formed _ (λ i. c .before .before .before .shared-slice-known .given i .fits) (buffers-facts _ _ (none c) .0)
 
-buffers-number-requires : tie.Need-buffers-number-requires
-buffers-number-requires c κs = search needs
-
 returns : tie.Need-returns
 returns c =
     let a = c .before .before .before .before .args in
@@ -30,16 +27,10 @@ returns c =
 kept-backup-requires : tie.Need-kept-backup-requires
 kept-backup-requires c κs = ready c .holds
 
-enum-known-at : tie.Need-enum-known-at
-enum-known-at c = search needs
-
 block-before-requires : tie.Need-block-before-requires
 block-before-requires c κs =
     let k = c .before .before .before in
     (ready (k .before), kept-volume _ _ _ (subst (KeptIs _ _ _) (c .before .at .given .1) (k .kept-backup .ensures) .0))
-
-enum-known-n : tie.Need-enum-known-n
-enum-known-n c = search needs
 
 returns-2 : tie.Need-returns-2
 returns-2 c =
@@ -61,13 +52,5 @@ returns-3 c =
 
 pub locate-spec : {M : Type 1} → statement M
 locate-spec =
-    tie.close
-    (tie.spec
-    buffers-number-requires
-    returns
-    kept-backup-requires
-    enum-known-at
-    block-before-requires
-    enum-known-n
-    returns-2
-    returns-3)
+    tie.close (tie.spec (λ c κs. search needs) returns kept-backup-requires (λ c. search needs) block-before-requires
+    (λ c. search needs) returns-2 returns-3)

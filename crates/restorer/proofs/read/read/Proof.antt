@@ -9,34 +9,10 @@ use Rattle.restorer.specs.ReadCalls.{block-refused, block-at, block-insi
 use Rattle.restorer.proofs.read.read.Statement.{statement}
 use Rattle.restorer.proofs.read.read.Tie as tie
 
-locate-requires : tie.Need-locate-requires
-locate-requires c κs = search needs
-
-enum-known-sought : tie.Need-enum-known-sought
-enum-known-sought c = search needs
-
-enum-told : tie.Need-enum-told
-enum-told c = search needs
-
-slice-aggregate-result : tie.Need-slice-aggregate-result
-slice-aggregate-result c = search needs
-
 returns : tie.Need-returns
 returns c =
     let k = c .before .before .before in
     block-refused _ _ _ _ _ (k .locate .result) (k .locate .ensures) _ (c .before .enum-told .given .1)
-
-block-place-requires : tie.Need-block-place-requires
-block-place-requires c κs = search needs
-
-add-result : tie.Need-add-result
-add-result c = search needs
-
-sub-result : tie.Need-sub-result
-sub-result c = search needs
-
-part-result-start : tie.Need-part-result-start
-part-result-start c = search needs
 
 part-result-end : tie.Need-part-result-end
 part-result-end c =
@@ -55,16 +31,5 @@ returns-2 c =
 
 pub read-spec : {M : Type 1} → statement M
 read-spec =
-    tie.close
-    (tie.spec
-    locate-requires
-    enum-known-sought
-    enum-told
-    slice-aggregate-result
-    returns
-    block-place-requires
-    add-result
-    sub-result
-    part-result-start
-    part-result-end
-    returns-2)
+    tie.close (tie.spec (λ c κs. search needs) (λ c. search needs) (λ c. search needs) (λ c. search needs) returns
+    (λ c κs. search needs) (λ c. search needs) (λ c. search needs) (λ c. search needs) part-result-end returns-2)

@@ -5,16 +5,10 @@ use Rattle.restorer.specs.ReadCalls.{number-is}
 use Rattle.restorer.proofs.read.read_number.Statement.{statement}
 use Rattle.restorer.proofs.read.read_number.Tie as tie
 
-locate-requires : tie.Need-locate-requires
-locate-requires c κs = search needs
-
-sought-number-requires : tie.Need-sought-number-requires
-sought-number-requires c κs = search needs
-
 returns : tie.Need-returns
 returns c =
     let k = c .before in
     c .sought-number .ensures ∙ number-is _ _ _ _ _ (k .locate .result) (k .locate .ensures)
 
 pub read-number-spec : {M : Type 1} → statement M
-read-number-spec = tie.close (tie.spec locate-requires sought-number-requires returns)
+read-number-spec = tie.close (tie.spec (λ c κs. search needs) (λ c κs. search needs) returns)

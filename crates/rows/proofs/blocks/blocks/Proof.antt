@@ -35,29 +35,17 @@ rows-length c = omega (arith, blocks-length _ (holds (c .before) .sized), c .blo
 room : (c : tie.Else2) → length (blocksOf (bookOf (given (c .before .before)))) ≤ length (output (c .before .before))
 room c = omega (arith, rows-length (c .before))
 
-form-number-requires : tie.Need-form-number-requires
-form-number-requires c κs = search needs
-
 returns : tie.Need-returns
 returns c = blocks-misformed _ _ (c .before .form-number .ensures) (c .if1 .taken)
 
 blocks-requires : tie.Need-blocks-requires
 blocks-requires c κs = holds c
 
-cast-if2 : tie.Need-cast-if2
-cast-if2 c = search needs
-
-mul-if2 : tie.Need-mul-if2
-mul-if2 c = search needs
-
 returns-2 : tie.Need-returns-2
 returns-2 c = let k = c .before in blocks-short _ _ (in-form (k .before)) (omega (arith, rows-length k))
 
 put-blocks-requires : tie.Need-put-blocks-requires
 put-blocks-requires c κs = let k = c .before in (holds (k .before .before), room k)
-
-same-length : tie.Need-same-length
-same-length c = search needs
 
 returns-3 : tie.Need-returns-3
 returns-3 c =
@@ -67,14 +55,5 @@ returns-3 c =
 
 pub blocks-spec : {M : Type 1} → statement M
 blocks-spec =
-    tie.close
-    (tie.spec
-    form-number-requires
-    returns
-    blocks-requires
-    cast-if2
-    mul-if2
-    returns-2
-    put-blocks-requires
-    same-length
-    returns-3)
+    tie.close (tie.spec (λ c κs. search needs) returns blocks-requires (λ c. search needs) (λ c. search needs) returns-2
+    put-blocks-requires (λ c. search needs) returns-3)

@@ -15,42 +15,12 @@ use Rattle.rows.proofs.blocks.put_block.Tie as tie
 print-length : (s : tie.Start) → length (entryAt (bookOf (s .args .book .now) .entries) (s .args .p .0) .print) ≡ printSize
 print-length s = s .pre .0 .sized .prints (s .args .p .0) (s .pre .1 .0)
 
-is-held-requires : tie.Need-is-held-requires
-is-held-requires c κs = search needs
-
-cast-held : tie.Need-cast-held
-cast-held c = search needs
-
-count-requires : tie.Need-count-requires
-count-requires c κs = search needs
-
-wide-requires : tie.Need-wide-requires
-wide-requires c κs = search needs
-
-expiry-requires : tie.Need-expiry-requires
-expiry-requires c κs = search needs
-
-print-of-requires : tie.Need-print-of-requires
-print-of-requires c κs = search needs
-
-put-three-requires : tie.Need-put-three-requires
-put-three-requires c κs = search needs
-
-add-put-bytes : tie.Need-add-put-bytes
-add-put-bytes c = search needs
-
 put-bytes-requires : tie.Need-put-bytes-requires
 put-bytes-requires c κs =
     let w = c .before .before .before in
     let r = w .before .before in
     let s = r .before .before .before .before .before .before .before in
     omega (arith, print-length s, ap length (r .print-of .ensures), w .put-three .kept .0, s .pre .1 .1)
-
-add-result : tie.Need-add-result
-add-result c = search needs
-
-same-length : tie.Need-same-length
-same-length c = search needs
 
 returns : tie.Need-returns
 returns c =
@@ -69,17 +39,6 @@ returns c =
 
 pub put-block-spec : {M : Type 1} → statement M
 put-block-spec =
-    tie.close
-    (tie.spec
-    is-held-requires
-    cast-held
-    count-requires
-    wide-requires
-    expiry-requires
-    print-of-requires
-    put-three-requires
-    add-put-bytes
-    put-bytes-requires
-    add-result
-    same-length
-    returns)
+    tie.close (tie.spec (λ c κs. search needs) (λ c. search needs) (λ c κs. search needs) (λ c κs. search needs)
+    (λ c κs. search needs) (λ c κs. search needs) (λ c κs. search needs) (λ c. search needs) put-bytes-requires
+    (λ c. search needs) (λ c. search needs) returns)

@@ -25,12 +25,6 @@ put-block-requires c κs =
     let s = l .before .before .before .before in
     (s .pre .0, (omega arith, rows-room _ (s .pre .0 .sized) (l .loop .inv) (omega arith)))
 
-add-p : tie.Need-add-p Inv-loop μ-loop
-add-p c = search needs
-
-loop-less : tie.Need-loop-less Inv-loop μ-loop
-loop-less c = omega arith
-
 loop-again : tie.Need-loop-again Inv-loop μ-loop
 loop-again c =
     let k = c .before .before in
@@ -46,15 +40,5 @@ returns c = rows-done _ (c .before .before .before .before .before .pre .0 .size
 
 pub put-blocks-spec : {M : Type 1} → statement M
 put-blocks-spec =
-    tie.close
-    (tie.spec
-    Inv-loop
-    μ-loop
-    blocks-requires
-    loop-holds
-    put-block-requires
-    add-p
-    loop-less
-    loop-again
-    same-length
-    returns)
+    tie.close (tie.spec Inv-loop μ-loop blocks-requires loop-holds put-block-requires (λ c. search needs)
+    (λ c. omega arith) loop-again same-length returns)

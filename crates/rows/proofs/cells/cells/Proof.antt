@@ -13,9 +13,6 @@ use Rattle.rows.proofs.cells.cells.Tie as tie
 passed : (c : tie.Else1) → let s = c .before .before .before .before .args in enrolledNumber (now (s .book)) (s .volume) ≡ 0
 passed c = sym (c .before .enrolled-number .ensures) ∙ c .if1 .left
 
-enrolled-number-requires : tie.Need-enrolled-number-requires
-enrolled-number-requires c κs = search needs
-
 returns : tie.Need-returns
 returns c = cells-refused _ _ _ (c .before .enrolled-number .ensures) (c .if1 .taken)
 
@@ -28,12 +25,6 @@ returns-2 : tie.Need-returns-2
 unfolding cellsOf
 returns-2 c = let r = c .before in cells-short _ _ _ (passed (r .before)) (r .row .ensures) (omega arith)
 
-put-bytes-requires : tie.Need-put-bytes-requires
-put-bytes-requires c κs = search needs
-
-same-length : tie.Need-same-length
-same-length c = search needs
-
 returns-3 : tie.Need-returns-3
 unfolding cellsOf
 returns-3 c =
@@ -43,12 +34,5 @@ returns-3 c =
 
 pub cells-spec : {M : Type 1} → statement M
 cells-spec =
-    tie.close
-    (tie.spec
-    enrolled-number-requires
-    returns
-    row-requires
-    returns-2
-    put-bytes-requires
-    same-length
+    tie.close (tie.spec (λ c κs. search needs) returns row-requires returns-2 (λ c κs. search needs) (λ c. search needs)
     returns-3)

@@ -6,9 +6,6 @@ use borrow.Author.Needs.{needs}
 use Rattle.samples.proofs.print.page.Statement.{statement}
 use Rattle.samples.proofs.print.page.Tie as tie
 
-tally-requires : tie.Need-tally-requires
-tally-requires c κs = search needs
-
 -- the page's length is answered, so that it lies within the array
 answered : (c : tie.After-tally) → c .tally .result ≡ length (take (c .tally .result) (c .tally .last .1 .0))
 answered c = c .tally .ensures .1 .0 ∙ sym (ap length (c .tally .ensures .0))
@@ -19,11 +16,7 @@ array-share-prefix-page c = omega (arith, answered c, length-take (c .tally .res
 slice-aggregate-word : tie.Need-slice-aggregate-word
 slice-aggregate-word c = answered (c .before)
 
-word-requires : tie.Need-word-requires
-word-requires c κs = search needs
-
-returns : tie.Need-returns
-returns c = search needs
-
 pub page-spec : {M : Type 1} → statement M
-page-spec = tie.close (tie.spec tally-requires array-share-prefix-page slice-aggregate-word word-requires returns)
+page-spec =
+    tie.close (tie.spec (λ c κs. search needs) array-share-prefix-page slice-aggregate-word (λ c κs. search needs)
+    (λ c. search needs))

@@ -10,37 +10,7 @@ Inv-loop book pool sent counts₀ v k kept lbn₀ counts lbn = lbn ≤ 16
 abbrev μ-loop : tie.MeasureT-loop
 μ-loop book pool sent counts₀ v k kept lbn₀ counts lbn = 16 - lbn
 
-loop-holds : tie.Need-loop-holds Inv-loop μ-loop
-loop-holds c = omega arith
-
-tag-requires : tie.Need-tag-requires Inv-loop μ-loop
-tag-requires c κs = tt
-
-one-requires : tie.Need-one-requires Inv-loop μ-loop
-one-requires c κs = tt
-
-add-lbn : tie.Need-add-lbn Inv-loop μ-loop
-add-lbn c = omega arith
-
-loop-less : tie.Need-loop-less Inv-loop μ-loop
-loop-less c = omega arith
-
-loop-again : tie.Need-loop-again Inv-loop μ-loop
-loop-again c = omega arith
-
-returns : tie.Need-returns Inv-loop μ-loop
-returns c = tt
-
 pub backup-spec : {M : Type 1} → statement M
 backup-spec =
-    tie.close
-    (tie.spec
-    Inv-loop
-    μ-loop
-    loop-holds
-    tag-requires
-    one-requires
-    add-lbn
-    loop-less
-    loop-again
-    returns)
+    tie.close (tie.spec Inv-loop μ-loop (λ c. omega arith) (λ c κs. tt) (λ c κs. tt) (λ c. omega arith)
+    (λ c. omega arith) (λ c. omega arith) (λ c. tt))
