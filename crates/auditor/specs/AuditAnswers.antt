@@ -1,4 +1,4 @@
--- What an audit leaves on each way out. Assumes nothing.
+-- What an audit leaves on each way out.
 use Prim.Native.Nat.{ℕ}
 use mathlib.Core.Path.{_≡_, _∙_}
 use mathlib.Core.Bool.{true, false}

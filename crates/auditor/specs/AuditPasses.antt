@@ -1,5 +1,5 @@
 -- Audit as its passes test it: the journal, the maps, the entries, the fingerprints. Where the counts are sound no current map names a free block,
--- and the kept backups are judged by their befores. Assumes nothing.
+-- and the kept backups are judged by their befores.
 use Prim.Native.Nat.{ℕ, _≤_, _<_}
 use mathlib.Core.Path.{_≡_, refl, sym, _∙_}
 use mathlib.Core.Logic.{_⊎_, inl, inr}

@@ -1,4 +1,4 @@
--- What form gives a pass over the book: bounds of its used slots, and of the records that it reads. Assumes nothing.
+-- What form gives a pass over the book: bounds of its used slots, and of the records that it reads.
 use Prim.Native.Nat.{ℕ, _+_, _≤_, _<_}
 use mathlib.Core.Path.{_≡_}
 use mathlib.Core.Logic.{_⊎_}

@@ -1,4 +1,4 @@
--- What an audit leaves, for all inputs: its number and its answer, by the definition on bytes of `model`. Assumes nothing.
+-- What an audit leaves, for all inputs: its number and its answer, by the definition on bytes of `model`.
 use Prim.Native.Nat.{ℕ}
 use mathlib.Core.Path.{_≡_}
 use mathlib.Core.List.{List}

@@ -1,4 +1,4 @@
--- A count for each block of the pool, gathered cell by cell. Assumes nothing.
+-- A count for each block of the pool, gathered cell by cell.
 use Prim.Native.Nat.{ℕ, suc, _+_, _≤_, _<_}
 use mathlib.Core.Path.{_≡_, refl, sym, ap, _∙_}
 use mathlib.Core.Bool.{Bool, true, false}

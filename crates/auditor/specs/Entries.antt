@@ -1,4 +1,4 @@
--- The entries gone through once: each count and each expiry against what was gathered for its block. Assumes nothing.
+-- The entries gone through once: each count and each expiry against what was gathered for its block.
 use Prim.Native.Nat.{ℕ, _+_}
 use mathlib.Core.Path.{_≡_, refl, _∙_}
 use mathlib.Core.Bool.{Bool, true, _&&_}

@@ -1,4 +1,4 @@
--- An expiry for each block of the pool, raised record by record. Assumes nothing.
+-- An expiry for each block of the pool, raised record by record.
 use Prim.Native.Nat.{ℕ, suc, _+_, _≤_, _<_, max}
 use mathlib.Core.Path.{_≡_, refl, sym, ap, _∙_}
 use mathlib.Core.Bool.{Bool, true, false, _||_}

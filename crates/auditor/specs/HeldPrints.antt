@@ -1,4 +1,4 @@
--- "held fingerprints differ", from the last block down: one turn more asks whether a block is apart from those above. Assumes nothing.
+-- "held fingerprints differ", from the last block down: one turn more asks whether a block is apart from those above.
 use Prim.Native.Nat.{ℕ, suc, _+_, _≤_, _<_}
 use mathlib.Core.Path.{_≡_, refl, sym}
 use mathlib.Core.Bool.{Bool, true, false, not, _&&_, _||_}

@@ -1,4 +1,4 @@
--- The journal as the audit reads it, slot by slot. Assumes nothing.
+-- The journal as the audit reads it, slot by slot.
 use Prim.Native.Nat.{ℕ, _+_, _≤_, _<_}
 use mathlib.Core.Path.{_≡_, sym, _∙_}
 use mathlib.Core.Bool.{Bool, true, _&&_}

@@ -1,4 +1,4 @@
--- What audit's first sentence gives a book in form: each volume's backups are sound and lead to its current map. Assumes nothing.
+-- What audit's first sentence gives a book in form: each volume's backups are sound and lead to its current map.
 use Prim.Native.Nat.{ℕ, _≤_, _<_}
 use mathlib.Core.Path.{_≡_, sym, ap, _∙_}
 use mathlib.Core.Bool.{Bool, true, false, _&&_}

@@ -1,4 +1,4 @@
--- The maps gone through once: the test of their cells against a table, and a count for each block that they name. Assumes nothing.
+-- The maps gone through once: the test of their cells against a table, and a count for each block that they name.
 use Prim.Native.Nat.{ℕ, _+_, _*_, _≤_, _<_}
 use mathlib.Core.Path.{_≡_, sym, _∙_}
 use mathlib.Core.Bool.{Bool, true, _&&_}

@@ -1,4 +1,4 @@
--- Two rows of numbers agree, place by place: the test, and its laws for a loop that gathers it. Assumes nothing.
+-- Two rows of numbers agree, place by place: the test, and its laws for a loop that gathers it.
 use Prim.Native.Nat.{ℕ, _+_, _<_}
 use mathlib.Core.Path.{_≡_, sym, ap}
 use mathlib.Core.Bool.{Bool, true, _&&_}

@@ -1,4 +1,4 @@
--- The records of a backup, taken once: each is replayed in the cells, raises the expiry of its before, and stamps its LBN. Assumes nothing.
+-- The records of a backup, taken once: each is replayed in the cells, raises the expiry of its before, and stamps its LBN.
 use Prim.Native.Nat.{ℕ, suc, _+_, _*_, _≤_, _<_}
 use mathlib.Core.Path.{_≡_, refl, sym, ap, _∙_}
 use mathlib.Core.Bool.{Bool, true, _&&_, _||_}

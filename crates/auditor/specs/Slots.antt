@@ -1,4 +1,4 @@
--- The journal, taken slot by slot. Assumes nothing.
+-- The journal, taken slot by slot.
 use Prim.Native.Nat.{ℕ, _+_, _*_, _≤_, _<_}
 use mathlib.Core.Path.{_≡_, refl, sym, ap, _∙_}
 use mathlib.Core.Bool.{Bool, true, false, _&&_}

@@ -1,4 +1,4 @@
--- The first record of each LBN in a backup, found by a stamp for each LBN. Assumes nothing.
+-- The first record of each LBN in a backup, found by a stamp for each LBN.
 use Prim.Native.Nat.{ℕ, zero, suc, _≤_, _<_}
 use mathlib.Core.Path.{_≡_, refl, sym, ap, _∙_}
 use mathlib.Core.Bool.{Bool, true, false, _&&_, _||_}

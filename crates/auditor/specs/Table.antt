@@ -1,4 +1,4 @@
--- Records replayed in one table of all cells: the cell of volume v at an LBN stands at v * 1024 + LBN. Assumes nothing.
+-- Records replayed in one table of all cells: the cell of volume v at an LBN stands at v * 1024 + LBN.
 use Prim.Native.Nat.{ℕ, _+_, _*_}
 use mathlib.Core.Bool.{Bool, true, _&&_}
 use mathlib.Core.List.{List, [], _∷_}

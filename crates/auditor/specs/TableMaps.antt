@@ -1,4 +1,4 @@
--- The table of all cells is the maps: replaying in it tests what audit's first sentence says. Assumes nothing.
+-- The table of all cells is the maps: replaying in it tests what audit's first sentence says.
 use Prim.Native.Nat.{ℕ, _+_, _*_, _≤_, _<_}
 use mathlib.Core.Path.{_≡_, refl, sym, ap, _∙_}
 use mathlib.Core.Bool.{Bool, true, false, _&&_}

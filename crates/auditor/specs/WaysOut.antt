@@ -1,4 +1,4 @@
--- What each pass of an audit decides when it fails, and the last one when it doesn't. Assumes nothing.
+-- What each pass of an audit decides when it fails, and the last one when it doesn't.
 use Prim.Native.Nat.{ℕ}
 use mathlib.Core.Path.{_≡_, sym, _∙_}
 use mathlib.Core.Bool.{Bool, true, false, _&&_}

@@ -1,4 +1,4 @@
--- The second law of the layout: bytes that have the shape of a book are those of the book that they say. Assumes nothing.
+-- The second law of the layout: bytes that have the shape of a book are those of the book that they say.
 use mathlib.Core.Path.{_≡_, refl, sym, ap, _∙_}
 use mathlib.Core.Bool.{Bool, true, false}
 use mathlib.Core.List.{List, [], _∷_, _++_}

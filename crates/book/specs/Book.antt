@@ -1,4 +1,4 @@
--- What a book holds (document 01, "The book"), with no byte in it. Assumes nothing.
+-- What a book holds (document 01, "The book"), with no byte in it.
 use Prim.Native.Nat.{ℕ, _≤_, _<_}
 use mathlib.Core.Path.{_≡_}
 use mathlib.Core.Bool.{Bool, false, not}

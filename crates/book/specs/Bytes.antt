@@ -1,4 +1,4 @@
--- Where the sections of a book's bytes start, how long they are, and which byte stands at each place. Assumes nothing.
+-- Where the sections of a book's bytes start, how long they are, and which byte stands at each place.
 use mathlib.Core.Path.{_≡_, refl, _∙_}
 use mathlib.Core.List.{List, []}
 use Prim.Native.Nat.{ℕ, _+_, _*_, _<_}

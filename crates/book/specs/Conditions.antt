@@ -1,4 +1,4 @@
--- A book's conditions, element by element. Assumes nothing.
+-- A book's conditions, element by element.
 use Prim.Native.Nat.{ℕ, zero, suc, _+_, _≤_, _<_}
 use mathlib.Core.Path.{_≡_, refl, sym, ap₂}
 use mathlib.Core.Logic.{_⊎_, inl, inr}

@@ -1,4 +1,4 @@
--- What a store into an entry does to it: count, expiry, holding and freeing. Assumes nothing.
+-- What a store into an entry does to it: count, expiry, holding and freeing.
 use mathlib.Core.Path.{_≡_, refl, sym, ap, _∙_}
 use mathlib.Core.Bool.{Bool, true, false}
 use mathlib.Core.List.{List, [], _∷_}

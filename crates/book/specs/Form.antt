@@ -1,4 +1,4 @@
--- When bytes are a book in form (document 01, "A book is in form when"; numbers 1 and 2). Assumes nothing.
+-- When bytes are a book in form (document 01, "A book is in form when"; numbers 1 and 2).
 use Prim.Native.Nat.{ℕ, _+_, _-_, _*_}
 use mathlib.Core.Bool.{Bool, true, not, _&&_, _||_}
 use mathlib.Core.List.{List, [], _∷_}

@@ -1,4 +1,4 @@
--- The number of form, taken apart, and what it takes to be other than 1. Assumes nothing.
+-- The number of form, taken apart, and what it takes to be other than 1.
 use Prim.Native.Nat.{ℕ, _≤_}
 use mathlib.Core.Path.{_≡_}
 use mathlib.Core.Logic.{_⊎_, inl, inr}

@@ -1,4 +1,4 @@
--- Number 2's two tests, of the bytes and of the book that they are, taken apart and put together. Assumes nothing.
+-- Number 2's two tests, of the bytes and of the book that they are, taken apart and put together.
 use Prim.Native.Nat.{_-_, _*_, _≤_, _<_}
 use mathlib.Core.Path.{_≡_}
 use mathlib.Core.Bool.{true, _&&_}

@@ -1,4 +1,4 @@
--- What a call knows of a book in form. Assumes nothing.
+-- What a call knows of a book in form.
 use Prim.Native.Nat.{ℕ, _<_}
 use mathlib.Core.Path.{_≡_}
 use mathlib.Core.List.{List}

@@ -1,4 +1,4 @@
--- The bytes of a fresh book: runs of zeros and of 255, with layout and sizes at the head. Assumes nothing.
+-- The bytes of a fresh book: runs of zeros and of 255, with layout and sizes at the head.
 use mathlib.Core.Path.{_≡_, refl, sym, ap, _∙_}
 use mathlib.Core.List.{List, [], _∷_, _++_, append-nil}
 use Prim.Native.Nat.{ℕ, _+_, _*_}

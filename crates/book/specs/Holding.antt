@@ -1,4 +1,4 @@
--- When bytes hold a book: from their shape, or as the bytes of a given book. Assumes nothing.
+-- When bytes hold a book: from their shape, or as the bytes of a given book.
 use mathlib.Core.Path.{_≡_, refl, ap, _∙_}
 use mathlib.Core.Bool.{true}
 use mathlib.Core.List.{List}

@@ -1,4 +1,4 @@
--- Bytes in form: the shape that they have, and that a book's conditions and the shape are all that form asks. Assumes nothing.
+-- Bytes in form: the shape that they have, and that a book's conditions and the shape are all that form asks.
 use Prim.Native.Nat.{ℕ, _+_, _-_, _*_, _≤_, _<_}
 use mathlib.Core.Path.{_≡_, _∙_, sym}
 use mathlib.Core.Bool.{true}

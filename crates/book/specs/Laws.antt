@@ -1,4 +1,4 @@
--- The first law of the layout: what a book's bytes say is that book. Assumes nothing.
+-- The first law of the layout: what a book's bytes say is that book.
 use mathlib.Core.Path.{_≡_, refl, _∙_}
 use mathlib.Core.Bool.{Bool, true, false}
 use mathlib.Core.List.{[]}

@@ -1,4 +1,4 @@
--- The layout of a book in bytes (document 01, "The book"), read and written. Assumes nothing.
+-- The layout of a book in bytes (document 01, "The book"), read and written.
 use Prim.Native.Nat.{ℕ, _+_, _*_, _≤_, _/_, _%_}
 use mathlib.Core.Path.{_≡_}
 use mathlib.Core.Bool.{Bool}

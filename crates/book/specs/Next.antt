@@ -1,4 +1,4 @@
--- A book with one thing changed: what each writer does. Assumes nothing.
+-- A book with one thing changed: what each writer does.
 use Prim.Native.Nat.{ℕ}
 use mathlib.Core.Bool.{true, false}
 use mathlib.Core.List.{List, [], _∷_, _++_}

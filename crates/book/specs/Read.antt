@@ -1,4 +1,4 @@
--- What stands at a place of bytes, as a field of the book that they say: what each reader's proof takes. Assumes nothing.
+-- What stands at a place of bytes, as a field of the book that they say: what each reader's proof takes.
 use mathlib.Core.Path.{_≡_, refl, sym, ap}
 use mathlib.Core.List.{List, []}
 use Prim.Native.Nat.{ℕ, _+_, _*_, _≤_, _<_}

@@ -1,4 +1,4 @@
--- The shape that bytes of a book have, before anything is asked of what they say (document 01, "A book is in form when"). Assumes nothing.
+-- The shape that bytes of a book have, before anything is asked of what they say (document 01, "A book is in form when").
 use mathlib.Core.Path.{_≡_}
 use mathlib.Core.List.{List}
 use Prim.Native.Nat.{ℕ, _+_, _≤_, _<_}

@@ -1,4 +1,4 @@
--- The bytes of a well-sized book have the shape of one. Assumes nothing.
+-- The bytes of a well-sized book have the shape of one.
 use mathlib.Core.Path.{_≡_, refl, ap, _∙_}
 use mathlib.Core.Bool.{Bool, true, false}
 use mathlib.Core.List.{List}

@@ -1,4 +1,4 @@
--- N, L, S and J within what document 01 allows, as facts. Assumes nothing.
+-- N, L, S and J within what document 01 allows, as facts.
 use Prim.Native.Nat.{ℕ, _≤_}
 use mathlib.Core.Path.{_≡_}
 use mathlib.Core.Bool.{true, _&&_}

@@ -1,4 +1,4 @@
--- A book stays well sized with one thing changed, and a fresh one is. Assumes nothing.
+-- A book stays well sized with one thing changed, and a fresh one is.
 use mathlib.Core.Path.{_≡_, refl, ap, _∙_}
 use mathlib.Core.List.{List, [], _∷_}
 use Prim.Native.Nat.{ℕ, zero, suc, _<_}

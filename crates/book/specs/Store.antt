@@ -1,4 +1,4 @@
--- What a store into a book's bytes does to the book: one law for each writer. Assumes nothing.
+-- What a store into a book's bytes does to the book: one law for each writer.
 use mathlib.Core.Path.{_≡_, refl, sym, ap, _∙_}
 use mathlib.Core.List.{List, [], _∷_, _++_}
 use Prim.Native.Nat.{ℕ, _+_, _*_, _≤_, _<_}

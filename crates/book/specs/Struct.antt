@@ -1,4 +1,4 @@
--- A slot and a record as the code has them are those of the book. Assumes nothing.
+-- A slot and a record as the code has them are those of the book.
 use mathlib.Core.Path.{_≡_}
 use Rattle.book.specs.Book as book
 use Rattle.book.specs.declared.slot.Slot.{Slot}

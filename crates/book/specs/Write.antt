@@ -1,4 +1,4 @@
--- What bytes are after a store, as the book with one thing changed: what each writer's proof takes. Assumes nothing.
+-- What bytes are after a store, as the book with one thing changed: what each writer's proof takes.
 use mathlib.Core.Path.{_≡_, ap, _∙_}
 use mathlib.Core.List.{List}
 use Prim.Native.Nat.{ℕ, _+_, _<_}

@@ -1,4 +1,4 @@
--- Numbers 1 to 3 as one number (document 01, "Numbers of refusal, in checking order"). Assumes nothing.
+-- Numbers 1 to 3 as one number (document 01, "Numbers of refusal, in checking order").
 use Prim.Native.Nat.{ℕ, zero, suc}
 use mathlib.Core.List.{List}
 use Rattle.book.specs.Form.{formNumber}

@@ -1,4 +1,4 @@
--- Laws of numbers 1 to 3: what each test says of the number, and the number of the tests. Assumes nothing.
+-- Laws of numbers 1 to 3: what each test says of the number, and the number of the tests.
 use Prim.Native.Nat.{ℕ, zero, suc, _*_}
 use mathlib.Core.Path.{_≡_, refl}
 use mathlib.Core.Bool.{Bool, true, false}

@@ -1,4 +1,4 @@
--- What telling a volume's backups leaves, for all inputs: number, output and answer, by `model`'s definitions on bytes. Assumes nothing.
+-- What telling a volume's backups leaves, for all inputs: number, output and answer, by `model`'s definitions on bytes.
 use Prim.Native.Nat.{ℕ}
 use mathlib.Core.Path.{_≡_}
 use mathlib.Core.List.{List}

@@ -1,4 +1,4 @@
--- A volume's slots one after the other. Assumes nothing.
+-- A volume's slots one after the other.
 use Prim.Native.Nat.{ℕ, _≤_, _<_}
 use mathlib.Core.Path.{_≡_}
 use lib.ListN.{length}

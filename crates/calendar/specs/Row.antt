@@ -1,4 +1,4 @@
--- The row of the backup in a slot, by the slot that holds the one that replaced it. Assumes nothing.
+-- The row of the backup in a slot, by the slot that holds the one that replaced it.
 use Prim.Native.Nat.{ℕ, _+_, _≤_, _<_}
 use mathlib.Core.Path.{_≡_, refl, sym, ap, _∙_}
 use mathlib.Core.Bool.{true}

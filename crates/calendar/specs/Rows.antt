@@ -1,4 +1,4 @@
--- The rows of a volume's backups in the slots from one on. Assumes nothing.
+-- The rows of a volume's backups in the slots from one on.
 use Prim.Native.Nat.{ℕ, _+_, _≤_, _<_}
 use mathlib.Core.Path.{_≡_, sym, ap, ap₂, _∙_}
 use mathlib.Core.Bool.{true}

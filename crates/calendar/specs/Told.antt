@@ -1,4 +1,4 @@
--- The ways out of telling a volume's backups. Assumes nothing.
+-- The ways out of telling a volume's backups.
 use Prim.Native.Nat.{ℕ, _≤_, _<_}
 use mathlib.Core.Path.{_≡_}
 use mathlib.Core.List.{List}

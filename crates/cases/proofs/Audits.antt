@@ -1,4 +1,4 @@
--- Audit says no when one of its conditions alone fails: the book after case d, each time with one thing broken, still in form. Assumes nothing.
+-- Audit says no when one of its conditions alone fails: the book after case d, each time with one thing broken, still in form.
 use Prim.Native.Nat.{ℕ}
 use mathlib.Core.Path.{_≡_, refl}
 use mathlib.Core.Bool.{true, false}

@@ -1,4 +1,4 @@
--- Cases a to j of document 01, run on our book and pool and on the plain store: one table. Assumes nothing.
+-- Cases a to j of document 01, run on our book and pool and on the plain store: one table.
 use Prim.Native.Nat.{ℕ}
 use mathlib.Core.Path.{_≡_, refl}
 use mathlib.Core.Bool.{Bool, true, false}

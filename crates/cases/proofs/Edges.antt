@@ -1,4 +1,4 @@
--- Edges that cases a to j don't show, by computation on both sides. Assumes nothing.
+-- Edges that cases a to j don't show, by computation on both sides.
 use Prim.Native.Nat.{ℕ}
 use mathlib.Core.Path.{_≡_, refl}
 use mathlib.Core.Bool.{true, false}

@@ -1,4 +1,4 @@
--- The claims on cases a to j: a fresh book that meets their hypotheses, and what they say there. Assumes nothing.
+-- The claims on cases a to j: a fresh book that meets their hypotheses, and what they say there.
 use Prim.Native.Nat.{ℕ, _*_, _≤_}
 use mathlib.Core.Path.{_≡_, refl}
 use mathlib.Core.Bool.{true, false}

@@ -1,4 +1,4 @@
--- What the closed cases are written with: letters, change lists of letters, fresh books. Assumes nothing.
+-- What the closed cases are written with: letters, change lists of letters, fresh books.
 use Prim.Native.Nat.{ℕ}
 use mathlib.Core.List.{List, [], _∷_, _++_, map}
 use lib.ListN.{length, replicate}

@@ -1,4 +1,4 @@
--- One name that opens every definition of the model, for proofs by computation: `unfolding model`. Assumes nothing.
+-- One name that opens every definition of the model, for proofs by computation: `unfolding model`.
 use Prim.Native.Nat.{ℕ}
 use Rattle.list.specs.Changes
 use Rattle.book.specs.Book

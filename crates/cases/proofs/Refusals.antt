@@ -1,4 +1,4 @@
--- Every number of refusal of these calls, and its place in the checking order: each call breaks its own number and, where it can, later ones. Assumes nothing.
+-- Every number of refusal of these calls, and its place in the checking order: each call breaks its own number and, where it can, later ones.
 use Prim.Native.Nat.{ℕ}
 use mathlib.Core.Path.{_≡_, refl}
 use mathlib.Core.List.{List, [], _∷_, _++_, map}

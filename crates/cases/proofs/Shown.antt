@@ -1,4 +1,4 @@
--- What a host is shown after cases d and g, and the numbers that refuse to show it, by computation. Assumes nothing.
+-- What a host is shown after cases d and g, and the numbers that refuse to show it, by computation.
 use Prim.Native.Nat.{ℕ}
 use mathlib.Core.Path.{_≡_, refl}
 use mathlib.Core.List.{List, [], _∷_, _++_}

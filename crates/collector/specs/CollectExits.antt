@@ -1,4 +1,4 @@
--- What a collect leaves on each way out. Assumes nothing.
+-- What a collect leaves on each way out.
 use Prim.Native.Nat.{ℕ, _≤_, _<_}
 use mathlib.Core.Path.{_≡_}
 use mathlib.Core.Bool.{true}

@@ -1,4 +1,4 @@
--- What a collect leaves, for all inputs: its number, its answer and the book, by the definition on bytes of `model`. Assumes nothing.
+-- What a collect leaves, for all inputs: its number, its answer and the book, by the definition on bytes of `model`.
 use Prim.Native.Nat.{ℕ}
 use mathlib.Core.Path.{_≡_}
 use mathlib.Core.List.{List}

@@ -1,4 +1,4 @@
--- A pass over a list that changes each element in turn, and counts those that pass a test. Assumes nothing.
+-- A pass over a list that changes each element in turn, and counts those that pass a test.
 use Prim.Native.Nat.{ℕ, zero, suc, _+_, _≤_, _<_}
 use mathlib.Core.Path.{_≡_, refl, ap, _∙_}
 use mathlib.Core.Bool.{Bool, true, false}

@@ -1,4 +1,4 @@
--- Collect's pass over the block entries, block by block. Assumes nothing.
+-- Collect's pass over the block entries, block by block.
 use Prim.Native.Nat.{ℕ, _+_, _≤_, _<_}
 use mathlib.Core.Path.{_≡_, refl, sym, ap, _∙_}
 use mathlib.Core.Bool.{Bool, true, false}

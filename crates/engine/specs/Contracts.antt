@@ -1,4 +1,4 @@
--- What format and enrol leave, for all inputs: number and book, by the definitions on bytes of `model`. Assumes nothing.
+-- What format and enrol leave, for all inputs: number and book, by the definitions on bytes of `model`.
 use Prim.Native.Nat.{ℕ}
 use mathlib.Core.Path.{_≡_}
 use mathlib.Core.List.{List}

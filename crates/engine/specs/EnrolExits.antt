@@ -1,4 +1,4 @@
--- What an enrol leaves on each way out. Assumes nothing.
+-- What an enrol leaves on each way out.
 use Prim.Native.Nat.{ℕ, _≤_, _<_}
 use mathlib.Core.Path.{_≡_, refl}
 use mathlib.Core.Bool.{true}

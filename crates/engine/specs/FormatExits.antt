@@ -1,4 +1,4 @@
--- What a format leaves on each way out. Assumes nothing.
+-- What a format leaves on each way out.
 use Prim.Native.Nat.{ℕ}
 use mathlib.Core.Path.{_≡_}
 use mathlib.Core.Bool.{true, false, _&&_}

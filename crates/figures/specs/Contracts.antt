@@ -1,4 +1,4 @@
--- What the calls that tell numbers leave, for all inputs: the number and each answer, by `model`'s definitions on bytes. Assumes nothing.
+-- What the calls that tell numbers leave, for all inputs: the number and each answer, by `model`'s definitions on bytes.
 use Prim.Native.Nat.{ℕ}
 use mathlib.Core.Path.{_≡_}
 use mathlib.Core.List.{List}

@@ -1,4 +1,4 @@
--- What the calls that tell the header's numbers leave on each way out. Assumes nothing.
+-- What the calls that tell the header's numbers leave on each way out.
 use Prim.Native.Nat.{ℕ}
 use mathlib.Core.Path.{_≡_}
 use mathlib.Core.List.{List}

@@ -1,4 +1,4 @@
--- A count of a volume's backups, slot by slot. Assumes nothing.
+-- A count of a volume's backups, slot by slot.
 use Prim.Native.Nat.{ℕ, _+_, _≤_, _<_}
 use mathlib.Core.Path.{_≡_, sym, _∙_}
 use native.Mathlib.Omega.{arith}

@@ -1,4 +1,4 @@
--- What the call that tells of a volume leaves on each way out. Assumes nothing.
+-- What the call that tells of a volume leaves on each way out.
 use Prim.Native.Nat.{ℕ}
 use mathlib.Core.Path.{_≡_}
 use mathlib.Core.List.{List}

@@ -1,4 +1,4 @@
--- The conditions of form section by section, as one pass over the bytes tests them. Assumes nothing.
+-- The conditions of form section by section, as one pass over the bytes tests them.
 use Prim.Native.Nat.{ℕ, _+_, _*_, _≤_, _<_}
 use mathlib.Core.Path.{_≡_, refl, sym, ap, _∙_}
 use mathlib.Core.Bool.{Bool, true, false, _&&_, _||_}

@@ -1,4 +1,4 @@
--- The sections' tests, together, are number 2's. Assumes nothing.
+-- The sections' tests, together, are number 2's.
 use Prim.Native.Nat.{ℕ, _+_, _-_, _*_, _≤_, _<_}
 use mathlib.Core.Path.{_≡_, refl, sym, ap, _∙_}
 use mathlib.Core.Bool.{Bool, true, false, _&&_}

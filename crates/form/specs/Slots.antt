@@ -1,4 +1,4 @@
--- The used slots in one pass: what is tested of each, and of what is left. Assumes nothing.
+-- The used slots in one pass: what is tested of each, and of what is left.
 use Prim.Native.Nat.{ℕ, suc, _+_, _*_, _≤_, _<_}
 use mathlib.Core.Path.{_≡_, refl, ap, _∙_}
 use mathlib.Core.Bool.{Bool, true, false, not, _&&_}

@@ -1,4 +1,4 @@
--- What a search of the pool answers, by the place that it finds. Assumes nothing.
+-- What a search of the pool answers, by the place that it finds.
 use Prim.Native.Nat.{ℕ}
 use mathlib.Core.Path.{_≡_, refl, ap}
 use mathlib.Core.Option.{Option, none, some}

@@ -1,4 +1,4 @@
--- The bucket of a fingerprint, and the blocks in a bucket. Assumes nothing.
+-- The bucket of a fingerprint, and the blocks in a bucket.
 use Prim.Native.Nat.{ℕ, _+_, _*_, _-_, _/_, _%_, _<_}
 use mathlib.Core.Path.{_≡_, refl, ap}
 use mathlib.Core.Bool.{Bool, true, false, not, _&&_}

@@ -1,4 +1,4 @@
--- The lowest place from a place on where a test holds. Assumes nothing.
+-- The lowest place from a place on where a test holds.
 use Prim.Native.Nat.{ℕ, suc, _+_, _-_, _≤_, _<_}
 use mathlib.Core.Path.{_≡_, refl, sym, ap, _∙_}
 use mathlib.Core.Bool.{Bool, true, false, not, _||_}

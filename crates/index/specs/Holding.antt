@@ -1,4 +1,4 @@
--- A block becomes held in the book: until it is put into the index, the index is that of the book without it. Assumes nothing.
+-- A block becomes held in the book: until it is put into the index, the index is that of the book without it.
 use Prim.Native.Nat.{ℕ, _<_}
 use mathlib.Core.Path.{_≡_, sym, ap, _∙_}
 use mathlib.Core.Bool.{true, false}

@@ -1,4 +1,4 @@
--- What the two tables of the index say of the entries. Assumes nothing.
+-- What the two tables of the index say of the entries.
 use Prim.Native.Nat.{ℕ, _+_, _≤_, _<_}
 use mathlib.Core.Path.{_≡_}
 use mathlib.Core.Bool.{true}

@@ -1,4 +1,4 @@
--- A block put into the index: first of its bucket, or after the last one below it. Assumes nothing.
+-- A block put into the index: first of its bucket, or after the last one below it.
 use Prim.Native.Nat.{ℕ, _+_, _≤_, _<_}
 use mathlib.Core.Path.{_≡_, refl, sym, ap, _∙_}
 use mathlib.Core.Bool.{Bool, true, false}

@@ -1,4 +1,4 @@
--- How the buckets change when one more block is held: it comes in at its place, and all else stays. Assumes nothing.
+-- How the buckets change when one more block is held: it comes in at its place, and all else stays.
 use Prim.Native.Nat.{ℕ, _+_, _≤_, _<_}
 use mathlib.Core.Path.{_≡_, refl, sym, ap, _∙_}
 use mathlib.Core.Bool.{Bool, true, false}

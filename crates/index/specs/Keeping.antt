@@ -1,4 +1,4 @@
--- The index depends on what each entry says of held and, where it is held, of its fingerprint, and on nothing else. Assumes nothing.
+-- The index depends on what each entry says of held and, where it is held, of its fingerprint, and on nothing else.
 use Prim.Native.Nat.{ℕ, _+_, _≤_, _<_}
 use mathlib.Core.Path.{_≡_, refl, sym, ap, _∙_}
 use mathlib.Core.Bool.{Bool, true, false}

@@ -1,4 +1,4 @@
--- The index, built from the last block down. Assumes nothing.
+-- The index, built from the last block down.
 use Prim.Native.Nat.{ℕ, _+_, _≤_, _<_}
 use mathlib.Core.Path.{_≡_, refl, sym, ap, _∙_}
 use mathlib.Core.Bool.{Bool, true, false}

@@ -1,4 +1,4 @@
--- Laws of numbers 1 to 10: what each test that the code makes says of the whole call. Assumes nothing.
+-- Laws of numbers 1 to 10: what each test that the code makes says of the whole call.
 use Prim.Native.Nat.{ℕ, suc, _+_, _*_, _≤_, _<_}
 use mathlib.Core.Path.{_≡_, refl, sym, ap, _∙_}
 use mathlib.Core.Bool.{Bool, true, false}

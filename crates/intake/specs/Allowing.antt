@@ -1,4 +1,4 @@
--- Numbers 1 to 10 of a backup, as the code checks them, and what it knows when none refuses. Assumes nothing.
+-- Numbers 1 to 10 of a backup, as the code checks them, and what it knows when none refuses.
 use Prim.Native.Nat.{ℕ, suc, _+_, _≤_, _<_}
 use mathlib.Core.Path.{_≡_}
 use mathlib.Core.Bool.{Bool, _||_}

@@ -1,4 +1,4 @@
--- Laws of the whole backup call: each way out meets its contract. Assumes nothing.
+-- Laws of the whole backup call: each way out meets its contract.
 use Prim.Native.Nat.{ℕ}
 use mathlib.Core.Path.{_≡_, sym, ap, _∙_}
 use mathlib.Core.List.{List}

@@ -1,4 +1,4 @@
--- How many backups a volume has and the last one's day, as a walk over the slots finds them. Assumes nothing.
+-- How many backups a volume has and the last one's day, as a walk over the slots finds them.
 use Prim.Native.Nat.{ℕ, _+_, _≤_, _<_}
 use mathlib.Core.Path.{_≡_, sym, _∙_}
 use mathlib.Core.List.{List, map}

@@ -1,4 +1,4 @@
--- Laws of both passes and of the end of a backup. Assumes nothing.
+-- Laws of both passes and of the end of a backup.
 use Prim.Native.Nat.{ℕ}
 use mathlib.Core.Path.{_≡_, refl, sym, ap, _∙_}
 use mathlib.Core.List.{List}

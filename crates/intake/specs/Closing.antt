@@ -1,4 +1,4 @@
--- What both passes of a backup leave, and the end of the call. Assumes nothing.
+-- What both passes of a backup leave, and the end of the call.
 use Prim.Native.Nat.{ℕ}
 use mathlib.Core.Path.{_≡_}
 use mathlib.Core.List.{List}

@@ -1,5 +1,5 @@
 -- What a backup leaves, for all inputs: its number, its answers, book and pool, by the definition on bytes of `model`. The spare alone is
--- free. Assumes nothing.
+-- free.
 use Prim.Native.Nat.{ℕ}
 use mathlib.Core.Path.{_≡_}
 use mathlib.Core.List.{List}

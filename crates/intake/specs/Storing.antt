@@ -1,4 +1,4 @@
--- Pass 2 of a backup: block after block, those that its changes took are written to the pool. Assumes nothing.
+-- Pass 2 of a backup: block after block, those that its changes took are written to the pool.
 use Prim.Native.Nat.{ℕ, _+_, _≤_, _<_}
 use mathlib.Core.Path.{_≡_, refl, sym, _∙_}
 use mathlib.Core.Bool.{Bool, true, false}

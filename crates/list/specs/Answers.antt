@@ -1,4 +1,4 @@
--- What the reader's functions answer and require. Assumes nothing.
+-- What the reader's functions answer and require.
 use Prim.Native.Nat.{ℕ, _+_, _*_, _≤_, _<_}
 use mathlib.Core.Path.{_≡_}
 use mathlib.Core.List.{List}

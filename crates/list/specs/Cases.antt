@@ -1,4 +1,4 @@
--- Number 8 and the LBNs of small lists, computed by the definitions. Assumes nothing.
+-- Number 8 and the LBNs of small lists, computed by the definitions.
 use Prim.Native.Nat.{ℕ, _*_}
 use mathlib.Core.Path.{_≡_, refl}
 use mathlib.Core.List.{List, [], _∷_, _++_}

@@ -1,4 +1,4 @@
--- The change list (document 01, "Change list", and number 8). Assumes nothing.
+-- The change list (document 01, "Change list", and number 8).
 use Prim.Native.Nat.{ℕ, _+_, _*_}
 use mathlib.Core.Bool.{Bool, true, not, _&&_}
 use mathlib.Core.List.{List, [], _∷_, map}

@@ -1,4 +1,4 @@
--- Number 8 by its tests, and what the check answers. Assumes nothing.
+-- Number 8 by its tests, and what the check answers.
 use Prim.Native.Nat.{ℕ, _≤_}
 use mathlib.Core.Path.{_≡_, refl, sym, ap, _∙_}
 use mathlib.Core.Bool.{Bool, true, false, not}

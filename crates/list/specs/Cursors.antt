@@ -1,4 +1,4 @@
--- Laws of cursors: which pair one stands in, the LBN there, and the next place. Assumes nothing.
+-- Laws of cursors: which pair one stands in, the LBN there, and the next place.
 use Prim.Native.Nat.{ℕ, _+_, _<_}
 use mathlib.Core.Path.{_≡_, ap, _∙_}
 use mathlib.Core.Logic.{⊎-elim}

@@ -1,4 +1,4 @@
--- What a caller knows of a list that the check takes or refuses, and of its changes. Assumes nothing.
+-- What a caller knows of a list that the check takes or refuses, and of its changes.
 use Prim.Native.Nat.{ℕ, _+_, _*_, _≤_, _<_, zero-le}
 use mathlib.Core.Path.{_≡_, refl, sym, ap, _∙_}
 use mathlib.Core.List.{List, map}

@@ -1,4 +1,4 @@
--- Laws of the pairs of a list: their runs of LBNs one after the other, and what it takes for them to fit. Assumes nothing.
+-- Laws of the pairs of a list: their runs of LBNs one after the other, and what it takes for them to fit.
 use Prim.Native.Nat.{ℕ, zero, suc, _+_, _-_, _≤_, _<_, zero-le}
 use mathlib.Core.Path.{_≡_, refl, ap, sym, _∙_}
 use mathlib.Core.Logic.{⊎-elim}

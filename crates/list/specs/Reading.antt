@@ -1,4 +1,4 @@
--- The pairs of a list read one after the other, and what they come to. Assumes nothing.
+-- The pairs of a list read one after the other, and what they come to.
 use Prim.Native.Nat.{ℕ, suc, _+_, _≤_, _<_, zero-le}
 use mathlib.Core.Path.{_≡_, refl, ap, _∙_}
 use mathlib.Core.Bool.{Bool, true, false, _&&_}

@@ -1,4 +1,4 @@
--- What both sides say alike where they agree: current maps, days, numbers of backups, who is enrolled. Assumes nothing.
+-- What both sides say alike where they agree: current maps, days, numbers of backups, who is enrolled.
 use Prim.Native.Nat.{ℕ, suc, _-_, _<_}
 use mathlib.Core.Path.{_≡_, refl, sym, ap, _∙_}
 use mathlib.Core.Bool.{Bool, true, false, not, _||_}

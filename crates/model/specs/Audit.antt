@@ -1,4 +1,4 @@
--- Audit (document 01, "Audit says yes exactly when"). Assumes nothing.
+-- Audit (document 01, "Audit says yes exactly when").
 use Prim.Native.Nat.{ℕ, _+_, max}
 use mathlib.Core.Bool.{Bool, true, not, _&&_, _||_}
 use mathlib.Core.List.{List, [], _∷_, map}

@@ -1,4 +1,4 @@
--- Audit says yes wherever both sides stand alike. Assumes nothing.
+-- Audit says yes wherever both sides stand alike.
 use Prim.Native.Nat.{ℕ, zero, suc, _≤_, _<_}
 use mathlib.Core.Path.{_≡_, sym, ap, _∙_}
 use mathlib.Core.Bool.{true}

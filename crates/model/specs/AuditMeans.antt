@@ -1,4 +1,4 @@
--- What audit's yes says, clause by clause, in facts (document 01, "Audit says yes exactly when"). Assumes nothing.
+-- What audit's yes says, clause by clause, in facts (document 01, "Audit says yes exactly when").
 use Prim.Native.Nat.{ℕ, zero, suc, _≤_, _<_}
 use mathlib.Core.Path.{_≡_, refl, sym, ap}
 use mathlib.Core.Logic.{_↔_, _≢_}

@@ -1,4 +1,4 @@
--- Backup (document 01, "The calls"), from number 5 on: the numbers, the steps of a change, and what it leaves. Assumes nothing.
+-- Backup (document 01, "The calls"), from number 5 on: the numbers, the steps of a change, and what it leaves.
 use Prim.Native.Nat.{ℕ, suc, _+_, _-_, _%_, max}
 use mathlib.Core.Bool.{not, _&&_, _||_}
 use mathlib.Core.List.{List, [], _∷_}

@@ -1,4 +1,4 @@
--- Both sides agree again after a backup whose changes were all made, the book after being in form. Assumes nothing.
+-- Both sides agree again after a backup whose changes were all made, the book after being in form.
 use Prim.Native.Nat.{ℕ, suc, _+_, _≤_, _<_}
 use mathlib.Core.Path.{_≡_, refl, sym, ap, ap₂, subst, _∙_}
 use mathlib.Core.Bool.{Bool, true, false}

@@ -1,5 +1,5 @@
 -- A backup on both sides, from where they agree: refused by the same number, which is never 1 to 4 or 13, or accepted with the same answer, and
--- then both agree again. Entries that the changes don't name stay. Assumes nothing.
+-- then both agree again. Entries that the changes don't name stay.
 use Prim.Native.Nat.{ℕ, zero, suc, _+_, _<_}
 use mathlib.Core.Path.{_≡_, refl, sym, ap, subst, _∙_}
 use mathlib.Core.Bool.{false, _&&_}

@@ -1,4 +1,4 @@
--- What it says that none of numbers 5 to 10 refuses a backup. Assumes nothing.
+-- What it says that none of numbers 5 to 10 refuses a backup.
 use Prim.Native.Nat.{ℕ, _+_, _≤_, _<_}
 use mathlib.Core.Path.{_≡_, refl}
 use mathlib.Core.Bool.{Bool, true, false, not, _||_}

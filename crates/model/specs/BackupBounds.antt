@@ -1,5 +1,4 @@
 -- What an accepted backup answers: touched is at most twice the changes, taken at most the changes. Of every book, in form or not.
--- Assumes nothing.
 use Prim.Native.Nat.{ℕ, _+_, _*_, _≤_}
 use mathlib.Core.Path.{_≡_, ap}
 use mathlib.Core.Bool.{Bool, true, false}

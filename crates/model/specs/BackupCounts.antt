@@ -1,5 +1,5 @@
 -- What the numbers in a backup's answer count: blocks that became held, and changes with those that had a before. Of every book, in form or
--- not. Assumes nothing.
+-- not.
 use Prim.Native.Nat.{ℕ, _+_}
 use mathlib.Core.Path.{_≡_, refl, sym, ap, subst, _∙_}
 use mathlib.Core.Bool.{Bool, true, false, not}

@@ -1,4 +1,4 @@
--- An accepted backup leaves a fit book of the same sizes, and a pool of the same length. Assumes nothing.
+-- An accepted backup leaves a fit book of the same sizes, and a pool of the same length.
 use Prim.Native.Nat.{ℕ, _+_}
 use mathlib.Core.Path.{_≡_, refl, sym, ap, subst, _∙_}
 use mathlib.Core.Bool.{true, false, not}

@@ -1,4 +1,4 @@
--- Where both sides agree, numbers 5 to 10 of a backup are the same. Assumes nothing.
+-- Where both sides agree, numbers 5 to 10 of a backup are the same.
 use Prim.Native.Nat.{ℕ, _+_}
 use mathlib.Core.Path.{_≡_, refl, ap, ap₂, _∙_}
 use mathlib.Core.Bool.{Bool, true, false, not, _||_}

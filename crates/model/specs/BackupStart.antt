@@ -1,4 +1,4 @@
--- Where both sides agree, a backup starts level with nothing written, so changes that fit go in step. Assumes nothing.
+-- Where both sides agree, a backup starts level with nothing written, so changes that fit go in step.
 use Prim.Native.Nat.{ℕ, _≤_, _<_}
 use mathlib.Core.Path.{_≡_, refl, sym, ap, _∙_}
 use mathlib.Core.Logic.{_≢_, _⊎_, inl, inr}

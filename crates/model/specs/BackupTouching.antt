@@ -1,4 +1,4 @@
--- A backup whose changes were all made leaves every entry that they don't name. Assumes nothing.
+-- A backup whose changes were all made leaves every entry that they don't name.
 use Prim.Native.Nat.{ℕ, _+_, _<_}
 use mathlib.Core.Path.{_≡_, sym, ap, subst, _∙_}
 use mathlib.Core.Bool.{false, _||_}

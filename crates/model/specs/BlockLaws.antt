@@ -1,5 +1,5 @@
 -- The blocks that entries and pool show, and the plain store's: lookups find the same place, a taken block is the same one, counts and
--- expiries don't show. Assumes nothing.
+-- expiries don't show.
 use Prim.Native.Nat.{ℕ, zero, suc, _+_, _*_, _<_, _≤_}
 use mathlib.Core.Path.{_≡_, refl, ap}
 use mathlib.Core.Bool.{Bool, true, false, not, _&&_}

@@ -1,4 +1,4 @@
--- Block p of a book and its pool, as the plain store has it. Assumes nothing.
+-- Block p of a book and its pool, as the plain store has it.
 use Prim.Native.Nat.{ℕ, zero, suc, _+_, _*_, _<_}
 use mathlib.Core.Path.{_≡_, refl, ap, _∙_}
 use mathlib.Core.Bool.{true, false}

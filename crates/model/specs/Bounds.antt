@@ -1,4 +1,4 @@
--- In a book in form every cell of every image is unmapped or below N. Assumes nothing.
+-- In a book in form every cell of every image is unmapped or below N.
 use Prim.Native.Nat.{ℕ}
 use mathlib.Core.Path.{_≡_, refl}
 use mathlib.Core.Bool.{Bool, true, _&&_}

@@ -1,4 +1,4 @@
--- Calls and their answers, as lists of calls have them (document 01, "Lists hold enrol, backup, collect, read and audit"). Assumes nothing.
+-- Calls and their answers, as lists of calls have them (document 01, "Lists hold enrol, backup, collect, read and audit").
 use Prim.Native.Nat.{ℕ}
 use mathlib.Core.Bool.{Bool, true, false}
 use mathlib.Core.List.{List}

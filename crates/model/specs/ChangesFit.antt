@@ -1,4 +1,4 @@
--- The changes of a good list have LBNs below L, whole fingerprints and whole blocks. Assumes nothing.
+-- The changes of a good list have LBNs below L, whole fingerprints and whole blocks.
 use Prim.Native.Nat.{ℕ, _≤_, _<_}
 use mathlib.Core.Path.{_≡_}
 use mathlib.Core.Bool.{Bool, true, _&&_}

@@ -1,4 +1,4 @@
--- Collect (document 01, "The calls"), from number 7 on. Assumes nothing.
+-- Collect (document 01, "The calls"), from number 7 on.
 use Prim.Native.Nat.{ℕ}
 use mathlib.Core.Bool.{Bool, _&&_}
 use mathlib.Core.List.{map}

@@ -1,4 +1,4 @@
--- Collect keeps both sides alike: the same number, the same freed, and entries freed exactly where the plain store doesn't mark. Assumes nothing.
+-- Collect keeps both sides alike: the same number, the same freed, and entries freed exactly where the plain store doesn't mark.
 use Prim.Native.Nat.{ℕ, _+_, _≤_, _<_}
 use mathlib.Core.Path.{_≡_, refl, sym, ap, _∙_}
 use mathlib.Core.Bool.{Bool, true, false, not, Bool·not-not}

@@ -1,4 +1,4 @@
--- An accepted collect leaves a fit book. Assumes nothing.
+-- An accepted collect leaves a fit book.
 use Prim.Native.Nat.{ℕ}
 use mathlib.Core.Path.{_≡_, refl, _∙_}
 use mathlib.Core.Bool.{Bool, true, false, _&&_}

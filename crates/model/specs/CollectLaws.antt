@@ -1,4 +1,4 @@
--- When collect is accepted, what it does to each entry, in numbers, and what its answer counts: of every book, in form or not. Assumes nothing.
+-- When collect is accepted, what it does to each entry, in numbers, and what its answer counts: of every book, in form or not.
 use Prim.Native.Nat.{ℕ, suc, _+_, _≤_, _<_}
 use mathlib.Core.Path.{_≡_, refl, sym, _∙_}
 use mathlib.Core.Logic.{_↔_}

@@ -1,4 +1,4 @@
--- A collect right after a collect on the same day is accepted and frees nothing. Assumes nothing.
+-- A collect right after a collect on the same day is accepted and frees nothing.
 use Prim.Native.Nat.{ℕ}
 use mathlib.Core.Path.{_≡_, refl}
 use mathlib.Core.Bool.{Bool, true, false}

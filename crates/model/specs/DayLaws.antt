@@ -1,4 +1,4 @@
--- What days decide, in numbers (document 01, "kept", numbers 6 and 7). Assumes nothing.
+-- What days decide, in numbers (document 01, "kept", numbers 6 and 7).
 use Prim.Native.Nat.{ℕ, zero, suc, _+_, _≤_, _<_}
 use mathlib.Core.Path.{_≡_, refl}
 use mathlib.Core.Logic.{_↔_}

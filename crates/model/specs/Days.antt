@@ -1,4 +1,4 @@
--- What days decide (document 01, "kept", number 7): on the box and on the plain store alike. Assumes nothing.
+-- What days decide (document 01, "kept", number 7): on the box and on the plain store alike.
 use Prim.Native.Nat.{ℕ, _+_}
 use mathlib.Core.Bool.{Bool, true, not, _&&_, _||_}
 use mathlib.Core.List.{List, [], _∷_}

@@ -1,4 +1,4 @@
--- Enrol (document 01, "The calls"), from number 5 on. Assumes nothing.
+-- Enrol (document 01, "The calls"), from number 5 on.
 use Prim.Native.Nat.{ℕ}
 use mathlib.Core.Bool.{_||_}
 use lib.Dec.{ltb}

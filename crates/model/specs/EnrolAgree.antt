@@ -1,4 +1,4 @@
--- Enrol keeps both sides alike: a volume that isn't enrolled has no backup, so its retention counts nowhere yet. Assumes nothing.
+-- Enrol keeps both sides alike: a volume that isn't enrolled has no backup, so its retention counts nowhere yet.
 use Prim.Native.Nat.{ℕ, _<_}
 use mathlib.Core.Path.{_≡_, refl, sym, _∙_}
 use mathlib.Core.Logic.{_≢_}

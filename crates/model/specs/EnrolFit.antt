@@ -1,4 +1,4 @@
--- An accepted enrol leaves a fit book. Assumes nothing.
+-- An accepted enrol leaves a fit book.
 use Prim.Native.Nat.{ℕ, _≤_}
 use mathlib.Core.Path.{_≡_, refl, ap, _∙_}
 use mathlib.Core.Logic.{_≢_}

@@ -1,4 +1,4 @@
--- The number of a call that shows a volume: what refuses it, and what it says that it is passed. Assumes nothing.
+-- The number of a call that shows a volume: what refuses it, and what it says that it is passed.
 use Prim.Native.Nat.{ℕ, _≤_, _<_}
 use mathlib.Core.Path.{_≡_, refl, _∙_}
 use mathlib.Core.Bool.{Bool, true, false, not, _||_}

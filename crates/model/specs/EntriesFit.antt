@@ -1,4 +1,4 @@
--- What it says that an entry is fit, and which entries are. Assumes nothing.
+-- What it says that an entry is fit, and which entries are.
 use Prim.Native.Nat.{ℕ, _≤_}
 use mathlib.Core.Path.{_≡_, refl}
 use mathlib.Core.Logic.{_≢_}

@@ -1,4 +1,4 @@
--- A fit book by its parts: of each list the length, and a test that all its elements pass. Assumes nothing.
+-- A fit book by its parts: of each list the length, and a test that all its elements pass.
 use Prim.Native.Nat.{ℕ, _≤_, _<_}
 use mathlib.Core.Path.{_≡_}
 use mathlib.Core.Bool.{Bool, true, _&&_}

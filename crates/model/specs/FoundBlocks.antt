@@ -1,5 +1,5 @@
 -- What steps 1 and 2 find, for any number of blocks: the lowest-numbered held block with the fingerprint, and the free block that is met
--- first from the cursor up. Assumes nothing.
+-- first from the cursor up.
 use Prim.Native.Nat.{ℕ, _+_, _-_, _≤_, _<_}
 use mathlib.Core.Path.{_≡_, refl, _∙_}
 use mathlib.Core.Bool.{Bool, true, false, _&&_}

@@ -1,4 +1,4 @@
--- A fresh book and the plain store's start stand alike, whatever bytes the pool has. Assumes nothing.
+-- A fresh book and the plain store's start stand alike, whatever bytes the pool has.
 use Prim.Native.Nat.{ℕ, zero, suc, _<_}
 use mathlib.Core.Path.{_≡_, refl, sym, ap, _∙_}
 use mathlib.Core.Bool.{true, not}

@@ -1,4 +1,4 @@
--- A fresh book is fit. Assumes nothing.
+-- A fresh book is fit.
 use Prim.Native.Nat.{zero-le}
 use mathlib.Core.Path.{_≡_, refl}
 use mathlib.Core.Bool.{true}

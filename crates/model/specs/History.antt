@@ -1,4 +1,4 @@
--- What a read owes, worked out from what the volume sent and from days alone: no block number, no other volume, no pool. Assumes nothing.
+-- What a read owes, worked out from what the volume sent and from days alone: no block number, no other volume, no pool.
 use Prim.Native.Nat.{ℕ}
 use mathlib.Core.Bool.{Bool, true, false, not, _&&_, _||_}
 use mathlib.Core.List.{List, [], _∷_, _++_, map}

@@ -1,4 +1,4 @@
--- What a history says of a block after one more backup, of the days that backups are kept, and of the bytes that a read gives. Assumes nothing.
+-- What a history says of a block after one more backup, of the days that backups are kept, and of the bytes that a read gives.
 use Prim.Native.Nat.{ℕ, suc, _≤_}
 use mathlib.Core.Path.{_≡_, refl, sym}
 use mathlib.Core.Bool.{Bool, true, false, not, _||_}

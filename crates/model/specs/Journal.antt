@@ -1,4 +1,4 @@
--- The journal: the book's used slots, each with its records, and the backups of a volume. Assumes nothing.
+-- The journal: the book's used slots, each with its records, and the backups of a volume.
 use Prim.Native.Nat.{ℕ}
 use mathlib.Core.Bool.{Bool, not, _||_}
 use mathlib.Core.List.{List, [], _∷_, map}

@@ -1,4 +1,4 @@
--- The journal slot by slot: the backup that a slot holds, and a volume's backups in the slots from one on. Assumes nothing.
+-- The journal slot by slot: the backup that a slot holds, and a volume's backups in the slots from one on.
 use Prim.Native.Nat.{ℕ, zero, suc, _+_, _≤_, _<_}
 use mathlib.Core.Path.{_≡_, refl, sym, ap, _∙_}
 use mathlib.Core.Bool.{true}

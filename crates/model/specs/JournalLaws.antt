@@ -1,4 +1,4 @@
--- Laws of journals where backups are added behind the others: what a backup's proof needs. Assumes nothing.
+-- Laws of journals where backups are added behind the others: what a backup's proof needs.
 use Prim.Native.Nat.{ℕ, suc, _+_, _≤_, max}
 use mathlib.Core.Path.{_≡_, refl, _∙_}
 use mathlib.Core.Bool.{true, _&&_, _||_}

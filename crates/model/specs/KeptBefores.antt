@@ -1,5 +1,5 @@
 -- Which blocks the kept backups name: besides those of the current maps, the befores of the first record of each LBN in each backup that still
--- reaches the day. So audit's last sentence takes one pass over the records. Assumes nothing.
+-- reaches the day. So audit's last sentence takes one pass over the records.
 use Prim.Native.Nat.{ℕ, zero, suc, _+_, _≤_, _<_}
 use mathlib.Core.Path.{_≡_, refl, sym, ap, _∙_}
 use mathlib.Core.Logic.{_≢_, _⊎_, inl, inr}

@@ -1,5 +1,5 @@
 -- One cell of a volume over its backups: a kept backup has block p there exactly when the map after them has it, or a record that still
--- reaches the day took it away. No two records need differ in their LBN. Assumes nothing.
+-- reaches the day took it away. No two records need differ in their LBN.
 use Prim.Native.Nat.{ℕ, _+_, _≤_}
 use mathlib.Core.Path.{_≡_, refl, sym, _∙_}
 use mathlib.Core.Bool.{Bool, true, false, _&&_, _||_}

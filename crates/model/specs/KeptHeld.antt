@@ -1,4 +1,4 @@
--- No current map and no kept backup names a free block. Assumes nothing.
+-- No current map and no kept backup names a free block.
 use Prim.Native.Nat.{ℕ, suc, _<_}
 use mathlib.Core.Path.{_≡_, refl, sym, ap, _∙_}
 use mathlib.Core.Logic.{_⊎_, inl, inr}

@@ -1,4 +1,4 @@
--- Maps that name a block, and kept backups that do: at some LBN. Assumes nothing.
+-- Maps that name a block, and kept backups that do: at some LBN.
 use Prim.Native.Nat.{ℕ, zero, suc}
 use mathlib.Core.Path.{_≡_}
 use mathlib.Core.Logic.{_≢_, _⊎_, inl, inr}

@@ -1,4 +1,4 @@
--- A kept backup that has block p at an LBN: by its number, and by the record that takes p away. Assumes nothing.
+-- A kept backup that has block p at an LBN: by its number, and by the record that takes p away.
 use Prim.Native.Nat.{ℕ, zero, suc, _<_}
 use mathlib.Core.Path.{_≡_, refl, sym}
 use mathlib.Core.Logic.{_≢_, _⊎_, inl, inr}

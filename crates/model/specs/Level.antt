@@ -1,5 +1,5 @@
 -- Where both sides stand alike between two changes of a backup: the same blocks, the copy is our map, counts are cells. Placing keeps it,
--- and so do steps 3 and 4, which are refused by the same number. Assumes nothing.
+-- and so do steps 3 and 4, which are refused by the same number.
 use Prim.Native.Nat.{ℕ, _+_, _<_}
 use mathlib.Core.Path.{_≡_, refl, sym, ap, subst, _∙_}
 use mathlib.Core.Logic.{_≢_}

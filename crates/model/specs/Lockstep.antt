@@ -1,4 +1,4 @@
--- The changes of a backup go in step on both sides: refused by the same number, or both made. Assumes nothing.
+-- The changes of a backup go in step on both sides: refused by the same number, or both made.
 use Prim.Native.Nat.{ℕ, _<_}
 use mathlib.Core.Path.{_≡_, refl, sym, ap, _∙_}
 use mathlib.Core.Bool.{Bool, true, false}

@@ -1,5 +1,5 @@
 -- Collect's test and the plain store's mark: a held block has count 0 and an expiry before the day exactly when no current map and no backup
--- kept on that day names it. Assumes nothing.
+-- kept on that day names it.
 use Prim.Native.Nat.{ℕ, _<_}
 use mathlib.Core.Path.{_≡_, refl, sym, ap, _∙_}
 use mathlib.Core.Logic.{_≢_}

@@ -1,4 +1,4 @@
--- Steps 3 and 4 of a change keep entries, maps and records in form. Assumes nothing.
+-- Steps 3 and 4 of a change keep entries, maps and records in form.
 use Prim.Native.Nat.{ℕ, suc, _≤_, _<_}
 use mathlib.Core.Path.{_≡_, refl, subst, _∙_}
 use mathlib.Core.Logic.{_≢_}

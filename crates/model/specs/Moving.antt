@@ -1,4 +1,4 @@
--- What steps 3 and 4 do to each entry. Assumes nothing.
+-- What steps 3 and 4 do to each entry.
 use Prim.Native.Nat.{ℕ, _+_, _-_, _<_, max}
 use mathlib.Core.Path.{_≡_, refl, ap, _∙_}
 use mathlib.Core.Logic.{_≢_}

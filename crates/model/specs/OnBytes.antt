@@ -1,4 +1,4 @@
--- The calls on bytes, with numbers 1 to 4 (document 01, "Numbers of refusal, in checking order"), and what stands after them. Assumes nothing.
+-- The calls on bytes, with numbers 1 to 4 (document 01, "Numbers of refusal, in checking order"), and what stands after them.
 use Prim.Native.Nat.{ℕ, _*_}
 use mathlib.Core.Bool.{Bool, not, _&&_}
 use mathlib.Core.List.{List, []}

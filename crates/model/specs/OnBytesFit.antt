@@ -1,4 +1,4 @@
--- The calls on the bytes of a book do what the calls on the book do, where the bytes are in form and say that book. Assumes nothing.
+-- The calls on the bytes of a book do what the calls on the book do, where the bytes are in form and say that book.
 use Prim.Native.Nat.{ℕ, _≤_, _*_}
 use mathlib.Core.Path.{_≡_, refl, sym, ap, _∙_}
 use mathlib.Core.Bool.{Bool, true, false, not, _&&_}

@@ -1,4 +1,4 @@
--- Steps 1 and 2 of a change do the same on our side and on the plain store. Assumes nothing.
+-- Steps 1 and 2 of a change do the same on our side and on the plain store.
 use Prim.Native.Nat.{ℕ, suc, _<_}
 use mathlib.Core.Path.{_≡_, refl, sym, ap, ap₂, _∙_}
 use mathlib.Core.Logic.{_≢_}

@@ -1,4 +1,4 @@
--- The plain store (document 01, "The plain store"): its state, and enrol, collect and read on it. Assumes nothing.
+-- The plain store (document 01, "The plain store"): its state, and enrol, collect and read on it.
 use Prim.Native.Nat.{ℕ, suc, _+_, _-_}
 use mathlib.Core.Bool.{Bool, true, false, not, _&&_, _||_}
 use mathlib.Core.List.{List, [], _∷_, map}

@@ -1,4 +1,4 @@
--- Backup on the plain store (document 01, "The plain store"). Assumes nothing.
+-- Backup on the plain store (document 01, "The plain store").
 use Prim.Native.Nat.{ℕ, suc, _+_, _%_}
 use mathlib.Core.Bool.{Bool, false, not, _||_}
 use mathlib.Core.List.{List, [], _∷_, _++_, map}

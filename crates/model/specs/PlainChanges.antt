@@ -1,4 +1,4 @@
--- What a backup's changes do in the plain store: the copy shows what they sent. Assumes nothing.
+-- What a backup's changes do in the plain store: the copy shows what they sent.
 use Prim.Native.Nat.{ℕ, _≤_}
 use mathlib.Core.Path.{_≡_, refl, ap, _∙_, subst}
 use mathlib.Core.List.{List, [], _∷_}

@@ -1,4 +1,4 @@
--- Every call of the plain store keeps what its volumes sent, as the call and its answer tell it. Assumes nothing.
+-- Every call of the plain store keeps what its volumes sent, as the call and its answer tell it.
 use Prim.Native.Nat.{ℕ, zero, suc, _≤_, _<_}
 use mathlib.Core.Path.{_≡_, refl, subst}
 use mathlib.Core.Bool.{Bool, true, false, not, _&&_, _||_}

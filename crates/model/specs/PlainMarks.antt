@@ -1,4 +1,4 @@
--- A collect in the plain store: blocks that a kept map names are marked, and marked blocks stay. Assumes nothing.
+-- A collect in the plain store: blocks that a kept map names are marked, and marked blocks stay.
 use Prim.Native.Nat.{ℕ, zero, suc, _+_, _<_}
 use mathlib.Core.Path.{_≡_, refl, ap}
 use mathlib.Core.Bool.{Bool, true, _&&_}

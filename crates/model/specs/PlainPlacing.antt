@@ -1,4 +1,4 @@
--- Steps 1 and 2 of a change in the plain store: held blocks keep their bytes, and the change's block holds its bytes. Assumes nothing.
+-- Steps 1 and 2 of a change in the plain store: held blocks keep their bytes, and the change's block holds its bytes.
 use Prim.Native.Nat.{ℕ, _+_, _<_}
 use mathlib.Core.Path.{_≡_, refl, ap, _∙_, subst}
 use mathlib.Core.Bool.{Bool, true, false}

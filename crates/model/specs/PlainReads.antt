@@ -1,4 +1,4 @@
--- A read of the plain store answers what the volume's history owes, after every list of calls. Assumes nothing.
+-- A read of the plain store answers what the volume's history owes, after every list of calls.
 use Prim.Native.Nat.{ℕ, zero, suc, _-_, _≤_, _<_}
 use mathlib.Core.Path.{_≡_, refl, sym, ap, _∙_}
 use mathlib.Core.Bool.{Bool, true, false, not, _||_}

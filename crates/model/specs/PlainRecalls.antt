@@ -1,4 +1,4 @@
--- Where the plain store stands alike with what its volumes sent: what every call keeps. Assumes nothing.
+-- Where the plain store stands alike with what its volumes sent: what every call keeps.
 use Prim.Native.Nat.{ℕ, suc, _≤_, _<_}
 use mathlib.Core.Path.{_≡_, refl, sym, ap, _∙_, subst}
 use mathlib.Core.Bool.{Bool, true, false, _&&_}

@@ -1,4 +1,4 @@
--- A backup of the plain store keeps what its volumes sent. Assumes nothing.
+-- A backup of the plain store keeps what its volumes sent.
 use Prim.Native.Nat.{ℕ, suc, _≤_, _<_}
 use mathlib.Core.Path.{_≡_, refl, sym, ap, _∙_}
 use mathlib.Core.Logic.{_⊎_, inl, inr}

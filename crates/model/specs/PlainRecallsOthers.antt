@@ -1,4 +1,4 @@
--- Enrol and collect of the plain store keep what its volumes sent, and so it starts. Assumes nothing.
+-- Enrol and collect of the plain store keep what its volumes sent, and so it starts.
 use Prim.Native.Nat.{ℕ, zero, suc, _≤_, _<_}
 use mathlib.Core.Path.{_≡_, refl, ap, _∙_}
 use mathlib.Core.Bool.{Bool, true, false, _&&_}

@@ -1,4 +1,4 @@
--- What a map of the plain store shows: at each LBN the bytes that the cell's block holds, if any. Assumes nothing.
+-- What a map of the plain store shows: at each LBN the bytes that the cell's block holds, if any.
 use Prim.Native.Nat.{ℕ, _≤_, _<_}
 use mathlib.Core.Path.{_≡_, refl, sym, ap, _∙_}
 use mathlib.Core.Bool.{Bool, true, false}

@@ -1,4 +1,4 @@
--- The pool: N blocks, one after the other. Assumes nothing.
+-- The pool: N blocks, one after the other.
 use Prim.Native.Nat.{ℕ, _+_, _*_}
 use mathlib.Core.List.{List, _++_}
 use lib.ListN.{take, drop}

@@ -1,5 +1,4 @@
 -- Held fingerprints differ: a block taken for a fingerprint that no held block has keeps it so, and counts and expiries don't matter.
--- Assumes nothing.
 use Prim.Native.Nat.{ℕ, zero, suc, _<_}
 use mathlib.Core.Path.{_≡_, refl, sym, ap, _∙_}
 use mathlib.Core.Bool.{Bool, true, false, not, _&&_}

@@ -1,4 +1,4 @@
--- The claims, proved for every fresh book and every list of calls. Assumes nothing.
+-- The claims, proved for every fresh book and every list of calls.
 use Prim.Native.Nat.{ℕ, zero, suc, _*_, _≤_, _<_}
 use mathlib.Core.Path.{_≡_, refl, sym, ap, _∙_}
 use mathlib.Core.Bool.{true, false, not}

@@ -1,4 +1,4 @@
--- Backups that reach a day and took a block away: by expiry, by volume and LBN, and on a later day. Assumes nothing.
+-- Backups that reach a day and took a block away: by expiry, by volume and LBN, and on a later day.
 use Prim.Native.Nat.{ℕ, zero, suc, _+_, _≤_, _<_}
 use mathlib.Core.Path.{_≡_, refl, sym, _∙_}
 use mathlib.Core.Logic.{_⊎_, inl, inr}

@@ -1,4 +1,4 @@
--- Read (document 01, "The calls"), from number 5 on. Assumes nothing.
+-- Read (document 01, "The calls"), from number 5 on.
 use Prim.Native.Nat.{ℕ}
 use mathlib.Core.Bool.{not, _||_}
 use mathlib.Core.List.{List, map}

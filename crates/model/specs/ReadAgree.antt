@@ -1,4 +1,4 @@
--- Read answers alike on both sides: the number of a refusal, or the bytes. Assumes nothing.
+-- Read answers alike on both sides: the number of a refusal, or the bytes.
 use Prim.Native.Nat.{ℕ, zero, suc, _≤_, _<_}
 use mathlib.Core.Path.{_≡_, sym, ap, _∙_}
 use mathlib.Core.Bool.{Bool, true, false, _||_}

@@ -1,4 +1,4 @@
--- The numbers that refuse a read, in order, by their tests; and what makes two reads answer alike. Assumes nothing.
+-- The numbers that refuse a read, in order, by their tests; and what makes two reads answer alike.
 use Prim.Native.Nat.{ℕ, _≤_, _<_}
 use mathlib.Core.Path.{_≡_, refl}
 use mathlib.Core.Bool.{Bool, true, false, not, _||_}

@@ -1,4 +1,4 @@
--- Read's rule gives the cell of the image: the before of an LBN's first record after backup k is what its map had there. Assumes nothing.
+-- Read's rule gives the cell of the image: the before of an LBN's first record after backup k is what its map had there.
 use Prim.Native.Nat.{ℕ, zero, suc, _<_}
 use mathlib.Core.Path.{_≡_, refl, sym, ap, _∙_}
 use mathlib.Core.Bool.{Bool, true, false}

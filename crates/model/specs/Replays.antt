@@ -1,5 +1,4 @@
 -- One volume's part of a journal: its map after its backups, their images, and what holds of them because it holds of the journal.
--- Assumes nothing.
 use Prim.Native.Nat.{ℕ, suc, _≤_, _<_}
 use mathlib.Core.Path.{_≡_, refl, sym, ap, _∙_}
 use mathlib.Core.Bool.{Bool, true, false}

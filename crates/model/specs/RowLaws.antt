@@ -1,4 +1,4 @@
--- How long the rows are that a host is shown of the blocks and of a map. Assumes nothing.
+-- How long the rows are that a host is shown of the blocks and of a map.
 use Prim.Native.Nat.{ℕ, zero, suc, _*_, _<_, suc-le-suc}
 use mathlib.Core.Path.{_≡_, refl, sym, ap, _∙_}
 use mathlib.Core.List.{List, [], _∷_}

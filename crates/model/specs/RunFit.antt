@@ -1,4 +1,4 @@
--- From a fit book, the changes of a good list keep what a backup needs, and each adds one record. Assumes nothing.
+-- From a fit book, the changes of a good list keep what a backup needs, and each adds one record.
 use Prim.Native.Nat.{ℕ, suc, _+_, _≤_, _<_}
 use mathlib.Core.Path.{_≡_, refl, subst}
 use mathlib.Core.Bool.{true}

@@ -1,4 +1,4 @@
--- Slots in form stay in form on a later day, and with one slot more. Assumes nothing.
+-- Slots in form stay in form on a later day, and with one slot more.
 use Prim.Native.Nat.{ℕ, _+_, _≤_, _<_}
 use mathlib.Core.Path.{_≡_, refl, ap, _∙_}
 use mathlib.Core.Bool.{Bool, true, false, not, _&&_, _||_}

@@ -1,4 +1,4 @@
--- The plain store's backups and changes so far are the book's slots and records. Assumes nothing.
+-- The plain store's backups and changes so far are the book's slots and records.
 use Prim.Native.Nat.{ℕ, _+_, _<_}
 use mathlib.Core.Path.{_≡_, refl, sym, ap, _∙_}
 use mathlib.Core.Bool.{Bool, true, false}

@@ -1,4 +1,4 @@
--- When a journal is sound over the maps that it starts from: what audit asks of it, as facts. Assumes nothing.
+-- When a journal is sound over the maps that it starts from: what audit asks of it, as facts.
 use Prim.Native.Nat.{ℕ, suc, _≤_, _<_}
 use mathlib.Core.Path.{_≡_}
 use mathlib.Core.List.{List, [], _∷_}

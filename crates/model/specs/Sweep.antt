@@ -1,5 +1,4 @@
 -- Collect on entries and on the plain store's blocks, side by side, where the test of each held entry is that its block is not marked.
--- Assumes nothing.
 use Prim.Native.Nat.{ℕ, suc, _+_, _<_}
 use mathlib.Core.Path.{_≡_, refl, sym, ap₂, _∙_}
 use mathlib.Core.Bool.{Bool, true, false, not, _&&_, _||_}

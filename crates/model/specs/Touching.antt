@@ -1,5 +1,4 @@
 -- Records whose LBNs rise: each before is the old map's cell and each after the new one's, so a block that no change names is in none.
--- Assumes nothing.
 use Prim.Native.Nat.{ℕ, suc, _≤_, _<_}
 use mathlib.Core.Path.{_≡_, refl, sym, ap, _∙_}
 use mathlib.Core.Bool.{false, _||_}

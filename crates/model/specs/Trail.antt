@@ -1,5 +1,4 @@
 -- What a backup has written so far: its records over the map that it started from, and what they say of each entry. A change keeps it.
--- Assumes nothing.
 use Prim.Native.Nat.{ℕ, _+_, _<_, max}
 use mathlib.Core.Path.{_≡_, refl, sym, ap, _∙_}
 use mathlib.Core.Logic.{_≢_}

@@ -1,4 +1,4 @@
--- A volume's backups as they are shown: how many bytes, what stands in a row, and that its columns agree with read. Assumes nothing.
+-- A volume's backups as they are shown: how many bytes, what stands in a row, and that its columns agree with read.
 use Prim.Native.Nat.{ℕ, zero, suc, _+_, _*_, _≤_, _<_}
 use mathlib.Core.Path.{_≡_, refl, sym, ap, _∙_}
 use mathlib.Core.List.{List, [], _∷_, _++_, map}

@@ -1,5 +1,5 @@
 -- What a host is shown of a book, beside the calls of document 01: its sizes, how much of it is used, a volume, its backups, its map, and
--- the blocks. A host that goes by these knows no place in the book. Assumes nothing.
+-- the blocks. A host that goes by these knows no place in the book.
 use Prim.Native.Nat.{ℕ, _+_}
 use mathlib.Core.List.{List, [], _∷_, _++_, map}
 use lib.ListN.{length, getD, drop}

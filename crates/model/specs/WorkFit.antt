@@ -1,4 +1,4 @@
--- A book between two changes of a backup: what every change keeps, and what steps 1 and 2 leave. Assumes nothing.
+-- A book between two changes of a backup: what every change keeps, and what steps 1 and 2 leave.
 use Prim.Native.Nat.{ℕ, suc, _+_, _<_}
 use mathlib.Core.Path.{_≡_, refl, ap, subst, _∙_}
 use mathlib.Core.Bool.{Bool, true, false}

@@ -1,4 +1,4 @@
--- What a call that writes an output leaves, for all inputs, and its ways out. Assumes nothing.
+-- What a call that writes an output leaves, for all inputs, and its ways out.
 use Prim.Native.Nat.{ℕ, zero, suc, _≤_, _<_}
 use mathlib.Core.Path.{_≡_, refl, sym, _∙_}
 use mathlib.Core.List.{List}

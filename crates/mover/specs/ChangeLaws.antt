@@ -1,4 +1,4 @@
--- Laws of a whole change: where it stops, and where the backup stands after it. Assumes nothing.
+-- Laws of a whole change: where it stops, and where the backup stands after it.
 use Prim.Native.Nat.{ℕ, suc, _+_, _≤_, _<_}
 use mathlib.Core.Path.{_≡_, refl, sym, ap, _∙_}
 use mathlib.Core.Bool.{true}

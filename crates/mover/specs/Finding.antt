@@ -1,4 +1,4 @@
--- The search for a free block, place by place, and what both searches of a backup find. Assumes nothing.
+-- The search for a free block, place by place, and what both searches of a backup find.
 use Prim.Native.Nat.{ℕ, _+_, _<_}
 use mathlib.Core.Path.{_≡_, refl, sym, ap, _∙_}
 use mathlib.Core.Bool.{true, false, _&&_}

@@ -1,4 +1,4 @@
--- What leaves the index of the working copy as it is: the cursor, counts and expiries. Assumes nothing.
+-- What leaves the index of the working copy as it is: the cursor, counts and expiries.
 use Prim.Native.Nat.{ℕ}
 use mathlib.Core.Path.{_≡_, refl, ap}
 use mathlib.Core.Bool.{Bool, true, false}

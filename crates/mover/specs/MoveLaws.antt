@@ -1,4 +1,4 @@
--- Laws of steps 3 and 4: what the writers of a book leave is what the model says. Assumes nothing.
+-- Laws of steps 3 and 4: what the writers of a book leave is what the model says.
 use Prim.Native.Nat.{ℕ, zero, suc, _+_, _-_, _≤_, _<_, max}
 use mathlib.Core.Path.{_≡_, refl, ap, _∙_}
 use mathlib.Core.Bool.{Bool, true, false, not, _&&_}

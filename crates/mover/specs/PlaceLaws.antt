@@ -1,4 +1,4 @@
--- Laws of steps 1 and 2: what the lookups found and the writers left is what the model says. Assumes nothing.
+-- Laws of steps 1 and 2: what the lookups found and the writers left is what the model says.
 use Prim.Native.Nat.{ℕ, suc, _+_, _*_, _≤_, _<_, _%_}
 use mathlib.Core.Path.{_≡_, refl, sym, ap, _∙_}
 use mathlib.Core.Bool.{Bool, true, false}

@@ -1,4 +1,4 @@
--- Laws of the pool as a backup sees it: block by block, at the start, and when a block is taken. Assumes nothing.
+-- Laws of the pool as a backup sees it: block by block, at the start, and when a block is taken.
 use Prim.Native.Nat.{ℕ, zero, suc, _+_, _*_, _-_, _≤_, _<_}
 use mathlib.Core.Path.{_≡_, refl, sym, ap, _∙_}
 use mathlib.Core.Bool.{Bool, true, false}

@@ -1,4 +1,4 @@
--- A search over the places of a list, one place at a time. Assumes nothing.
+-- A search over the places of a list, one place at a time.
 use Prim.Native.Nat.{ℕ, suc, _+_, _-_, _≤_, _<_}
 use mathlib.Core.Path.{_≡_, _∙_}
 use mathlib.Core.Bool.{Bool, true, false}

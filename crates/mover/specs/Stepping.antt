@@ -1,4 +1,4 @@
--- What the steps of a change answer and leave, each by the model's step. Assumes nothing.
+-- What the steps of a change answer and leave, each by the model's step.
 use Prim.Native.Nat.{ℕ, suc, _+_, _<_, _%_}
 use mathlib.Core.Path.{_≡_}
 use mathlib.Core.Bool.{Bool, true, not, _&&_}

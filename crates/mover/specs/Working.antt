@@ -1,4 +1,4 @@
--- Where a backup stands between two changes: what the model's work is, by the bytes that the code holds. Assumes nothing.
+-- Where a backup stands between two changes: what the model's work is, by the bytes that the code holds.
 use Prim.Native.Nat.{ℕ, _+_, _*_, _≤_, _<_}
 use mathlib.Core.Path.{_≡_}
 use mathlib.Core.Bool.{true, false}

@@ -1,4 +1,4 @@
--- The book after case d of document 01 and its page, and pages that refuse. Assumes nothing.
+-- The book after case d of document 01 and its page, and pages that refuse.
 use Prim.Native.Nat.{ℕ, _<_}
 use mathlib.Core.Path.{_≡_, refl, sym}
 use mathlib.Core.Bool.{true}

@@ -1,4 +1,4 @@
--- What counting a book leaves, for all inputs: its number, and the four answers of a book in form. Assumes nothing.
+-- What counting a book leaves, for all inputs: its number, and the four answers of a book in form.
 use Prim.Native.Nat.{ℕ}
 use mathlib.Core.Path.{_≡_, sym, ap, _∙_}
 use mathlib.Core.Bool.{true, false}

@@ -1,4 +1,4 @@
--- The counts of the entries as the code has them, one entry after the other. Assumes nothing.
+-- The counts of the entries as the code has them, one entry after the other.
 use Prim.Native.Nat.{ℕ, _+_, _*_, _≤_, _<_}
 use mathlib.Core.Path.{_≡_, refl, sym, ap, _∙_}
 use mathlib.Core.Bool.{Bool, true, false, not, _&&_}

@@ -1,5 +1,5 @@
 -- Laws of `decimal`: it is one digit, or the digits of the tenth part and one more; how many digits there are, what they say, and that
--- the first isn't zero. Assumes nothing.
+-- the first isn't zero.
 use Prim.Native.Nat.{ℕ, zero, suc, _+_, _-_, _*_, _/_, _%_, _^_, _≤_, _<_}
 use mathlib.Core.Path.{_≡_, refl, ap, _∙_}
 use mathlib.Core.Bool.{Bool, true, false}

@@ -1,4 +1,4 @@
--- Laws of `line`: its length, and how it is stored. Assumes nothing.
+-- Laws of `line`: its length, and how it is stored.
 use Prim.Native.Nat.{ℕ, _+_, _^_, _≤_, _<_, suc}
 use mathlib.Core.Path.{_≡_, refl}
 use mathlib.Core.List.{List, [], _∷_, _++_}

@@ -1,4 +1,4 @@
--- The page as the code comes to it: by what refuses the input, and by the counts of a book's entries. Assumes nothing.
+-- The page as the code comes to it: by what refuses the input, and by the counts of a book's entries.
 use Prim.Native.Nat.{ℕ, _≤_, _<_}
 use mathlib.Core.Path.{_≡_, ap, _∙_}
 use mathlib.Core.Bool.{Bool, true, false}

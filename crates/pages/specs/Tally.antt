@@ -1,4 +1,4 @@
--- What the program tally prints (document 01, "the program tally"). Assumes nothing.
+-- What the program tally prints (document 01, "the program tally").
 use Prim.Native.Nat.{ℕ, zero, suc, _+_, _/_, _%_}
 use mathlib.Core.Bool.{_&&_}
 use mathlib.Core.List.{List, [], _∷_, _++_, map}

@@ -1,4 +1,4 @@
--- A volume's backups after number k, as a walk over the slots finds them, and whether k is kept. Assumes nothing.
+-- A volume's backups after number k, as a walk over the slots finds them, and whether k is kept.
 use Prim.Native.Nat.{ℕ, zero, suc, _+_, _-_, _≤_, _<_}
 use mathlib.Core.Path.{_≡_, refl, sym, _∙_}
 use mathlib.Core.Bool.{Bool, true, _||_}

@@ -1,4 +1,4 @@
--- The before of an LBN's first record, among records and among a volume's backups from a slot on. Assumes nothing.
+-- The before of an LBN's first record, among records and among a volume's backups from a slot on.
 use Prim.Native.Nat.{ℕ, suc, _+_, _-_, _≤_, _<_}
 use mathlib.Core.Path.{_≡_, refl, sym, ap, _∙_}
 use mathlib.Core.Bool.{Bool, true, false}

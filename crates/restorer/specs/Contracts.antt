@@ -1,4 +1,4 @@
--- What a read that gives a place leaves, for all inputs: its number and its answer, by the definitions on bytes of `model`. Assumes nothing.
+-- What a read that gives a place leaves, for all inputs: its number and its answer, by the definitions on bytes of `model`.
 use Prim.Native.Nat.{ℕ}
 use mathlib.Core.Path.{_≡_}
 use mathlib.Core.List.{List}

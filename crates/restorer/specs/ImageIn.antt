@@ -1,4 +1,4 @@
--- In a book in form an image names blocks of the pool, or none. Assumes nothing.
+-- In a book in form an image names blocks of the pool, or none.
 use Prim.Native.Nat.{ℕ, _<_}
 use mathlib.Core.Path.{_≡_, refl, _∙_}
 use mathlib.Core.Logic.{_⊎_}

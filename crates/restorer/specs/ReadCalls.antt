@@ -1,4 +1,4 @@
--- The three read calls by the search that they share. Assumes nothing.
+-- The three read calls by the search that they share.
 use Prim.Native.Nat.{ℕ, zero, suc, _+_, _*_, _≤_}
 use mathlib.Core.Path.{_≡_, refl, sym, ap, _∙_}
 use mathlib.Core.Logic.{⊎-elim}

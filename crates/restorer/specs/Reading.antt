@@ -1,4 +1,4 @@
--- What a read's checks answer, step by step: document 01's number, or what the code goes on with. Assumes nothing.
+-- What a read's checks answer, step by step: document 01's number, or what the code goes on with.
 use Prim.Native.Nat.{ℕ, _<_}
 use mathlib.Core.Path.{_≡_}
 use mathlib.Core.Bool.{not, _||_}

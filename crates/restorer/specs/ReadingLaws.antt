@@ -1,4 +1,4 @@
--- Laws of a read's checks: each way out of the code gives the number, or the block, that the definitions give. Assumes nothing.
+-- Laws of a read's checks: each way out of the code gives the number, or the block, that the definitions give.
 use Prim.Native.Nat.{ℕ, zero, suc, _≤_, _<_}
 use mathlib.Core.Path.{_≡_, refl, _∙_}
 use mathlib.Core.Bool.{Bool, true, false, not, _||_}

@@ -1,4 +1,4 @@
--- What the two calls leave on each way out. Assumes nothing.
+-- What the two calls leave on each way out.
 use Prim.Native.Nat.{ℕ, _≤_, _<_}
 use mathlib.Core.Path.{_≡_, ap, _∙_}
 use mathlib.Core.List.{List}

@@ -1,4 +1,4 @@
--- The rows of the blocks, one after the other: what a row's stores leave, and the rows that are left. Assumes nothing.
+-- The rows of the blocks, one after the other: what a row's stores leave, and the rows that are left.
 use Prim.Native.Nat.{ℕ, _+_, _≤_, _<_}
 use mathlib.Core.Path.{_≡_, refl, ap, _∙_}
 use mathlib.Core.List.{List, [], _∷_, _++_}

@@ -1,4 +1,4 @@
--- What it says that an outcome is accepted, or refused. Assumes nothing.
+-- What it says that an outcome is accepted, or refused.
 use Prim.Native.Nat.{ℕ, zero, suc}
 use mathlib.Core.Path.{_≡_, refl}
 use native.Mathlib.Omega.{arith}

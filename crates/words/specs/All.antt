@@ -1,4 +1,4 @@
--- Laws of `all`, a test of every element. Assumes nothing.
+-- Laws of `all`, a test of every element.
 use mathlib.Core.Path.{_≡_, refl}
 use mathlib.Core.Bool.{Bool, _&&_}
 use mathlib.Core.List.{List, [], _∷_}

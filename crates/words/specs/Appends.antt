@@ -1,4 +1,4 @@
--- Laws of the words over lists, where one list stands behind another. Assumes nothing.
+-- Laws of the words over lists, where one list stands behind another.
 use Prim.Native.Nat.{ℕ, suc, _+_}
 use mathlib.Core.Path.{_≡_, refl, ap}
 use mathlib.Core.Bool.{Bool, true, false, _&&_, _||_}

@@ -1,4 +1,4 @@
--- Blocks and fingerprints (document 01, "Words"). Assumes nothing.
+-- Blocks and fingerprints (document 01, "Words").
 use Prim.Native.Nat.{ℕ}
 
 -- "A block is 512 bytes"; "A fingerprint is 16 bytes"; "PBN 65,535 is unmapped"

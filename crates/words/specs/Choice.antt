@@ -1,4 +1,4 @@
--- A choice by a test, and the laws of tests that proofs use. Assumes nothing.
+-- A choice by a test, and the laws of tests that proofs use.
 use Prim.Native.Nat.{ℕ, max}
 use mathlib.Core.Path.{_≡_, refl, sym, _∙_}
 use mathlib.Core.Logic.{_⊎_, inl, inr}

@@ -1,4 +1,4 @@
--- How many elements pass a test, after a store. Assumes nothing.
+-- How many elements pass a test, after a store.
 use Prim.Native.Nat.{ℕ, zero, suc, _+_, _<_}
 use mathlib.Core.Path.{_≡_, refl}
 use mathlib.Core.Bool.{Bool, true, false}

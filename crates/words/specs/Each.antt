@@ -1,4 +1,4 @@
--- A test at each place from one up to another, and its laws for loops. Assumes nothing.
+-- A test at each place from one up to another, and its laws for loops.
 use Prim.Native.Nat.{ℕ, zero, suc, _+_, _*_, _-_, _/_, _%_, _≤_, _<_}
 use mathlib.Core.Path.{_≡_, refl, sym, _∙_}
 use mathlib.Core.Bool.{Bool, true, false, _&&_}

@@ -1,4 +1,4 @@
--- Runs of one value, and stores that lay runs and numbers down. Assumes nothing.
+-- Runs of one value, and stores that lay runs and numbers down.
 use mathlib.Core.Path.{_≡_, refl, sym, ap, _∙_}
 use mathlib.Core.List.{List, [], _∷_, _++_}
 use Prim.Native.Nat.{ℕ, zero, suc, _+_, _*_}

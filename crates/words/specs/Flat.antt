@@ -1,4 +1,4 @@
--- Laws of `flat` that need no size of an element. Assumes nothing.
+-- Laws of `flat` that need no size of an element.
 use Prim.Native.Nat.{ℕ}
 use mathlib.Core.Path.{_≡_, refl, sym, ap, _∙_}
 use mathlib.Core.List.{List, [], _∷_, _++_, map, append-assoc}

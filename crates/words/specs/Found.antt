@@ -1,4 +1,4 @@
--- What it says that a first place was found, or none. Assumes nothing.
+-- What it says that a first place was found, or none.
 use Prim.Native.Nat.{ℕ, zero, suc, _+_, _<_}
 use mathlib.Core.Path.{_≡_, refl}
 use mathlib.Core.Bool.{Bool, true, false}

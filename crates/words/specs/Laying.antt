@@ -1,4 +1,4 @@
--- Runs of stores one after the other, and what they leave. Assumes nothing.
+-- Runs of stores one after the other, and what they leave.
 use Prim.Native.Nat.{ℕ, suc, _+_, _≤_}
 use mathlib.Core.Path.{_≡_, refl, sym, ap, ap₂, _∙_}
 use mathlib.Core.List.{List, [], _∷_, _++_}

@@ -1,4 +1,4 @@
--- A part of a slice as it is lent, `&s[o..o + m]`. Assumes nothing.
+-- A part of a slice as it is lent, `&s[o..o + m]`.
 use Prim.Native.Nat.{ℕ, _+_, _-_}
 use mathlib.Core.Path.{_≡_}
 use mathlib.Core.List.{List, _++_, append-assoc}

@@ -1,4 +1,4 @@
--- Words over lists that the box's definitions are written with. Assumes nothing.
+-- Words over lists that the box's definitions are written with.
 use Prim.Native.Nat.{ℕ, zero, suc, _+_}
 use mathlib.Core.Bool.{Bool, true, false, not, _&&_, _||_}
 use mathlib.Core.List.{List, [], _∷_, _++_}
@@ -67,10 +67,6 @@ upFrom i (suc m) = i ∷ upFrom (suc i) m
 abbrev pub sum : List ℕ → ℕ
 sum [] = 0
 sum (x ∷ xs) = x + sum xs
-
-abbrev pub largest : List ℕ → ℕ
-largest [] = 0
-largest (x ∷ xs) = Prim.Native.Nat.max x (largest xs)
 
 abbrev pub allZero : List ℕ → Bool
 allZero b = all (λ x. eqb x 0) b

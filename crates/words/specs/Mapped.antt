@@ -1,4 +1,4 @@
--- Tests of lists that were mapped or stored into, and of the last element. Assumes nothing.
+-- Tests of lists that were mapped or stored into, and of the last element.
 use Prim.Native.Nat.{ℕ, zero, suc, _≤_}
 use mathlib.Core.Path.{_≡_, refl, ap}
 use mathlib.Core.Bool.{Bool, true, _&&_}

@@ -1,4 +1,4 @@
--- Numbers of two bytes, little-endian (document 01, head). Assumes nothing.
+-- Numbers of two bytes, little-endian (document 01, head).
 use Prim.Native.Nat.{ℕ, _+_, _*_, _/_, _%_}
 use mathlib.Core.Path.{_≡_}
 use mathlib.Core.List.{List, [], _∷_}

@@ -1,4 +1,4 @@
--- A call's outcome: the number of a refusal, or what it gives. Assumes nothing.
+-- A call's outcome: the number of a refusal, or what it gives.
 use Prim.Native.Nat.{ℕ, zero, suc}
 
 pub data Outcome (A : Type 0) : Type 0 where

@@ -1,4 +1,4 @@
--- Laws of a part of a list: its length, and a part of a part. Assumes nothing.
+-- Laws of a part of a list: its length, and a part of a part.
 use Prim.Native.Nat.{ℕ, zero, suc, _+_, _-_, _≤_}
 use mathlib.Core.Path.{_≡_, ap, _∙_}
 use mathlib.Core.List.{List, [], _∷_}

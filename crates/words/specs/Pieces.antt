@@ -1,4 +1,4 @@
--- Parts past an append's seam, and pieces of one size where only the list's own elements are known to have it. Assumes nothing.
+-- Parts past an append's seam, and pieces of one size where only the list's own elements are known to have it.
 use mathlib.Core.Path.{_≡_, sym, ap, _∙_}
 use mathlib.Core.Bool.{Bool, true}
 use mathlib.Core.List.{List, [], _∷_, _++_, map, append-assoc}

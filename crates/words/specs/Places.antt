@@ -1,4 +1,4 @@
--- Laws of the words over lists by the places of elements. Assumes nothing.
+-- Laws of the words over lists by the places of elements.
 use Prim.Native.Nat.{ℕ, zero, suc, _+_, _≤_, _<_}
 use mathlib.Core.Path.{_≡_, refl, ap, _∙_}
 use mathlib.Core.Logic.{_⊎_, inl, inr}

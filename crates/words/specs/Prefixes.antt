@@ -1,4 +1,4 @@
--- How many elements of a prefix pass a test, one element further. Assumes nothing.
+-- How many elements of a prefix pass a test, one element further.
 use Prim.Native.Nat.{ℕ, _+_, _≤_, _<_}
 use mathlib.Core.Path.{_≡_, refl, ap, _∙_}
 use mathlib.Core.Bool.{Bool, true, false}

@@ -1,4 +1,4 @@
--- Laws of `same`, over whole lists and from a place on. Assumes nothing.
+-- Laws of `same`, over whole lists and from a place on.
 use Prim.Native.Nat.{ℕ, suc, _+_, _≤_, _<_}
 use mathlib.Core.Path.{_≡_, refl, ap, ap₂}
 use mathlib.Core.Bool.{Bool, true, false, _&&_}

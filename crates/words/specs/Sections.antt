@@ -1,5 +1,5 @@
 -- Lists made of sections, and sections made of elements of one size: where a byte stands, and what a store does. No law here knows a
--- layout: the size of an element and its encoder are parameters. Assumes nothing.
+-- layout: the size of an element and its encoder are parameters.
 use mathlib.Core.Path.{_≡_, refl, sym, ap, _∙_}
 use mathlib.Core.List.{List, [], _∷_, _++_, map}
 use Prim.Native.Nat.{ℕ, zero, suc, _+_, _*_, _≤_, _<_, suc-le-suc}

@@ -1,4 +1,4 @@
--- Sections that are stored one after the other, and a section at the front. Assumes nothing.
+-- Sections that are stored one after the other, and a section at the front.
 use Prim.Native.Nat.{ℕ, _+_, _≤_}
 use mathlib.Core.Path.{_≡_, refl, ap, ap₂, _∙_}
 use mathlib.Core.List.{List, [], _∷_, _++_}

@@ -1,4 +1,4 @@
--- What stands where after a store. Assumes nothing.
+-- What stands where after a store.
 use Prim.Native.Nat.{ℕ, zero, suc, _<_}
 use mathlib.Core.Path.{_≡_, refl}
 use mathlib.Core.Bool.{Bool, true, false}

@@ -1,4 +1,4 @@
--- Sums over tables: of two tables, of one place, by the places of a list. Assumes nothing.
+-- Sums over tables: of two tables, of one place, by the places of a list.
 use Prim.Native.Nat.{ℕ, zero, suc, _+_, _<_}
 use mathlib.Core.Path.{_≡_, refl, ap, _∙_}
 use mathlib.Core.List.{List, [], _∷_, map}

@@ -1,4 +1,4 @@
--- More laws of tests: equality either way round, tests of which neither holds, tests that can't fail. Assumes nothing.
+-- More laws of tests: equality either way round, tests of which neither holds, tests that can't fail.
 use Prim.Native.Nat.{ℕ}
 use mathlib.Core.Path.{_≡_, refl, sym}
 use mathlib.Core.Bool.{Bool, true, false, _||_}

@@ -1,4 +1,4 @@
--- One turn of a loop over a list, for the words of Lists: what is left decides as the whole does. Assumes nothing.
+-- One turn of a loop over a list, for the words of Lists: what is left decides as the whole does.
 use Prim.Native.Nat.{ℕ, _+_, _≤_, _<_}
 use mathlib.Core.Path.{_≡_}
 use mathlib.Core.Bool.{Bool, true, false}

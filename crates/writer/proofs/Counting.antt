@@ -1,4 +1,4 @@
--- The pass that counts: what it has counted and what the marks that are left hold come to E and n. Assumes nothing.
+-- The pass that counts: what it has counted and what the marks that are left hold come to E and n.
 use Prim.Native.Nat.{ℕ, zero, suc, _+_, _≤_, _<_}
 use mathlib.Core.Path.{_≡_, refl, sym, ap, subst, _∙_}
 use mathlib.Core.Bool.{Bool, true, false}

@@ -1,4 +1,4 @@
--- What one mark does in each of its cases, and one turn of `runs`. Assumes nothing.
+-- What one mark does in each of its cases, and one turn of `runs`.
 use Prim.Native.Nat.{ℕ, zero, suc, _+_, _-_, _≤_, _<_}
 use mathlib.Core.Path.{_≡_, refl, sym, ap, _∙_}
 use mathlib.Core.Bool.{Bool, true, false}

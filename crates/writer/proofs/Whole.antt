@@ -1,4 +1,4 @@
--- The whole call: what an accepted input gives, and the sections that make the list. Assumes nothing.
+-- The whole call: what an accepted input gives, and the sections that make the list.
 use Prim.Native.Nat.{ℕ, _+_, _*_, _≤_, _<_}
 use mathlib.Core.Path.{_≡_, refl, sym, ap, _∙_}
 use mathlib.Core.Bool.{true, false, _&&_}

@@ -1,4 +1,4 @@
--- The passes that write: one turn, and the end. What they have stored and what is left make the section whole. Assumes nothing.
+-- The passes that write: one turn, and the end. What they have stored and what is left make the section whole.
 use Prim.Native.Nat.{ℕ, suc, _+_, _*_, _-_, _≤_, _<_}
 use mathlib.Core.Path.{_≡_, refl, sym, ap, subst, _∙_}
 use mathlib.Core.Bool.{Bool, true, false}

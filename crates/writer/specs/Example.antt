@@ -1,4 +1,4 @@
--- A volume of four blocks of which 0, 1 and 3 are marked: what the writer writes, and what the reader finds in it. Assumes nothing.
+-- A volume of four blocks of which 0, 1 and 3 are marked: what the writer writes, and what the reader finds in it.
 use Prim.Native.Nat.{ℕ}
 use mathlib.Core.Path.{_≡_, refl}
 use mathlib.Core.Bool.{true}

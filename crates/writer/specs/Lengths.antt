@@ -1,4 +1,4 @@
--- The list's sections, and how long they are: "the bytes number 2 + 4E + 528n". Assumes nothing.
+-- The list's sections, and how long they are: "the bytes number 2 + 4E + 528n".
 use Prim.Native.Nat.{ℕ, suc, _+_, _*_, _≤_, _<_}
 use mathlib.Core.Path.{_≡_, refl, sym, ap₂}
 use mathlib.Core.Bool.{Bool, true, false}

@@ -1,4 +1,4 @@
--- What the reader finds in the bytes of any pairs and changes: the pairs, the changes, the size, and no refusal. Assumes nothing.
+-- What the reader finds in the bytes of any pairs and changes: the pairs, the changes, the size, and no refusal.
 use Prim.Native.Nat.{ℕ, _+_, _*_, _<_}
 use mathlib.Core.Path.{_≡_, refl, sym, ap, ap₂, _∙_}
 use mathlib.Core.Bool.{true}

@@ -1,4 +1,4 @@
--- The marked blocks of an accepted input: changes with whole fingerprints and blocks, whose LBNs the runs name. Assumes nothing.
+-- The marked blocks of an accepted input: changes with whole fingerprints and blocks, whose LBNs the runs name.
 use Prim.Native.Nat.{ℕ, _*_, _≤_, _<_}
 use mathlib.Core.Path.{_≡_, refl, sym, ap, _∙_}
 use mathlib.Core.Bool.{Bool, true, _&&_}

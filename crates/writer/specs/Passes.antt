@@ -1,4 +1,4 @@
--- What a pass over the marks does at each of them, and what the writer's functions answer and require. Assumes nothing.
+-- What a pass over the marks does at each of them, and what the writer's functions answer and require.
 use Prim.Native.Nat.{ℕ, _+_, _*_, _≤_}
 use mathlib.Core.Path.{_≡_}
 use mathlib.Core.List.{List, []}

@@ -1,4 +1,4 @@
--- "The reader recovers exactly these": it takes the list that the writer writes, and finds the marked blocks in it. Assumes nothing.
+-- "The reader recovers exactly these": it takes the list that the writer writes, and finds the marked blocks in it.
 use Prim.Native.Nat.{ℕ}
 use mathlib.Core.Path.{_≡_, refl, sym}
 use mathlib.Core.Bool.{Bool, true, false, not}

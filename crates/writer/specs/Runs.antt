@@ -1,4 +1,4 @@
--- Laws of the writer's runs: their LBNs are the marked ones, the reader takes them as pairs, and no two touch. Assumes nothing.
+-- Laws of the writer's runs: their LBNs are the marked ones, the reader takes them as pairs, and no two touch.
 use Prim.Native.Nat.{ℕ, zero, suc, _+_, _-_, _≤_, _<_}
 use mathlib.Core.Path.{_≡_, refl, ap, _∙_}
 use mathlib.Core.Bool.{Bool, true, false, _&&_}

@@ -1,4 +1,4 @@
--- The writer on the aid (document 01, "The writer on the aid"; numbers 19 and 20). Assumes nothing.
+-- The writer on the aid (document 01, "The writer on the aid"; numbers 19 and 20).
 use Prim.Native.Nat.{ℕ, zero, suc, _-_, _*_}
 use mathlib.Core.Path.{_≡_}
 use mathlib.Core.Bool.{Bool, not, _&&_}
