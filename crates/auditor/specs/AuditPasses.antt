@@ -10,10 +10,10 @@ use lib.Dec.{eqb}
 use lib.ListN.{length, getD, replicate}
 use borrow.Author.Tests.{eqb-true, eq-eqb, not-true}
 use Rattle.words.specs.Blocks.{unmapped}
-use Rattle.words.specs.Choice.{and-assoc, and-false, and-yes, or-l, or-r, not-both}
-use Rattle.words.specs.Each.{each-at, all-each}
+use Rattle.words.proofs.ChoiceLaws.{and-assoc, and-false, and-yes, or-l, or-r, not-both}
+use Rattle.words.proofs.Each.{each-at, all-each}
 use Rattle.words.specs.Lists.{all, someOf, countOf, joined, upFrom}
-use Rattle.words.specs.Places.{place-some, place-all, countOf-none, someOf-joined}
+use Rattle.words.proofs.Places.{place-some, place-all, countOf-none, someOf-joined}
 use Rattle.book.specs.Book.{Book, Sized, entryAt, cellAt}
 use Rattle.book.specs.Layout.{bookOf}
 use Rattle.book.specs.FormParts.{BookParts}

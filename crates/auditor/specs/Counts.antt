@@ -9,12 +9,12 @@ use lib.Dec.{eqb}
 use lib.ListN.{length, getD, take, set, replicate, length-set, getD-replicate}
 use lib.Seq.{take-suc, take-all}
 use borrow.Author.Tests.{eqb-true, ne-eqb}
-use Rattle.words.specs.Appends.{countOf-append, joined-append}
+use Rattle.words.proofs.Appends.{countOf-append, joined-append}
 use Rattle.words.specs.Blocks.{unmapped}
 use Rattle.words.specs.Choice.{if_then_else_}
-use Rattle.words.specs.Each.{all-each}
+use Rattle.words.proofs.Each.{all-each}
 use Rattle.words.specs.Lists.{all, countOf, joined, upFrom}
-use Rattle.words.specs.Stores.{getD-set}
+use Rattle.words.proofs.Stores.{getD-set}
 use Rattle.book.specs.Book.{volumes, Entry, entryAt}
 use Rattle.book.specs.Layout.{bookOf}
 use Rattle.book.specs.Formed.{Formed}

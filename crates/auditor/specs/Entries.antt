@@ -5,7 +5,7 @@ use mathlib.Core.Bool.{Bool, true, _&&_}
 use mathlib.Core.List.{List}
 use lib.Dec.{eqb}
 use lib.ListN.{replicate}
-use Rattle.words.specs.Choice.{and-swap}
+use Rattle.words.proofs.ChoiceLaws.{and-swap}
 use Rattle.words.specs.Lists.{all, joined, upFrom}
 use Rattle.book.specs.Book.{Entry}
 use Rattle.book.specs.Layout.{bookOf}

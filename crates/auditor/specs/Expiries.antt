@@ -10,10 +10,10 @@ use lib.ListN.{length, getD, set, replicate, length-set, getD-replicate}
 use lib.Seq.{slice, slice-cons, slice-empty}
 use borrow.Author.Tests.{eqb-true, ne-eqb}
 use Rattle.words.specs.Choice.{if_then_else_}
-use Rattle.words.specs.Each.{all-each}
+use Rattle.words.proofs.Each.{all-each}
 use Rattle.words.specs.Lists.{all, upFrom}
-use Rattle.words.specs.Stores.{getD-set}
-use Rattle.words.specs.Tests.{eqb-swap}
+use Rattle.words.proofs.Stores.{getD-set}
+use Rattle.words.proofs.Tests.{eqb-swap}
 use Rattle.book.specs.Book.{Entry, Rec, Book, noRec, entryAt, recAt, retentionOf}
 use Rattle.book.specs.Layout.{bookOf}
 use Rattle.book.specs.Formed.{Formed}

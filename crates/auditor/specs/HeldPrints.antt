@@ -6,9 +6,10 @@ use mathlib.Core.List.{List, [], _∷_, map}
 use native.Mathlib.Numerals.{add-one}
 use lib.ListN.{length, drop, drop-of-length-le}
 use lib.Seq.{drop-cons}
-use Rattle.words.specs.Choice.{if_then_else_, and-yes, and-false, same-test}
+use Rattle.words.specs.Choice.{if_then_else_}
+use Rattle.words.proofs.ChoiceLaws.{and-yes, and-false, same-test}
 use Rattle.words.specs.Lists.{all, someOf, those, same, differ}
-use Rattle.words.specs.Same.{same-self, same-equal}
+use Rattle.words.proofs.Same.{same-self, same-equal}
 use Rattle.book.specs.Book.{Entry, Book, freeEntry, entryAt}
 use Rattle.index.specs.Bucket.{hasPrint, apart}
 use Rattle.model.specs.Audit.{printsSound}

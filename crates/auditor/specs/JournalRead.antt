@@ -8,10 +8,10 @@ use lib.Dec.{ltb}
 use lib.ListN.{length, drop}
 use lib.Seq.{slice}
 use borrow.Author.Tests.{lt-ltb}
-use Rattle.words.specs.Choice.{true-and}
+use Rattle.words.proofs.ChoiceLaws.{true-and}
 use Rattle.words.specs.Lists.{all}
-use Rattle.words.specs.Parts.{drop-take}
-use Rattle.words.specs.Places.{place-all, all-take, all-drop}
+use Rattle.words.proofs.Parts.{drop-take}
+use Rattle.words.proofs.Places.{place-all, all-take, all-drop}
 use Rattle.book.specs.Book.{volumes, Sizes, Rec, Book, Sized, slotAt, retentionOf}
 use Rattle.book.specs.Form.{recOk}
 use Rattle.book.specs.Formed.{Formed}

@@ -7,13 +7,14 @@ use native.Mathlib.Omega.{arith}
 use lib.Dec.{leb, ltb, eqb}
 use lib.ListN.{length, getD, set, drop, replicate, length-set, length-replicate, getD-replicate}
 use borrow.Author.Tests.{eqb-true, ltb-true, leb-true, le-leb}
-use Rattle.words.specs.Places.{all-weaker}
+use Rattle.words.proofs.Places.{all-weaker}
 use Rattle.words.specs.Blocks.{unmapped}
-use Rattle.words.specs.Choice.{if_then_else_, and-true}
-use Rattle.words.specs.Each.{each-at, all-each}
+use Rattle.words.specs.Choice.{if_then_else_}
+use Rattle.words.proofs.ChoiceLaws.{and-true}
+use Rattle.words.proofs.Each.{each-at, all-each}
 use Rattle.words.specs.Lists.{all, upFrom}
-use Rattle.words.specs.Same.{same-equal}
-use Rattle.words.specs.Stores.{getD-set}
+use Rattle.words.proofs.Same.{same-equal}
+use Rattle.words.proofs.Stores.{getD-set}
 use Rattle.book.specs.Book.{volumes, Sizes, Slot, Rec, Book, Sized}
 use Rattle.book.specs.Form.{enrolled, pbnOk, recOk, slotOk, laterOk, daysOk}
 use Rattle.book.specs.FormParts.{BookParts}

@@ -5,7 +5,8 @@ use mathlib.Core.Bool.{Bool, true, _&&_}
 use mathlib.Core.List.{List, []}
 use native.Mathlib.Omega.{arith}
 use lib.ListN.{length, getD, take, replicate, length-replicate, getD-replicate}
-use Rattle.words.specs.Each.{each, each-none, each-grow}
+use Rattle.words.specs.Lists.{each}
+use Rattle.words.proofs.Each.{each-none, each-grow}
 use Rattle.words.specs.Lists.{joined}
 use Rattle.book.specs.Book.{volumes, Book}
 use Rattle.book.specs.Layout.{bookOf}

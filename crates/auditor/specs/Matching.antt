@@ -4,7 +4,8 @@ use mathlib.Core.Path.{_≡_, sym, ap}
 use mathlib.Core.Bool.{Bool, true, _&&_}
 use native.Mathlib.Omega.{arith}
 use lib.Dec.{eqb}
-use Rattle.words.specs.Each.{each, each-none, each-grow, each-same}
+use Rattle.words.specs.Lists.{each}
+use Rattle.words.proofs.Each.{each-none, each-grow, each-same}
 
 -- f and g agree below n
 unfoldable pub matching : (ℕ → ℕ) → (ℕ → ℕ) → ℕ → Bool

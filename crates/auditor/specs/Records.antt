@@ -7,7 +7,7 @@ use native.Mathlib.Numerals.{add-one}
 use lib.Dec.{eqb}
 use lib.ListN.{length, getD, set}
 use lib.Seq.{slice, slice-cons, slice-empty}
-use Rattle.words.specs.Choice.{and-assoc, and-swap, and-yes}
+use Rattle.words.proofs.ChoiceLaws.{and-assoc, and-swap, and-yes}
 use Rattle.book.specs.Book.{Rec, Book, noRec, recAt}
 use Rattle.book.specs.Struct.{RecordIs}
 use Rattle.book.specs.declared.record.Record.{Record}

@@ -8,9 +8,9 @@ use lib.Dec.{ltb}
 use lib.ListN.{length, getD, take, drop}
 use lib.Seq.{slice}
 use borrow.Author.Tests.{ltb-true, ltb-false, le-leb, lt-leb}
-use Rattle.words.specs.Choice.{and-assoc, and-swap, and-yes}
+use Rattle.words.proofs.ChoiceLaws.{and-assoc, and-swap, and-yes}
 use Rattle.words.specs.Lists.{all}
-use Rattle.words.specs.Places.{all-take, all-drop}
+use Rattle.words.proofs.Places.{all-take, all-drop}
 use Rattle.book.specs.Book.{Book, slotAt, retentionOf}
 use Rattle.book.specs.Form.{recOk}
 use Rattle.book.specs.Formed.{Formed}

@@ -8,11 +8,13 @@ use lib.Dec.{ltb, eqb}
 use lib.ListN.{length, getD, set, length-set}
 use borrow.Author.Tests.{eqb-true, eq-eqb, ne-eqb, ltb-true}
 use Rattle.words.specs.Blocks.{unmapped}
-use Rattle.words.specs.Choice.{if_then_else_, and-true, true-and, same-test}
-use Rattle.words.specs.Each.{each, each-at, at-each, each-same, all-each}
+use Rattle.words.specs.Choice.{if_then_else_}
+use Rattle.words.proofs.ChoiceLaws.{and-true, true-and, same-test}
+use Rattle.words.specs.Lists.{each}
+use Rattle.words.proofs.Each.{each-at, at-each, each-same, all-each}
 use Rattle.words.specs.Lists.{all, upFrom}
-use Rattle.words.specs.Stores.{getD-set}
-use Rattle.words.specs.Tests.{eqb-swap}
+use Rattle.words.proofs.Stores.{getD-set}
+use Rattle.words.proofs.Tests.{eqb-swap}
 use Rattle.book.specs.Book.{Sizes, Rec, Book}
 use Rattle.book.specs.Form.{pbnOk, recOk}
 use Rattle.model.specs.Audit.{cellSound}

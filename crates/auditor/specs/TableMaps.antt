@@ -9,11 +9,13 @@ use lib.ListN.{length, getD, set, replicate, length-set, length-replicate, getD-
 use lib.Seq.{getD-set-same, set-getD, ext-getD}
 use borrow.Author.Tests.{eqb-true, eqb-false, eq-eqb, ne-eqb, ltb-true}
 use Rattle.words.specs.Blocks.{unmapped}
-use Rattle.words.specs.Choice.{if_then_else_, and-true, same-test}
-use Rattle.words.specs.Each.{each, each-at, at-each, each-same, all-each}
+use Rattle.words.specs.Choice.{if_then_else_}
+use Rattle.words.proofs.ChoiceLaws.{and-true, same-test}
+use Rattle.words.specs.Lists.{each}
+use Rattle.words.proofs.Each.{each-at, at-each, each-same, all-each}
 use Rattle.words.specs.Lists.{all, same, upFrom}
-use Rattle.words.specs.Same.{same-self, same-equal}
-use Rattle.words.specs.Stores.{getD-set}
+use Rattle.words.proofs.Same.{same-self, same-equal}
+use Rattle.words.proofs.Stores.{getD-set}
 use Rattle.book.specs.Book.{volumes, Sizes, Rec, Book, Sized, cellAt}
 use Rattle.book.specs.Form.{pbnOk, recOk}
 use Rattle.model.specs.Journal.{Backup, journal}

@@ -12,7 +12,8 @@ use lib.ListN.{length, getD}
 use Rattle.words.specs.Blocks.{printSize, unmapped}
 use Rattle.words.specs.Lists.{joined}
 use Rattle.words.specs.Numbers.{two, num}
-use Rattle.words.specs.Sections.{flat, fit, tab, length-tab, getD-tab, part, part-add, part-cons, part-tab, flat-tab, fit-tab, fit-all, joined-parts}
+use Rattle.words.specs.Sections.{flat, fit, tab, part}
+use Rattle.words.proofs.SectionLaws.{length-tab, getD-tab, part-add, part-cons, part-tab, flat-tab, fit-tab, fit-all, joined-parts}
 use Rattle.book.specs.Book.{volumes, Sizes, freeEntry, noSlot, noRec, Sized}
 use Rattle.book.specs.Layout.{layoutNumber, headerSize, entrySize, slotSize, recSize, bPlace, uPlace, dayPlace, cursorPlace, retentionPlace, entriesFrom, entryPlace, mapsFrom, slotsFrom, slotPlace, recordsFrom, recPlace, stateByte, entryBytes, mapBytes, slotBytes, recBytes, bytes, sizesOf, entryOf, cellOf, slotOf, recOf, bookOf}
 use Rattle.book.specs.Shape.{Shape}

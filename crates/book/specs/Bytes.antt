@@ -6,7 +6,8 @@ use native.Mathlib.Omega.{arith}
 use lib.ListN.{length, getD, length-append}
 use Rattle.words.specs.Blocks.{unmapped}
 use Rattle.words.specs.Numbers.{two}
-use Rattle.words.specs.Sections.{start, flat, fit, getD-joined, length-sect, getD-sect, length-fit, inside}
+use Rattle.words.proofs.SectionLaws.{start, getD-joined, length-sect, getD-sect, length-fit, inside}
+use Rattle.words.specs.Sections.{flat, fit}
 use Rattle.book.specs.Book.{volumes, Entry, Slot, Rec, Book, freeEntry, noSlot, noRec, entryAt, cellAt, slotAt, recAt, retentionOf}
 use Rattle.book.specs.Layout.{headerSize, entrySize, slotSize, recSize, retentionPlace, entriesFrom, entryPlace, mapsFrom, cellPlace, slotsFrom, slotPlace, recordsFrom, recPlace, bookSize, entryBytes, mapBytes, slotBytes, recBytes, headerWords, sections, bytes}
 

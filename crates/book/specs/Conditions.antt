@@ -10,9 +10,9 @@ use native.Mathlib.Omega.{arith}
 use lib.Dec.{leb, ltb, eqb}
 use lib.ListN.{length, getD, replicate, List·getD-eq-default}
 use borrow.Author.Tests.{leb-true, ltb-true, eqb-true, eq-eqb}
-use Rattle.words.specs.Places.{all-place}
+use Rattle.words.proofs.Places.{all-place}
 use Rattle.words.specs.Blocks.{unmapped}
-use Rattle.words.specs.Choice.{and-true, or-cases}
+use Rattle.words.proofs.ChoiceLaws.{and-true, or-cases}
 use Rattle.words.specs.Lists.{all, allZero}
 use Rattle.book.specs.Book.{Entry, Slot, Rec, Book, freeEntry, noSlot, noRec, entryAt, cellAt, slotAt, recAt, retentionOf}
 use Rattle.book.specs.Form.{retentionOk, entryOk, pbnOk, recOk, enrolled, slotOk, laterOk, daysOk, pairsOk}

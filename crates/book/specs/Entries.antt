@@ -8,7 +8,8 @@ use lib.ListN.{length, set, replicate, length-set}
 use lib.Seq.{sets, set-set, getD-set-same}
 use Rattle.words.specs.Blocks.{printSize}
 use Rattle.words.specs.Numbers.{two}
-use Rattle.words.specs.Sections.{fit, sets-cons, sets-whole, length-fit, fit-all}
+use Rattle.words.specs.Sections.{fit}
+use Rattle.words.proofs.SectionLaws.{sets-cons, sets-whole, length-fit, fit-all}
 use Rattle.book.specs.Book.{Entry, Book, noPrint, freeEntry, entryAt}
 use Rattle.book.specs.Layout.{entryPlace, stateByte, entryBytes, bytes}
 use Rattle.book.specs.Next.{withEntries, countAs, expiryAs, heldAs, freed, withEntry}

@@ -8,7 +8,7 @@ use native.Mathlib.Omega.{arith}
 use lib.Dec.{leb, eqb}
 use lib.ListN.{length}
 use borrow.Author.Tests.{leb-true, eqb-true}
-use Rattle.words.specs.Choice.{and-true, true-and, true-or-false}
+use Rattle.words.proofs.ChoiceLaws.{and-true, true-and, true-or-false}
 use Rattle.words.specs.Numbers.{num}
 use Rattle.book.specs.Layout.{layoutNumber, headerSize, bookSize, sizesOf, bookOf}
 use Rattle.book.specs.Form.{sizesOk, layoutOk, bookOk, rawOk, formNumber}

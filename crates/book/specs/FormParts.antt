@@ -7,7 +7,7 @@ use Prim.Native.Nat.{ℕ}
 use lib.Dec.{leb, ltb, eqb}
 use lib.ListN.{length}
 use borrow.Author.Tests.{leb-true, ltb-true, eqb-true, le-leb, lt-ltb, eq-eqb}
-use Rattle.words.specs.Choice.{and-true}
+use Rattle.words.proofs.ChoiceLaws.{and-true}
 use Rattle.words.specs.Lists.{all, allZero, upFrom}
 use Rattle.words.specs.Numbers.{num}
 use Rattle.words.specs.Sections.{part}

@@ -7,8 +7,9 @@ use lib.Seq.{sets}
 use Rattle.words.specs.Blocks.{unmapped}
 use Rattle.words.specs.Lists.{joined}
 use Rattle.words.specs.Numbers.{two}
-use Rattle.words.specs.Filling.{fit-none, flat-run}
-use Rattle.words.specs.Sections.{flat, fit, fit-all}
+use Rattle.words.proofs.Filling.{fit-none, flat-run}
+use Rattle.words.specs.Sections.{flat, fit}
+use Rattle.words.proofs.SectionLaws.{fit-all}
 use Rattle.book.specs.Book.{volumes, Sizes, Entry, Slot, Rec, noPrint, freeEntry, noSlot, noRec}
 use Rattle.book.specs.Layout.{layoutNumber, entrySize, slotSize, recSize, entriesFrom, mapsFrom, entryBytes, mapBytes, slotBytes, recBytes, headerWords, bytes, Is}
 use Rattle.book.specs.Next.{fresh}

@@ -8,8 +8,10 @@ use native.Mathlib.Omega.{arith}
 use lib.Dec.{eqb}
 use lib.ListN.{length, getD}
 use Rattle.words.specs.Blocks.{printSize, unmapped}
-use Rattle.words.specs.Numbers.{two, num, two-back}
-use Rattle.words.specs.Sections.{flat, tab, tab-list, getD-fit}
+use Rattle.words.specs.Numbers.{two, num}
+use Rattle.words.proofs.NumberLaws.{two-back}
+use Rattle.words.specs.Sections.{flat, tab}
+use Rattle.words.proofs.SectionLaws.{tab-list, getD-fit}
 use Rattle.book.specs.Book.{volumes, Book, freeEntry, noSlot, noRec, entryAt, cellAt, slotAt, recAt, retentionOf, Sized}
 use Rattle.book.specs.Layout.{headerSize, slotSize, recSize, nPlace, lPlace, sPlace, jPlace, bPlace, uPlace, dayPlace, cursorPlace, zeroPlace, retentionPlace, entryPlace, cellPlace, slotPlace, recPlace, stateByte, slotBytes, recBytes, headerWords, bytes, sizesOf, entryOf, slotOf, recOf, bookOf}
 use Rattle.book.specs.Bytes.{get-head, get-retention, get-entry, get-cell, get-slot, get-rec}

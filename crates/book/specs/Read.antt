@@ -8,7 +8,8 @@ use lib.Dec.{eqb}
 use lib.ListN.{length, getD}
 use Rattle.words.specs.Blocks.{printSize, unmapped}
 use Rattle.words.specs.Numbers.{two, num}
-use Rattle.words.specs.Sections.{flat, tab, length-tab, getD-tab, part, part-tab, inside}
+use Rattle.words.specs.Sections.{flat, tab, part}
+use Rattle.words.proofs.SectionLaws.{length-tab, getD-tab, part-tab, inside}
 use Rattle.book.specs.Book.{volumes, freeEntry, noSlot, noRec, entryAt, cellAt, slotAt, recAt, retentionOf}
 use Rattle.book.specs.Layout.{nPlace, lPlace, sPlace, jPlace, bPlace, uPlace, dayPlace, cursorPlace, retentionPlace, entryPlace, mapsFrom, cellPlace, slotPlace, recPlace, sizesOf, entryOf, cellOf, slotOf, recOf, bookOf, Holds}
 use Rattle.book.specs.Back.{nums-part}

@@ -4,7 +4,7 @@ use mathlib.Core.Path.{_≡_}
 use mathlib.Core.Bool.{true, _&&_}
 use lib.Dec.{leb}
 use borrow.Author.Tests.{leb-true, le-leb}
-use Rattle.words.specs.Choice.{and-true}
+use Rattle.words.proofs.ChoiceLaws.{and-true}
 use Rattle.book.specs.Book.{Sizes}
 use Rattle.book.specs.Form.{between, sizesOk}
 

@@ -9,7 +9,8 @@ use lib.Seq.{sets}
 use Rattle.words.specs.Blocks.{unmapped}
 use Rattle.words.specs.Lists.{joined}
 use Rattle.words.specs.Numbers.{two}
-use Rattle.words.specs.Sections.{start, flat, fit, sets-joined, sets-sect, sets-end, inside}
+use Rattle.words.proofs.SectionLaws.{start, sets-joined, sets-sect, sets-end, inside}
+use Rattle.words.specs.Sections.{flat, fit}
 use Rattle.book.specs.Book.{volumes, Entry, Slot, Rec, Book, freeEntry, noSlot, noRec, entryAt}
 use Rattle.book.specs.Layout.{headerSize, entrySize, slotSize, recSize, bPlace, uPlace, dayPlace, cursorPlace, retentionPlace, entriesFrom, entryPlace, mapsFrom, cellPlace, slotsFrom, slotPlace, recordsFrom, recPlace, entryBytes, mapBytes, slotBytes, recBytes, headerWords, sections, bytes}
 use Rattle.book.specs.Next.{withDay, withCursor, withRetention, withEntries, withMaps, withSlot, withRecord, withCell}

@@ -6,7 +6,7 @@ use lib.ListN.{length, set, replicate}
 use lib.Seq.{sets}
 use Rattle.words.specs.Blocks.{printSize}
 use Rattle.words.specs.Numbers.{two, put}
-use Rattle.words.specs.Filling.{put-sets}
+use Rattle.words.proofs.Filling.{put-sets}
 use Rattle.book.specs.Book.{volumes, Slot, Rec, Book}
 use Rattle.book.specs.Layout.{bPlace, uPlace, dayPlace, cursorPlace, retentionPlace, entryPlace, cellPlace, slotPlace, recPlace, slotBytes, recBytes, bytes, bookOf, Holds, Is}
 use Rattle.book.specs.Next.{withDay, withCursor, withRetention, withEntries, withMaps, withSlot, withRecord, countAs, expiryAs, heldAs, freed, withEntry, withCell}

@@ -11,10 +11,11 @@ use lib.ListN.{length, drop, length-drop}
 use lib.Seq.{sets, length-take-le}
 use borrow.Author.Tests.{lt-ltb, le-ltb}
 use Rattle.words.specs.Choice.{if_then_else_}
-use Rattle.words.specs.Counting.{bit}
-use Rattle.words.specs.Laying.{Stored, sets-append}
+use Rattle.words.specs.Lists.{bit}
+use Rattle.words.specs.Laying.{Stored}
+use Rattle.words.proofs.LayingLaws.{sets-append}
 use Rattle.words.specs.Numbers.{two, put}
-use Rattle.words.specs.Runs.{below-or-not}
+use Rattle.words.proofs.Runs.{below-or-not}
 use Rattle.words.specs.Sections.{flat}
 use Rattle.book.specs.Book.{Book, slotAt}
 use Rattle.book.specs.Conditions.{pairs-in}

@@ -5,7 +5,7 @@ use mathlib.Core.Bool.{true}
 use mathlib.Core.List.{List, [], _++_}
 use native.Mathlib.Omega.{arith}
 use lib.ListN.{length}
-use Rattle.words.specs.Laying.{Left, left-all}
+use Rattle.words.proofs.LayingLaws.{Left, left-all}
 use Rattle.book.specs.Book.{Book, slotAt, retentionOf}
 use Rattle.book.specs.Form.{pairsOk}
 use Rattle.model.specs.Journal.{Backup}

@@ -5,7 +5,7 @@ use mathlib.Core.List.{List}
 use lib.ListN.{length}
 use lib.Seq.{sets}
 use borrow.Author.Tests.{lt-ltb, le-ltb}
-use Rattle.words.specs.Accepted.{unless-refused}
+use Rattle.words.proofs.Accepted.{unless-refused}
 use Rattle.book.specs.Layout.{bookOf}
 use Rattle.model.specs.Journal.{backups}
 use Rattle.model.specs.Views.{enrolledNumber, outputNumber, backupsOf, withRoom, backupsBytes}

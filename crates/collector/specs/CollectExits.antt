@@ -5,8 +5,8 @@ use mathlib.Core.Bool.{true}
 use mathlib.Core.List.{List, map}
 use lib.Dec.{ltb}
 use borrow.Author.Tests.{lt-ltb, le-ltb}
-use Rattle.words.specs.Accepted.{unless-refused}
-use Rattle.words.specs.Choice.{or-r}
+use Rattle.words.proofs.Accepted.{unless-refused}
+use Rattle.words.proofs.ChoiceLaws.{or-r}
 use Rattle.words.specs.Lists.{countOf}
 use Rattle.words.specs.Outcome.{refused, accepted, andThen}
 use Rattle.book.specs.Layout.{bookOf, Is}

@@ -6,9 +6,9 @@ use mathlib.Core.List.{List, [], _∷_, map}
 use native.Mathlib.Omega.{arith}
 use lib.ListN.{length, getD, take, set}
 use lib.Seq.{take-suc}
-use Rattle.words.specs.Appends.{countOf-append}
+use Rattle.words.proofs.Appends.{countOf-append}
 use Rattle.words.specs.Choice.{if_then_else_}
-use Rattle.words.specs.Counting.{bit}
+use Rattle.words.specs.Lists.{bit}
 use Rattle.words.specs.Lists.{countOf}
 
 pub bit-le : (t : Bool) → bit t ≤ 1

@@ -7,7 +7,7 @@ use native.Mathlib.Numerals.{add-one}
 use native.Mathlib.Omega.{arith}
 use lib.ListN.{length, take}
 use lib.Seq.{take-length, set-getD}
-use Rattle.words.specs.Counting.{bit}
+use Rattle.words.specs.Lists.{bit}
 use Rattle.words.specs.Lists.{countOf}
 use Rattle.book.specs.Book.{Entry, Book, freeEntry, entryAt}
 use Rattle.book.specs.Layout.{bookOf, Holds, Is}

@@ -5,8 +5,8 @@ use mathlib.Core.Bool.{true}
 use mathlib.Core.List.{List}
 use lib.Dec.{ltb, eqb}
 use borrow.Author.Tests.{lt-ltb, le-ltb, eq-eqb, ne-eqb}
-use Rattle.words.specs.Accepted.{unless-refused}
-use Rattle.words.specs.Choice.{or-r}
+use Rattle.words.proofs.Accepted.{unless-refused}
+use Rattle.words.proofs.ChoiceLaws.{or-r}
 use Rattle.words.specs.Outcome.{refused, accepted, andThen}
 use Rattle.book.specs.Book.{Book, retentionOf}
 use Rattle.book.specs.Layout.{bytes, bookOf, Is}

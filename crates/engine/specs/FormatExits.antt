@@ -6,7 +6,7 @@ use mathlib.Core.List.{List}
 use lib.Dec.{eqb}
 use lib.ListN.{length}
 use borrow.Author.Tests.{eq-eqb, ne-eqb}
-use Rattle.words.specs.Choice.{and-false}
+use Rattle.words.proofs.ChoiceLaws.{and-false}
 use Rattle.book.specs.Book.{Sizes}
 use Rattle.book.specs.Layout.{bookSize, Is}
 use Rattle.book.specs.Form.{sizesOk}

@@ -8,11 +8,12 @@ use lib.ListN.{length, getD}
 use borrow.Author.Tests.{leb-true, ltb-true, eqb-true, le-leb, lt-leb, lt-ltb, eq-eqb, ne-eqb}
 use native.Mathlib.Omega.{arith}
 use Rattle.words.specs.Blocks.{printSize}
-use Rattle.words.specs.Choice.{and-true}
-use Rattle.words.specs.Each.{each, zeros-each}
+use Rattle.words.proofs.ChoiceLaws.{and-true}
+use Rattle.words.specs.Lists.{each}
+use Rattle.words.proofs.Each.{zeros-each}
 use Rattle.words.specs.Lists.{allZero}
 use Rattle.words.specs.Numbers.{num}
-use Rattle.words.specs.Sections.{part-tab}
+use Rattle.words.proofs.SectionLaws.{part-tab}
 use Rattle.book.specs.Book.{volumes}
 use Rattle.book.specs.Layout.{layoutNumber, headerSize, bookSize, entryPlace, entrySize, nPlace, lPlace, sPlace, jPlace, bPlace, uPlace, dayPlace, cursorPlace, zeroPlace, retentionPlace, recSize, sizesOf, entryOf, recOf}
 use Rattle.book.specs.Form.{layoutOk, sizesOk, retentionOk, stateOk, entryOk, pbnOk, recOk}

@@ -9,9 +9,9 @@ use lib.Dec.{leb, ltb, eqb}
 use lib.ListN.{length, getD, set, replicate, length-set, getD-replicate}
 use lib.Seq.{getD-set-same, getD-set-other}
 use borrow.Author.Tests.{leb-true, ltb-true, ltb-false, le-leb, lt-leb, eqb-true, eqb-false}
-use Rattle.words.specs.All.{all-and, all-same}
-use Rattle.words.specs.Places.{all-weaker}
-use Rattle.words.specs.Choice.{and-true, true-and, and-false, and-yes, and-assoc}
+use Rattle.words.proofs.All.{all-and, all-same}
+use Rattle.words.proofs.Places.{all-weaker}
+use Rattle.words.proofs.ChoiceLaws.{and-true, true-and, and-false, and-yes, and-assoc}
 use Rattle.words.specs.Lists.{all}
 use Rattle.book.specs.Book.{volumes, Slot}
 use Rattle.book.specs.Form.{laterOk, daysOk}

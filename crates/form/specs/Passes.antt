@@ -9,12 +9,14 @@ use native.Mathlib.Nat.{mul-assoc}
 use lib.Dec.{leb}
 use lib.ListN.{length}
 use borrow.Author.Tests.{lt-ltb}
-use Rattle.words.specs.Places.{all-weaker}
-use Rattle.words.specs.Choice.{and-true, true-and, same-test}
-use Rattle.words.specs.Each.{each, each-and, each-same, all-each, tab-each, zeros-each, rows-each}
+use Rattle.words.proofs.Places.{all-weaker}
+use Rattle.words.proofs.ChoiceLaws.{and-true, true-and, same-test}
+use Rattle.words.specs.Lists.{each}
+use Rattle.words.proofs.Each.{each-and, each-same, all-each, tab-each, zeros-each, rows-each}
 use Rattle.words.specs.Lists.{all, allZero, upFrom}
 use Rattle.words.specs.Numbers.{num}
-use Rattle.words.specs.Sections.{tab, part, length-tab}
+use Rattle.words.specs.Sections.{tab, part}
+use Rattle.words.proofs.SectionLaws.{length-tab}
 use Rattle.book.specs.Book.{volumes, Slot}
 use Rattle.book.specs.Layout.{nPlace, lPlace, sPlace, jPlace, bPlace, uPlace, retentionPlace, entriesFrom, entrySize, mapsFrom, cellPlace, slotsFrom, slotSize, recSize, slotPlace, recordsFrom, recPlace, bookSize, sizesOf, entryOf, cellOf, recOf, bookOf}
 use Rattle.book.specs.Form.{retentionOk, entryOk, pbnOk, recOk, enrolled, slotOk, daysOk, pairsOk, bookOk, stateOk, secondOk, rawOk, layoutOk, formNumber}

@@ -10,11 +10,13 @@ use lib.Dec.{leb, eqb}
 use lib.ListN.{length, getD, set, drop, drop-of-length-le, List·getD-eq-default}
 use lib.Seq.{drop-cons}
 use borrow.Author.Tests.{leb-true}
-use Rattle.words.specs.Choice.{and-true, and-false, and-swap, not-both}
-use Rattle.words.specs.Each.{each, each-first, each-none}
+use Rattle.words.proofs.ChoiceLaws.{and-true, and-false, and-swap, not-both}
+use Rattle.words.specs.Lists.{each}
+use Rattle.words.proofs.Each.{each-first, each-none}
 use Rattle.words.specs.Lists.{all}
 use Rattle.words.specs.Numbers.{num}
-use Rattle.words.specs.Sections.{tab, length-tab, getD-tab}
+use Rattle.words.specs.Sections.{tab}
+use Rattle.words.proofs.SectionLaws.{length-tab, getD-tab}
 use Rattle.book.specs.Book.{volumes, Slot, noSlot}
 use Rattle.book.specs.Layout.{bPlace, uPlace, dayPlace, retentionPlace, slotsFrom, slotPlace, slotSize, sizesOf, slotOf, bookOf}
 use Rattle.book.specs.Form.{secondOk, enrolled, slotOk, pairsOk}

@@ -8,11 +8,11 @@ use lib.Dec.{eqb}
 use lib.ListN.{length, drop}
 use borrow.Author.Tests.{eqb-true, eq-eqb, ne-eqb}
 use Rattle.words.specs.Blocks.{printSize}
-use Rattle.words.specs.Choice.{and-true, true-and, and-false, not-both}
+use Rattle.words.proofs.ChoiceLaws.{and-true, true-and, and-false, not-both}
 use Rattle.words.specs.Lists.{someOf, same}
 use Rattle.words.specs.Numbers.{num}
-use Rattle.words.specs.Same.{same-equal}
-use Rattle.words.specs.Tests.{surely-not}
+use Rattle.words.proofs.Same.{same-equal}
+use Rattle.words.proofs.Tests.{surely-not}
 use Rattle.book.specs.Book.{Entry, freeEntry, entryAt}
 use Rattle.index.specs.First.{firstFrom, first-none}
 

@@ -10,8 +10,9 @@ use lib.Dec.{eqb}
 use lib.ListN.{length, getD, drop, length-drop}
 use lib.Seq.{getD-drop}
 use borrow.Author.Tests.{eq-eqb, ne-eqb}
-use Rattle.words.specs.Choice.{if_then_else_, not-both}
-use Rattle.words.specs.Found.{place-found, place-first, place-none}
+use Rattle.words.specs.Choice.{if_then_else_}
+use Rattle.words.proofs.ChoiceLaws.{not-both}
+use Rattle.words.proofs.Found.{place-found, place-first, place-none}
 use Rattle.words.specs.Lists.{someOf, placeFrom}
 
 -- the place found, or d

@@ -9,8 +9,8 @@ use lib.Dec.{eqb}
 use lib.ListN.{length, getD, set, length-set}
 use lib.Seq.{getD-set-same, getD-set-other}
 use borrow.Author.Tests.{eqb-true, eqb-false}
-use Rattle.words.specs.Choice.{not-both}
-use Rattle.words.specs.Tests.{surely-not}
+use Rattle.words.proofs.ChoiceLaws.{not-both}
+use Rattle.words.proofs.Tests.{surely-not}
 use Rattle.book.specs.Book.{Entry, entryAt}
 use Rattle.index.specs.Bucket.{tableSize, bucketOf, inBucket, firstIn, held-in, in-held}
 use Rattle.index.specs.Indexed.{Indexed, without}

@@ -8,7 +8,7 @@ use lib.Dec.{eqb}
 use lib.ListN.{length, length-set}
 use lib.Seq.{getD-set-same, getD-set-other}
 use borrow.Author.Tests.{eqb-true, eqb-false}
-use Rattle.words.specs.Choice.{not-both}
+use Rattle.words.proofs.ChoiceLaws.{not-both}
 use Rattle.book.specs.Book.{Entry, freeEntry, entryAt}
 use Rattle.index.specs.First.{First, first-is, first-at}
 use Rattle.index.specs.Bucket.{bucketOf, inBucket, firstIn, free-held, free-out, held-in}

@@ -6,8 +6,8 @@ use mathlib.Core.List.{List}
 use native.Mathlib.Omega.{arith}
 use lib.ListN.{length, getD, set, length-set}
 use lib.Seq.{getD-set-other, set-set}
-use Rattle.words.specs.Choice.{not-both}
-use Rattle.words.specs.Stores.{getD-set-kept}
+use Rattle.words.proofs.ChoiceLaws.{not-both}
+use Rattle.words.proofs.Stores.{getD-set-kept}
 use Rattle.book.specs.Book.{Entry, freeEntry, entryAt}
 use Rattle.index.specs.First.{first-is, first-at}
 use Rattle.index.specs.Bucket.{bucketOf, inBucket, firstIn, free-held, free-out, bucket-by}

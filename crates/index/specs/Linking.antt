@@ -9,7 +9,7 @@ use lib.Dec.{eqb}
 use lib.ListN.{length, getD, set, replicate, length-set, length-replicate, getD-replicate}
 use lib.Seq.{getD-set-same, getD-set-other}
 use borrow.Author.Tests.{eqb-true, eqb-false}
-use Rattle.words.specs.Choice.{not-both}
+use Rattle.words.proofs.ChoiceLaws.{not-both}
 use Rattle.book.specs.Book.{Entry, freeEntry, entryAt}
 use Rattle.index.specs.First.{first-past, first-here, first-end}
 use Rattle.index.specs.Bucket.{tableSize, bucketOf, inBucket, firstIn, free-out, other-out, held-in}

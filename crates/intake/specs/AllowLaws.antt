@@ -7,7 +7,7 @@ use native.Mathlib.Omega.{arith}
 use lib.Dec.{leb, eqb}
 use lib.ListN.{length, length-map}
 use borrow.Author.Tests.{lt-ltb, le-ltb, le-leb, lt-leb, eq-eqb, ne-eqb, ltb-false}
-use Rattle.words.specs.Accepted.{unless-refused}
+use Rattle.words.proofs.Accepted.{unless-refused}
 use Rattle.words.specs.Blocks.{blockSize}
 use Rattle.words.specs.Choice.{if_then_else_}
 use Rattle.words.specs.Lists.{those, lastOf}

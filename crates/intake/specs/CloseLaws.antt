@@ -4,7 +4,7 @@ use mathlib.Core.Path.{_≡_, refl, sym, ap, _∙_}
 use mathlib.Core.List.{List}
 use native.Mathlib.Omega.{arith}
 use lib.ListN.{length, replicate, length-replicate}
-use Rattle.words.specs.Choice.{not-both}
+use Rattle.words.proofs.ChoiceLaws.{not-both}
 use Rattle.words.specs.Outcome.{Outcome, accepted}
 use Rattle.list.specs.Changes.{changeCount, changes}
 use Rattle.list.specs.declared.Shape.{Shape}

@@ -9,7 +9,7 @@ use native.Mathlib.Omega.{arith}
 use lib.ListN.{take}
 use lib.Seq.{take-all}
 use Rattle.words.specs.Lists.{sum}
-use Rattle.words.specs.Runs.{sum-take}
+use Rattle.words.proofs.Runs.{sum-take}
 use Rattle.list.specs.Changes.{Pair, pairCount, pairAt, pairs, lengths, changeCount, lbns, changeAt}
 use Rattle.list.specs.Pairs.{run-at}
 use Rattle.list.specs.Answers.{indexOf, Valid}

@@ -4,9 +4,10 @@ use mathlib.Core.Path.{_≡_, refl, sym, ap, _∙_}
 use mathlib.Core.List.{List, map}
 use native.Mathlib.Omega.{arith}
 use lib.ListN.{length, getD}
-use Rattle.words.specs.Sections.{part, length-tab, getD-tab, tab-list}
-use Rattle.words.specs.Runs.{map-tab}
-use Rattle.words.specs.Parts.{length-part, part-part}
+use Rattle.words.specs.Sections.{part}
+use Rattle.words.proofs.SectionLaws.{length-tab, getD-tab, tab-list}
+use Rattle.words.proofs.Runs.{map-tab}
+use Rattle.words.proofs.Parts.{length-part, part-part}
 use Rattle.list.specs.Changes.{Change, pairSize, pairCount, pairAt, pairs, changeCount, lbns, printsFrom, blocksFrom, listSize, changeAt, changes, listNumber}
 use Rattle.words.specs.Blocks.{blockSize, printSize}
 use Rattle.list.specs.Pairs.{length-runs, fit-sum, fit-count, fit-each, fit-bounds, fit-rise}

@@ -10,9 +10,9 @@ use lib.Dec.{leb, eqb}
 use lib.ListN.{length, getD, take, length-append, List·getD-append}
 use lib.Seq.{getD-append-add}
 use borrow.Author.Tests.{leb-true, eqb-false, not-true}
-use Rattle.words.specs.Choice.{and-true}
+use Rattle.words.proofs.ChoiceLaws.{and-true}
 use Rattle.words.specs.Lists.{sum, joined}
-use Rattle.words.specs.Runs.{length-upFrom, getD-upFrom, below-or-not}
+use Rattle.words.proofs.Runs.{length-upFrom, getD-upFrom, below-or-not}
 use Rattle.list.specs.Changes.{Pair, run, lengths, pairsFit}
 use Rattle.list.specs.Answers.{pairFits}
 

@@ -9,7 +9,7 @@ use lib.ListN.{length, getD, drop, drop-of-length-le}
 use lib.Seq.{drop-cons}
 use Rattle.words.specs.Choice.{if_then_else_}
 use Rattle.words.specs.Lists.{sum}
-use Rattle.words.specs.Sections.{length-tab, getD-tab}
+use Rattle.words.proofs.SectionLaws.{length-tab, getD-tab}
 use Rattle.list.specs.Changes.{Pair, pairCount, pairAt, pairs, lengths, changeCount, pairsFit}
 use Rattle.list.specs.Answers.{pairFits, countedOf}
 use Rattle.list.specs.Pairs.{fit-sum}

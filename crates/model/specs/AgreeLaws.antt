@@ -9,9 +9,9 @@ use lib.ListN.{length, getD, replicate, getD-replicate, length-map}
 use lib.Seq.{ext-getD}
 use borrow.Author.Tests.{ltb-false}
 use Rattle.words.specs.Blocks.{unmapped}
-use Rattle.words.specs.Choice.{not-both}
+use Rattle.words.proofs.ChoiceLaws.{not-both}
 use Rattle.words.specs.Lists.{lastOf}
-use Rattle.words.specs.Places.{getD-map}
+use Rattle.words.proofs.Places.{getD-map}
 use Rattle.book.specs.Book.{volumes, Book}
 use Rattle.book.specs.Form.{enrolled}
 use Rattle.model.specs.Journal.{journal, backups, backupsIn, days, noVolume}

@@ -7,7 +7,7 @@ use native.Mathlib.Omega.{arith}
 use lib.ListN.{length, getD, set}
 use Rattle.words.specs.Blocks.{unmapped}
 use Rattle.words.specs.Lists.{all}
-use Rattle.words.specs.Places.{all-place}
+use Rattle.words.proofs.Places.{all-place}
 use Rattle.book.specs.Book.{volumes, Rec, Book, cellAt, retentionOf}
 use Rattle.book.specs.Form.{pbnOk}
 use Rattle.book.specs.FormParts.{book-parts}

@@ -9,11 +9,12 @@ use lib.Dec.{eqb}
 use lib.ListN.{length, getD, set}
 use borrow.Author.Tests.{eqb-true, eq-eqb, eqb-false, not-true}
 use Rattle.words.specs.Blocks.{unmapped}
-use Rattle.words.specs.Choice.{if_then_else_, and-true, true-and, not-both}
+use Rattle.words.specs.Choice.{if_then_else_}
+use Rattle.words.proofs.ChoiceLaws.{and-true, true-and, not-both}
 use Rattle.words.specs.Lists.{all, those, countOf, joined, same, differ, upFrom}
-use Rattle.words.specs.Places.{all-place, place-all, all-upFrom, upFrom-all}
-use Rattle.words.specs.Same.{same-self, same-equal}
-use Rattle.words.specs.Tests.{surely-not}
+use Rattle.words.proofs.Places.{all-place, place-all, all-upFrom, upFrom-all}
+use Rattle.words.proofs.Same.{same-self, same-equal}
+use Rattle.words.proofs.Tests.{surely-not}
 use Rattle.book.specs.Book.{volumes, Entry, Rec, Book, entryAt, cellAt, retentionOf}
 use Rattle.model.specs.Days
 use Rattle.model.specs.Journal.{Backup, journal, days}

@@ -10,9 +10,10 @@ use lib.ListN.{length, getD, set, replicate, length-set, length-map}
 use lib.Seq.{getD-set-same, getD-set-other}
 use borrow.Author.Tests.{eqb-true, eqb-false}
 use Rattle.words.specs.Blocks.{unmapped}
-use Rattle.words.specs.Choice.{if_then_else_, and-false, or-no}
+use Rattle.words.specs.Choice.{if_then_else_}
+use Rattle.words.proofs.ChoiceLaws.{and-false, or-no}
 use Rattle.words.specs.Lists.{joined, countOf}
-use Rattle.words.specs.Stores.{getD-set-kept}
+use Rattle.words.proofs.Stores.{getD-set-kept}
 use Rattle.list.specs.Changes.{Change, changeCount, changes}
 use Rattle.list.specs.Laws.{length-changes, changes-rise}
 use Rattle.book.specs.Book.{volumes, Sizes, Slot, Rec, Book, entryAt, retentionOf}

@@ -9,11 +9,12 @@ use native.Mathlib.Omega.{arith}
 use lib.Dec.{eqb}
 use lib.ListN.{length, set, drop, length-append}
 use lib.Seq.{drop-append-seam}
-use Rattle.words.specs.Accepted.{unless-accepted, then-accepted, refused-not}
-use Rattle.words.specs.Appends.{countOf-append}
+use Rattle.words.proofs.Accepted.{unless-accepted, then-accepted, refused-not}
+use Rattle.words.proofs.Appends.{countOf-append}
 use Rattle.words.specs.Blocks.{unmapped}
 use Rattle.words.specs.Choice.{if_then_else_}
-use Rattle.words.specs.Counting.{bit, count-set, count-set-kept}
+use Rattle.words.specs.Lists.{bit}
+use Rattle.words.proofs.Counting.{count-set, count-set-kept}
 use Rattle.words.specs.Lists.{countOf, same}
 use Rattle.words.specs.Outcome.{refused, accepted, andThen}
 use Rattle.list.specs.Changes.{Change, changes, changeCount}

@@ -7,12 +7,12 @@ use native.Mathlib.Omega.{arith}
 use lib.Dec.{leb, ltb}
 use lib.ListN.{length, length-append}
 use borrow.Author.Tests.{le-leb, not-false}
-use Rattle.words.specs.Accepted.{unless-accepted, then-accepted}
-use Rattle.words.specs.Appends.{all-append}
-use Rattle.words.specs.Choice.{true-and}
+use Rattle.words.proofs.Accepted.{unless-accepted, then-accepted}
+use Rattle.words.proofs.Appends.{all-append}
+use Rattle.words.proofs.ChoiceLaws.{true-and}
 use Rattle.words.specs.Lists.{all}
 use Rattle.words.specs.Outcome.{accepted, andThen}
-use Rattle.words.specs.Tests.{or-neither}
+use Rattle.words.proofs.Tests.{or-neither}
 use Rattle.list.specs.Changes.{changes, changeCount}
 use Rattle.list.specs.Laws.{length-changes}
 use Rattle.book.specs.Book.{Slot, Book, retentionOf}

@@ -10,10 +10,10 @@ use lib.ListN.{length, getD, set, List·getD-eq-default}
 use lib.Seq.{set-getD}
 use borrow.Author.Tests.{eqb-true, ltb-true}
 use Rattle.words.specs.Blocks.{unmapped}
-use Rattle.words.specs.Choice.{or-cases, or-no}
+use Rattle.words.proofs.ChoiceLaws.{or-cases, or-no}
 use Rattle.words.specs.Lists.{all, joined, countOf}
-use Rattle.words.specs.Places.{all-place}
-use Rattle.words.specs.Runs.{below-or-not}
+use Rattle.words.proofs.Places.{all-place}
+use Rattle.words.proofs.Runs.{below-or-not}
 use Rattle.list.specs.Changes.{Change}
 use Rattle.book.specs.Book.{volumes, Book}
 use Rattle.book.specs.Form.{pbnOk}

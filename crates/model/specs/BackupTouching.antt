@@ -7,7 +7,7 @@ use native.Mathlib.Omega.{arith}
 use lib.Dec.{eqb}
 use lib.ListN.{getD, set}
 use lib.Seq.{getD-set-same}
-use Rattle.words.specs.Appends.{map-append, lastOf-append}
+use Rattle.words.proofs.Appends.{map-append, lastOf-append}
 use Rattle.words.specs.Blocks.{unmapped}
 use Rattle.words.specs.Lists.{someOf, lastOf}
 use Rattle.list.specs.Changes.{changes, changeCount, lbns}

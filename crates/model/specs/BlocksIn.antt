@@ -7,7 +7,8 @@ use native.Mathlib.Omega.{arith}
 use lib.ListN.{length, getD, take, drop}
 use lib.Seq.{drop-drop}
 use Rattle.words.specs.Blocks.{blockSize}
-use Rattle.words.specs.Choice.{if_then_else_, not-both}
+use Rattle.words.specs.Choice.{if_then_else_}
+use Rattle.words.proofs.ChoiceLaws.{not-both}
 use Rattle.book.specs.Book.{Entry, freeEntry, entryAt}
 use Rattle.model.specs.Pool.{blockAt}
 use Rattle.model.specs.Plain.{Block, free, held, bytesOf}

@@ -6,9 +6,9 @@ use mathlib.Core.List.{List, [], _∷_}
 use lib.Dec.{ltb, eqb}
 use lib.ListN.{getD, set, take, drop}
 use Rattle.words.specs.Blocks.{unmapped}
-use Rattle.words.specs.Choice.{and-true, true-and, or-l, or-r}
+use Rattle.words.proofs.ChoiceLaws.{and-true, true-and, or-l, or-r}
 use Rattle.words.specs.Lists.{all}
-use Rattle.words.specs.Places.{all-getD, all-take, all-drop, all-those, all-set, all-replicate, all-weaker}
+use Rattle.words.proofs.Places.{all-getD, all-take, all-drop, all-those, all-set, all-replicate, all-weaker}
 use Rattle.book.specs.Book.{Sizes, Slot, Rec, Book}
 use Rattle.book.specs.Form.{pbnOk, recOk, bookOk}
 use Rattle.book.specs.FormParts.{book-parts}

@@ -8,9 +8,9 @@ use lib.Dec.{ltb, eqb}
 use lib.ListN.{length}
 use borrow.Author.Tests.{ltb-true, eqb-true, lt-ltb, eq-eqb}
 use Rattle.words.specs.Blocks.{printSize, blockSize}
-use Rattle.words.specs.Choice.{and-true, true-and}
+use Rattle.words.proofs.ChoiceLaws.{and-true, true-and}
 use Rattle.words.specs.Lists.{all}
-use Rattle.words.specs.Places.{place-all}
+use Rattle.words.proofs.Places.{place-all}
 use Rattle.list.specs.Answers.{shapeOf, Whole}
 use Rattle.list.specs.Changes.{Change, changeAt, changeCount, changes, listNumber}
 use Rattle.list.specs.Laws.{length-changes, getD-changes, change-below, number-good, good-whole, length-print, length-block}

@@ -8,8 +8,8 @@ use native.Mathlib.Omega.{arith}
 use lib.Dec.{ltb, eqb}
 use lib.ListN.{length}
 use borrow.Author.Tests.{eqb-true, ltb-true, lt-leb}
-use Rattle.words.specs.Choice.{and-true, not-both}
-use Rattle.words.specs.Places.{getD-map}
+use Rattle.words.proofs.ChoiceLaws.{and-true, not-both}
+use Rattle.words.proofs.Places.{getD-map}
 use Rattle.book.specs.Book.{Book, Entry, freeEntry, entryAt, isFree}
 use Rattle.book.specs.Next.{withDay, withEntries}
 use Rattle.model.specs.Journal.{journal}

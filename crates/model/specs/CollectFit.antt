@@ -5,9 +5,10 @@ use mathlib.Core.Bool.{Bool, true, false, _&&_}
 use lib.Dec.{ltb, eqb}
 use lib.ListN.{length-map}
 use borrow.Author.Tests.{eqb-true}
-use Rattle.words.specs.Choice.{if_then_else_, and-true}
-use Rattle.words.specs.Mapped.{all-map}
-use Rattle.words.specs.Places.{all-weaker}
+use Rattle.words.specs.Choice.{if_then_else_}
+use Rattle.words.proofs.ChoiceLaws.{and-true}
+use Rattle.words.proofs.Mapped.{all-map}
+use Rattle.words.proofs.Places.{all-weaker}
 use Rattle.book.specs.Book.{Entry, Book, noPrint}
 use Rattle.book.specs.Next.{withDay, withEntries, freed}
 use Rattle.model.specs.Collect.{collectNumber, isOver, entryAfter, collected}

@@ -7,10 +7,11 @@ use mathlib.Core.List.{List, [], _∷_, map}
 use native.Mathlib.Omega.{arith}
 use lib.ListN.{length}
 use borrow.Author.Tests.{eqb-true, eq-eqb, leb-true, leb-false, ltb-true, ltb-false}
-use Rattle.words.specs.Choice.{if_then_else_, and-true, not-both}
+use Rattle.words.specs.Choice.{if_then_else_}
+use Rattle.words.proofs.ChoiceLaws.{and-true, not-both}
 use Rattle.words.specs.Lists.{countOf}
-use Rattle.words.specs.Places.{getD-map}
-use Rattle.words.specs.Tests.{surely}
+use Rattle.words.proofs.Places.{getD-map}
+use Rattle.words.proofs.Tests.{surely}
 use Rattle.book.specs.Book.{Entry, Book, entryAt, freeEntry, noPrint}
 use Rattle.book.specs.Next.{withDay, withEntries, freed}
 use Rattle.model.specs.Days.{badDay}

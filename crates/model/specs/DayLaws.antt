@@ -10,7 +10,7 @@ use lib.Dec.{ltb, eqb}
 use lib.Seq.{drop-cons}
 use borrow.Author.Tests.{leb-true, leb-false, ltb-true, ltb-false, eqb-false, le-ltb, ne-eqb}
 use Rattle.words.specs.Lists.{lastOf}
-use Rattle.words.specs.Tests.{or-neither, surely, surely-not}
+use Rattle.words.proofs.Tests.{or-neither, surely, surely-not}
 use Rattle.model.specs.Days.{keptBefore, kept, badDay, notAfter, badRetention}
 
 -- "Backup k is kept at day D if it is the volume's newest"

@@ -9,7 +9,8 @@ use lib.Dec.{leb, ltb, eqb}
 use lib.ListN.{length, getD, set, drop, length-set}
 use lib.Seq.{getD-set-same, getD-set-other}
 use borrow.Author.Tests.{eqb-true, eqb-false, ne-eqb, ltb-false}
-use Rattle.words.specs.Choice.{if_then_else_, and-true, not-both}
+use Rattle.words.specs.Choice.{if_then_else_}
+use Rattle.words.proofs.ChoiceLaws.{and-true, not-both}
 use Rattle.words.specs.Lists.{all, someOf}
 use Rattle.book.specs.Book.{volumes, Slot, Rec, Book}
 use Rattle.book.specs.Form.{enrolled, slotOk}

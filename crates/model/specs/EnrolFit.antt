@@ -8,8 +8,8 @@ use lib.Dec.{ltb, eqb}
 use lib.ListN.{length-set}
 use borrow.Author.Tests.{le-leb, ne-eqb}
 use Rattle.words.specs.Choice.{if_then_else_}
-use Rattle.words.specs.Mapped.{getD-set-test}
-use Rattle.words.specs.Places.{all-set}
+use Rattle.words.proofs.Mapped.{getD-set-test}
+use Rattle.words.proofs.Places.{all-set}
 use Rattle.book.specs.Book.{Book}
 use Rattle.book.specs.Form.{retentionOk, enrolled}
 use Rattle.book.specs.Next.{withRetention}

@@ -6,7 +6,8 @@ use mathlib.Core.List.{List}
 use native.Mathlib.Omega.{arith}
 use lib.Dec.{ltb, eqb}
 use borrow.Author.Tests.{lt-ltb, le-ltb, ltb-false, eq-eqb, ne-eqb, eqb-true, eqb-false}
-use Rattle.words.specs.Choice.{if_then_else_, or-l, or-r}
+use Rattle.words.specs.Choice.{if_then_else_}
+use Rattle.words.proofs.ChoiceLaws.{or-l, or-r}
 use Rattle.book.specs.Book.{volumes, retentionOf}
 use Rattle.book.specs.Layout.{bookOf}
 use Rattle.book.specs.Form.{formNumber, enrolled}

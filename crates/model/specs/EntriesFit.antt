@@ -9,9 +9,9 @@ use lib.Dec.{leb, eqb}
 use lib.ListN.{length}
 use borrow.Author.Tests.{leb-true, eqb-true, le-leb, eq-eqb}
 use Rattle.words.specs.Blocks.{printSize}
-use Rattle.words.specs.Choice.{and-true, true-and, or-l, or-r}
+use Rattle.words.proofs.ChoiceLaws.{and-true, true-and, or-l, or-r}
 use Rattle.words.specs.Lists.{all, allZero}
-use Rattle.words.specs.Places.{all-getD}
+use Rattle.words.proofs.Places.{all-getD}
 use Rattle.book.specs.Book.{Entry, noPrint, freeEntry, entryAt}
 use Rattle.book.specs.Form.{entryOk}
 use Rattle.model.specs.FitParts.{entryFit}

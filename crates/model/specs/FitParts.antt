@@ -7,9 +7,9 @@ use lib.Dec.{eqb}
 use lib.ListN.{length, getD}
 use borrow.Author.Tests.{eqb-true, eq-eqb}
 use Rattle.words.specs.Blocks.{printSize}
-use Rattle.words.specs.Choice.{and-true, true-and}
+use Rattle.words.proofs.ChoiceLaws.{and-true, true-and}
 use Rattle.words.specs.Lists.{all}
-use Rattle.words.specs.Places.{all-place, place-all, all-weaker}
+use Rattle.words.proofs.Places.{all-place, place-all, all-weaker}
 use Rattle.book.specs.Book.{volumes, Sizes, Entry, Book, freeEntry, entryAt, Sized}
 use Rattle.book.specs.Form.{sizesOk, retentionOk, entryOk, pbnOk, recOk, slotOk, daysOk, pairsOk}
 use Rattle.book.specs.FormParts.{BookParts, book-parts, parts-book}

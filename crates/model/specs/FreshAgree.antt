@@ -9,7 +9,7 @@ use lib.ListN.{length, drop, replicate}
 use borrow.Author.Tests.{eqb-true, ne-eqb}
 use Rattle.words.specs.Blocks.{blockSize, unmapped}
 use Rattle.words.specs.Lists.{those}
-use Rattle.words.specs.Places.{getD-replicated, none-replicated}
+use Rattle.words.proofs.Places.{getD-replicated, none-replicated}
 use Rattle.book.specs.Book.{volumes, Sizes, Entry, freeEntry}
 use Rattle.book.specs.Form.{sizesOk}
 use Rattle.book.specs.Next.{fresh}

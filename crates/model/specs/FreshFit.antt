@@ -6,9 +6,9 @@ use lib.Dec.{eqb}
 use lib.ListN.{length, replicate, length-replicate}
 use borrow.Author.Tests.{eq-eqb}
 use Rattle.words.specs.Blocks.{unmapped}
-use Rattle.words.specs.Choice.{true-and}
+use Rattle.words.proofs.ChoiceLaws.{true-and}
 use Rattle.words.specs.Lists.{all}
-use Rattle.words.specs.Places.{all-replicate}
+use Rattle.words.proofs.Places.{all-replicate}
 use Rattle.book.specs.Book.{volumes, Sizes, freeEntry}
 use Rattle.book.specs.Form.{sizesOk, retentionOk, pbnOk}
 use Rattle.book.specs.SizesIn.{sizes-facts}

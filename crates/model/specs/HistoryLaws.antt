@@ -10,7 +10,7 @@ use lib.ListN.{length, take, drop, length-append}
 use lib.Seq.{take-append-le, take-all, take-length, drop-append-le}
 use Rattle.words.specs.Choice.{if_then_else_}
 use Rattle.words.specs.Lists.{orElse, joined}
-use Rattle.words.specs.Appends.{map-append, joined-append}
+use Rattle.words.proofs.Appends.{map-append, joined-append}
 use Rattle.words.specs.Outcome.{accepted, unless}
 use Rattle.list.specs.Changes.{Change}
 use Rattle.model.specs.Days.{keptBefore, kept}

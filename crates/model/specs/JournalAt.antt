@@ -9,7 +9,7 @@ use lib.Dec.{eqb}
 use lib.ListN.{length, getD, take, drop, drop-of-length-le}
 use lib.Seq.{drop-cons, drop-drop}
 use borrow.Author.Tests.{eqb-true, eq-eqb, ne-eqb}
-use Rattle.words.specs.Choice.{and-true}
+use Rattle.words.proofs.ChoiceLaws.{and-true}
 use Rattle.book.specs.Book.{Slot, Rec, Book, noSlot, slotAt}
 use Rattle.book.specs.Form.{pairsOk}
 use Rattle.model.specs.Journal.{Backup, journalOf, journal, backupsIn, backups}

@@ -8,8 +8,8 @@ use lib.Dec.{leb, ltb, eqb}
 use lib.ListN.{length, getD, set, drop, length-set, length-drop}
 use lib.Seq.{take-append-le, drop-append-le, take-length}
 use borrow.Author.Tests.{eqb-true, ltb-true}
-use Rattle.words.specs.Choice.{and-true, or-no}
-use Rattle.words.specs.Appends.{those-append, someOf-append}
+use Rattle.words.proofs.ChoiceLaws.{and-true, or-no}
+use Rattle.words.proofs.Appends.{those-append, someOf-append}
 use Rattle.words.specs.Lists.{all}
 use Rattle.book.specs.Book.{Slot, Rec, Book, retentionOf}
 use Rattle.book.specs.Form.{pairsOk}

@@ -10,10 +10,11 @@ use lib.Dec.{leb, ltb, eqb}
 use lib.ListN.{length, getD, drop, replicate, length-map}
 use borrow.Author.Tests.{eqb-true, eq-eqb, ne-eqb, ltb-true}
 use Rattle.words.specs.Blocks.{unmapped}
-use Rattle.words.specs.Choice.{if_then_else_, and-true, true-and, and-false, or-cases, or-l, or-r, not-both, same-test}
-use Rattle.words.specs.Each.{each-at, all-each}
+use Rattle.words.specs.Choice.{if_then_else_}
+use Rattle.words.proofs.ChoiceLaws.{and-true, true-and, and-false, or-cases, or-l, or-r, not-both, same-test}
+use Rattle.words.proofs.Each.{each-at, all-each}
 use Rattle.words.specs.Lists.{all, upFrom}
-use Rattle.words.specs.Places.{all-getD, all-upFrom, upFrom-all, getD-replicated}
+use Rattle.words.proofs.Places.{all-getD, all-upFrom, upFrom-all, getD-replicated}
 use Rattle.book.specs.Book.{volumes, Book, cellAt, retentionOf}
 use Rattle.model.specs.Days.{keptBefore, kept}
 use Rattle.model.specs.Journal.{Backup, journal, backupsIn, backups, days}

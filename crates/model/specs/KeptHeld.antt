@@ -8,9 +8,9 @@ use lib.Dec.{ltb, eqb}
 use lib.ListN.{length, getD}
 use borrow.Author.Tests.{eq-eqb, ltb-true, not-true}
 use Rattle.words.specs.Blocks.{unmapped}
-use Rattle.words.specs.Choice.{or-cases, or-l, or-r, not-both}
+use Rattle.words.proofs.ChoiceLaws.{or-cases, or-l, or-r, not-both}
 use Rattle.words.specs.Lists.{someOf}
-use Rattle.words.specs.Places.{place-some}
+use Rattle.words.proofs.Places.{place-some}
 use Rattle.book.specs.Book.{volumes, Book, entryAt, cellAt, retentionOf}
 use Rattle.book.specs.Form.{pbnOk}
 use Rattle.model.specs.Days.{kept}

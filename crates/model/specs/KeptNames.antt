@@ -8,8 +8,8 @@ use lib.Dec.{eqb}
 use lib.ListN.{getD}
 use borrow.Author.Tests.{eqb-true}
 use Rattle.words.specs.Blocks.{unmapped}
-use Rattle.words.specs.Choice.{and-true, true-and, or-cases, or-l, or-r}
-use Rattle.words.specs.Places.{some-place}
+use Rattle.words.proofs.ChoiceLaws.{and-true, true-and, or-cases, or-l, or-r}
+use Rattle.words.proofs.Places.{some-place}
 use Rattle.model.specs.Days.{keptBefore}
 use Rattle.model.specs.Plain.{Image, daysOf, names, keptNames}
 use Rattle.model.specs.KeptCells.{keptAt}

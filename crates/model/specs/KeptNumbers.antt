@@ -10,7 +10,8 @@ use lib.Dec.{eqb}
 use lib.ListN.{length, getD, drop}
 use borrow.Author.Tests.{eqb-true, eq-eqb}
 use Rattle.words.specs.Blocks.{unmapped}
-use Rattle.words.specs.Choice.{if_then_else_, and-true, true-and, or-cases, or-l, or-r, not-both}
+use Rattle.words.specs.Choice.{if_then_else_}
+use Rattle.words.proofs.ChoiceLaws.{and-true, true-and, or-cases, or-l, or-r, not-both}
 use Rattle.words.specs.Lists.{firstThat}
 use Rattle.book.specs.Book.{Rec}
 use Rattle.model.specs.Days.{keptBefore}

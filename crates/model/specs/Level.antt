@@ -12,7 +12,8 @@ use lib.Seq.{getD-set-same, getD-set-other, set-set}
 use borrow.Author.Tests.{eqb-true, eqb-false, eq-eqb, ne-eqb}
 use Rattle.words.specs.Blocks.{unmapped}
 use Rattle.words.specs.Choice.{if_then_else_}
-use Rattle.words.specs.Counting.{bit, count-set, count-joined}
+use Rattle.words.specs.Lists.{bit}
+use Rattle.words.proofs.Counting.{count-set, count-joined}
 use Rattle.words.specs.Lists.{countOf, joined}
 use Rattle.book.specs.Book.{Book, entryAt, cellAt}
 use Rattle.book.specs.Next.{withEntries, withMaps, withRecord, cellsWith}

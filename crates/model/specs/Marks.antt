@@ -10,9 +10,9 @@ use lib.Dec.{leb, ltb, eqb}
 use lib.ListN.{getD}
 use borrow.Author.Tests.{eqb-true, ne-eqb, leb-true, leb-false, lt-ltb, le-ltb}
 use Rattle.words.specs.Blocks.{unmapped}
-use Rattle.words.specs.Choice.{and-false, same-test, not-both}
+use Rattle.words.proofs.ChoiceLaws.{and-false, same-test, not-both}
 use Rattle.words.specs.Lists.{someOf, joined}
-use Rattle.words.specs.Places.{some-place, place-some, getD-replicated, countOf-none, someOf-joined}
+use Rattle.words.proofs.Places.{some-place, place-some, getD-replicated, countOf-none, someOf-joined}
 use Rattle.book.specs.Book.{volumes, Book, entryAt, cellAt, retentionOf}
 use Rattle.book.specs.Form.{sizesOk}
 use Rattle.book.specs.SizesIn.{sizes-facts}

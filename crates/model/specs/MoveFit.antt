@@ -8,13 +8,14 @@ use native.Mathlib.Omega.{arith}
 use lib.Dec.{ltb, eqb}
 use lib.ListN.{length, getD, set, length-append, length-set}
 use borrow.Author.Tests.{eqb-true, eqb-false, lt-ltb, eq-eqb}
-use Rattle.words.specs.Accepted.{unless-accepted}
-use Rattle.words.specs.Appends.{all-append}
+use Rattle.words.proofs.Accepted.{unless-accepted}
+use Rattle.words.proofs.Appends.{all-append}
 use Rattle.words.specs.Blocks.{unmapped}
-use Rattle.words.specs.Choice.{if_then_else_, and-true, true-and, or-l}
+use Rattle.words.specs.Choice.{if_then_else_}
+use Rattle.words.proofs.ChoiceLaws.{and-true, true-and, or-l}
 use Rattle.words.specs.Lists.{all}
 use Rattle.words.specs.Outcome.{accepted}
-use Rattle.words.specs.Places.{all-place, all-getD, all-set}
+use Rattle.words.proofs.Places.{all-place, all-getD, all-set}
 use Rattle.book.specs.Book.{volumes, Sizes, Entry, Rec, Book, entryAt, cellAt}
 use Rattle.book.specs.Form.{pbnOk, recOk}
 use Rattle.book.specs.Next.{cellsWith, withEntries, withMaps, withRecord, countAs, expiryAs}

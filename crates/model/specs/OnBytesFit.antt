@@ -7,9 +7,10 @@ use native.Mathlib.Omega.{arith}
 use lib.Dec.{eqb}
 use lib.ListN.{length}
 use borrow.Author.Tests.{le-ltb, eq-eqb}
-use Rattle.words.specs.Accepted.{unless-accepted}
+use Rattle.words.proofs.Accepted.{unless-accepted}
 use Rattle.words.specs.Blocks.{blockSize}
-use Rattle.words.specs.Choice.{if_then_else_, and-true}
+use Rattle.words.specs.Choice.{if_then_else_}
+use Rattle.words.proofs.ChoiceLaws.{and-true}
 use Rattle.words.specs.Outcome.{accepted, andThen, unless}
 use Rattle.book.specs.Book.{Sizes, Book}
 use Rattle.book.specs.Layout.{bookSize, bytes, bookOf, sizesOf}

@@ -11,7 +11,7 @@ use lib.Seq.{getD-set-same, getD-set-other}
 use Rattle.words.specs.Blocks.{blockSize}
 use Rattle.words.specs.Choice.{if_then_else_}
 use Rattle.words.specs.Lists.{same}
-use Rattle.words.specs.Stores.{getD-set-kept}
+use Rattle.words.proofs.Stores.{getD-set-kept}
 use Rattle.words.specs.Outcome.{Outcome, refused, accepted}
 use Rattle.list.specs.Changes.{Change}
 use Rattle.book.specs.Book.{Entry, Book, entryAt, freeEntry}

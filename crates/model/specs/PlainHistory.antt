@@ -6,8 +6,9 @@ use mathlib.Core.List.{List, [], _∷_}
 use native.Mathlib.Omega.{arith}
 use lib.Dec.{ltb, eqb, eqb·suc-zero}
 use borrow.Author.Tests.{ltb-false, eqb-true, eqb-false, not-true, not-false}
-use Rattle.words.specs.Choice.{if_then_else_, and-false}
-use Rattle.words.specs.Tests.{or-neither}
+use Rattle.words.specs.Choice.{if_then_else_}
+use Rattle.words.proofs.ChoiceLaws.{and-false}
+use Rattle.words.proofs.Tests.{or-neither}
 use Rattle.words.specs.Outcome.{Outcome, refused, accepted, andThen, unless}
 use Rattle.list.specs.Changes.{changes, changeCount}
 use Rattle.book.specs.Book.{volumes}

@@ -6,9 +6,9 @@ use mathlib.Core.List.{List, [], _∷_}
 use native.Mathlib.Nat.{zero-add, add-zero, add-suc, suc-add}
 use native.Mathlib.Omega.{arith}
 use lib.ListN.{length, getD}
-use Rattle.words.specs.Choice.{true-and, or-l, or-r}
+use Rattle.words.proofs.ChoiceLaws.{true-and, or-l, or-r}
 use Rattle.words.specs.Lists.{someOf}
-use Rattle.words.specs.Places.{place-some}
+use Rattle.words.proofs.Places.{place-some}
 use Rattle.model.specs.Days.{keptBefore, kept}
 use Rattle.model.specs.Plain.{Block, free, Image, Volume, noVolume, Plain, volumeAt, daysOf, mapsOf, currentMaps, names, keptNames, marked, swept}
 

@@ -11,8 +11,8 @@ use lib.Seq.{getD-set-same, getD-set-other, getD-take, getD-drop}
 use borrow.Author.Tests.{eqb-true, eqb-false}
 use Rattle.words.specs.Choice.{if_then_else_}
 use Rattle.words.specs.Lists.{placeFrom, orElse, same}
-use Rattle.words.specs.Same.{same-equal}
-use Rattle.words.specs.Found.{place-found}
+use Rattle.words.proofs.Same.{same-equal}
+use Rattle.words.proofs.Found.{place-found}
 use Rattle.words.specs.Outcome.{refused, accepted}
 use Rattle.list.specs.Changes.{Change}
 use Rattle.model.specs.Plain.{Block, free, held, isFree, bytesOf}

@@ -12,7 +12,7 @@ use borrow.Author.Tests.{eqb-true, eqb-false}
 use Rattle.words.specs.Blocks.{unmapped}
 use Rattle.words.specs.Choice.{if_then_else_}
 use Rattle.words.specs.Lists.{lastOf}
-use Rattle.words.specs.Appends.{map-append}
+use Rattle.words.proofs.Appends.{map-append}
 use Rattle.book.specs.Book.{volumes, Sizes}
 use Rattle.model.specs.Days.{kept}
 use Rattle.model.specs.Plain.{Block, Image, Volume, noVolume, Plain, volumeAt, daysOf, mapsOf, noMap, current}

@@ -13,7 +13,7 @@ use lib.ListN.{length, getD, length-append, length-map, length-set}
 use borrow.Author.Tests.{ltb-true, ltb-false}
 use Rattle.words.specs.Blocks.{unmapped}
 use Rattle.words.specs.Choice.{if_then_else_}
-use Rattle.words.specs.Appends.{map-append}
+use Rattle.words.proofs.Appends.{map-append}
 use Rattle.words.specs.Outcome.{accepted}
 use Rattle.list.specs.Changes.{Change}
 use Rattle.book.specs.Book.{volumes}

@@ -10,7 +10,7 @@ use lib.ListN.{length, getD, replicate, length-set, length-replicate, List·getD
 use borrow.Author.Tests.{ltb-true, ltb-false, eq-eqb}
 use Rattle.words.specs.Blocks.{unmapped}
 use Rattle.words.specs.Choice.{if_then_else_}
-use Rattle.words.specs.Places.{getD-replicated}
+use Rattle.words.proofs.Places.{getD-replicated}
 use Rattle.book.specs.Book.{volumes, Sizes}
 use Rattle.model.specs.Days.{kept}
 use Rattle.model.specs.Plain.{Block, free, Volume, noVolume, Plain, start, withDay, withBlocks, withVolume, volumeAt, daysOf, mapsOf, marked, swept, collected}

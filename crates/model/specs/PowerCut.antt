@@ -9,7 +9,7 @@ use mathlib.Core.Option.{some}
 use native.Mathlib.Omega.{arith}
 use lib.ListN.{length, take, drop}
 use lib.Seq.{drop-drop}
-use Rattle.words.specs.Accepted.{unless-accepted, then-accepted}
+use Rattle.words.proofs.Accepted.{unless-accepted, then-accepted}
 use Rattle.words.specs.Blocks.{blockSize}
 use Rattle.words.specs.Choice.{if_then_else_}
 use Rattle.words.specs.Outcome.{Outcome, refused, accepted, andThen}

@@ -6,9 +6,10 @@ use mathlib.Core.List.{List, [], _∷_, map}
 use mathlib.Core.Option.{none, some}
 use native.Mathlib.Omega.{arith}
 use lib.ListN.{length, set}
-use Rattle.words.specs.Choice.{if_then_else_, and-true, true-and, same-test}
+use Rattle.words.specs.Choice.{if_then_else_}
+use Rattle.words.proofs.ChoiceLaws.{and-true, true-and, same-test}
 use Rattle.words.specs.Lists.{all, those, placeFrom, same, differ}
-use Rattle.words.specs.Same.{same-self, same-equal}
+use Rattle.words.proofs.Same.{same-self, same-equal}
 use Rattle.book.specs.Book.{Entry, Book, entryAt}
 use Rattle.book.specs.Next.{heldAs}
 use Rattle.model.specs.Audit.{printsSound}

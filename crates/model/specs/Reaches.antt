@@ -8,7 +8,8 @@ use native.Mathlib.Omega.{arith}
 use lib.Dec.{leb, eqb, leb·zero}
 use lib.ListN.{length, getD, set, length-set}
 use borrow.Author.Tests.{eqb-true, eq-eqb, ne-eqb, leb-true, leb-false, lt-leb}
-use Rattle.words.specs.Choice.{if_then_else_, and-true, true-and, or-cases, or-l, or-r, and-false, and-yes, leb-max, not-both}
+use Rattle.words.specs.Choice.{if_then_else_}
+use Rattle.words.proofs.ChoiceLaws.{and-true, true-and, or-cases, or-l, or-r, and-false, and-yes, leb-max, not-both}
 use Rattle.words.specs.Lists.{someOf}
 use Rattle.book.specs.Book.{Rec, Book, retentionOf}
 use Rattle.model.specs.Journal.{Backup, backupsIn}

@@ -6,7 +6,7 @@ use native.Mathlib.Omega.{arith}
 use lib.Dec.{ltb, eqb}
 use borrow.Author.Tests.{ltb-false, eqb-false}
 use Rattle.words.specs.Choice.{if_then_else_}
-use Rattle.words.specs.Tests.{or-neither}
+use Rattle.words.proofs.Tests.{or-neither}
 use Rattle.words.specs.Outcome.{Outcome, unless}
 
 -- no such volume, no such backup, kept, no such LBN, unmapped

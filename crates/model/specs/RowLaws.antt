@@ -7,7 +7,8 @@ use native.Mathlib.Omega.{arith}
 use lib.ListN.{length, getD, length-append}
 use Rattle.words.specs.Blocks.{printSize}
 use Rattle.words.specs.Numbers.{two}
-use Rattle.words.specs.Sections.{flat, length-flat}
+use Rattle.words.specs.Sections.{flat}
+use Rattle.words.proofs.SectionLaws.{length-flat}
 use Rattle.book.specs.Book.{volumes, Entry, Book, entryAt, Sized}
 use Rattle.model.specs.Views.{blockRow, blocksOf, cellsOf}
 

@@ -7,11 +7,11 @@ use native.Mathlib.Nat.{zero-add}
 use native.Mathlib.Omega.{arith}
 use lib.ListN.{length}
 use borrow.Author.Tests.{leb-true}
-use Rattle.words.specs.Accepted.{then-accepted}
-use Rattle.words.specs.Choice.{and-true}
+use Rattle.words.proofs.Accepted.{then-accepted}
+use Rattle.words.proofs.ChoiceLaws.{and-true}
 use Rattle.words.specs.Lists.{all}
 use Rattle.words.specs.Outcome.{accepted}
-use Rattle.words.specs.Places.{all-getD}
+use Rattle.words.proofs.Places.{all-getD}
 use Rattle.list.specs.Changes.{Change}
 use Rattle.book.specs.Book.{volumes, Book, cellAt, retentionOf}
 use Rattle.book.specs.Form.{retentionOk}

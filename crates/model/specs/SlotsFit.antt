@@ -7,11 +7,12 @@ use native.Mathlib.Omega.{arith}
 use lib.Dec.{leb, ltb, eqb}
 use lib.ListN.{length, take, drop}
 use borrow.Author.Tests.{leb-true, eqb-true, le-leb, lt-ltb, eq-eqb}
-use Rattle.words.specs.Appends.{all-append}
-use Rattle.words.specs.Choice.{if_then_else_, and-true, true-and}
+use Rattle.words.proofs.Appends.{all-append}
+use Rattle.words.specs.Choice.{if_then_else_}
+use Rattle.words.proofs.ChoiceLaws.{and-true, true-and}
 use Rattle.words.specs.Lists.{all, those, lastOf}
-use Rattle.words.specs.Mapped.{all-map, last-above}
-use Rattle.words.specs.Places.{all-place, place-all, all-those, all-weaker}
+use Rattle.words.proofs.Mapped.{all-map, last-above}
+use Rattle.words.proofs.Places.{all-place, place-all, all-those, all-weaker}
 use Rattle.book.specs.Book.{Slot, Rec, Book, noSlot, slotAt}
 use Rattle.book.specs.Form.{enrolled, slotOk, laterOk, daysOk, pairsOk}
 use Rattle.model.specs.Days.{notAfter}

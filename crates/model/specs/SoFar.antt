@@ -8,10 +8,11 @@ use lib.Dec.{ltb, eqb}
 use lib.ListN.{length, getD, set, drop, length-drop, length-set}
 use lib.Seq.{length-take-le}
 use borrow.Author.Tests.{eqb-true, lt-ltb, ltb-true}
-use Rattle.words.specs.Choice.{if_then_else_, and-true, true-and}
+use Rattle.words.specs.Choice.{if_then_else_}
+use Rattle.words.proofs.ChoiceLaws.{and-true, true-and}
 use Rattle.words.specs.Lists.{all, sum}
 use Rattle.words.specs.Sections.{tab}
-use Rattle.words.specs.Sums.{sum-tab-same, sum-tab-zero, sum-tab-add, sum-tab-one, sum-map-tab}
+use Rattle.words.proofs.Sums.{sum-tab-same, sum-tab-zero, sum-tab-add, sum-tab-one, sum-map-tab}
 use Rattle.book.specs.Book.{volumes, Slot, Rec, Book}
 use Rattle.book.specs.Form.{pairsOk}
 use Rattle.book.specs.FormParts.{book-parts}

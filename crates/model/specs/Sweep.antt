@@ -8,7 +8,8 @@ use native.Mathlib.Omega.{arith}
 use lib.Dec.{ltb, eqb}
 use lib.ListN.{length, take, drop}
 use Rattle.words.specs.Blocks.{blockSize}
-use Rattle.words.specs.Choice.{if_then_else_, and-true, true-and, not-both}
+use Rattle.words.specs.Choice.{if_then_else_}
+use Rattle.words.proofs.ChoiceLaws.{and-true, true-and, not-both}
 use Rattle.words.specs.Lists.{all, those, countOf, differ, same}
 use Rattle.book.specs.Book.{Entry, entryAt}
 use Rattle.book.specs.Next.{freed}

@@ -9,7 +9,7 @@ use lib.ListN.{getD, set}
 use lib.Seq.{getD-set-same, getD-set-other}
 use Rattle.words.specs.Blocks.{unmapped}
 use Rattle.words.specs.Lists.{someOf}
-use Rattle.words.specs.Tests.{eqb-swap, some-neither}
+use Rattle.words.proofs.Tests.{eqb-swap, some-neither}
 use Rattle.book.specs.Book.{Rec}
 use Rattle.model.specs.Audit.{applied, hasBefore}
 use Rattle.model.specs.Sound.{Sound, Rising}

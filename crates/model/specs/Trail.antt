@@ -8,12 +8,13 @@ use native.Mathlib.Omega.{arith}
 use lib.Dec.{eqb}
 use lib.ListN.{length, getD, set}
 use borrow.Author.Tests.{eqb-true, eqb-false}
-use Rattle.words.specs.Appends.{someOf-append, map-append}
+use Rattle.words.proofs.Appends.{someOf-append, map-append}
 use Rattle.words.specs.Blocks.{unmapped}
-use Rattle.words.specs.Choice.{if_then_else_, or-r, or-no, not-both}
-use Rattle.words.specs.Counting.{bit}
+use Rattle.words.specs.Choice.{if_then_else_}
+use Rattle.words.proofs.ChoiceLaws.{or-r, or-no, not-both}
+use Rattle.words.specs.Lists.{bit}
 use Rattle.words.specs.Lists.{someOf, those, differ}
-use Rattle.words.specs.Tests.{eqb-swap, or-neither}
+use Rattle.words.proofs.Tests.{eqb-swap, or-neither}
 use Rattle.list.specs.Changes.{Change}
 use Rattle.book.specs.Book.{Entry, Rec, Book, entryAt, cellAt}
 use Rattle.book.specs.Next.{withEntries, withMaps, withRecord}

@@ -8,8 +8,9 @@ use lib.Dec.{leb}
 use lib.ListN.{length, getD, drop, List·getD-append}
 use lib.Seq.{getD-append-add}
 use borrow.Author.Tests.{le-leb}
-use Rattle.words.specs.Counting.{bit}
-use Rattle.words.specs.Numbers.{num, two-back}
+use Rattle.words.specs.Lists.{bit}
+use Rattle.words.specs.Numbers.{num}
+use Rattle.words.proofs.NumberLaws.{two-back}
 use Rattle.book.specs.Book.{Book, retentionOf}
 use Rattle.model.specs.Days.{keptBefore, kept}
 use Rattle.model.specs.Journal.{Backup, backups, days}

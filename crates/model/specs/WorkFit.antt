@@ -7,11 +7,11 @@ use native.Mathlib.Nat.{mod-lt}
 use native.Mathlib.Omega.{arith}
 use lib.ListN.{length, length-set}
 use lib.Seq.{getD-set-same}
-use Rattle.words.specs.Accepted.{refused-not}
+use Rattle.words.proofs.Accepted.{refused-not}
 use Rattle.words.specs.Choice.{if_then_else_}
 use Rattle.words.specs.Lists.{all, same}
 use Rattle.words.specs.Outcome.{refused, accepted}
-use Rattle.words.specs.Places.{all-set}
+use Rattle.words.proofs.Places.{all-set}
 use Rattle.list.specs.Changes.{Change}
 use Rattle.book.specs.Book.{volumes, Entry, Book, freeEntry, entryAt}
 use Rattle.book.specs.Form.{recOk}

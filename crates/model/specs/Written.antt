@@ -6,7 +6,7 @@ use native.Mathlib.Omega.{arith}
 use lib.ListN.{length}
 use lib.Seq.{sets}
 use borrow.Author.Tests.{lt-ltb, le-ltb}
-use Rattle.words.specs.Laying.{sets-front}
+use Rattle.words.proofs.LayingLaws.{sets-front}
 use Rattle.words.specs.Outcome.{Outcome, unless}
 use Rattle.model.specs.OnBytes.{numberOf}
 use Rattle.model.specs.Views.{outputNumber, withRoom, outputAfter}

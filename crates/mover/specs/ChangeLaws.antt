@@ -9,12 +9,12 @@ use lib.Dec.{ltb, eqb}
 use lib.ListN.{length, getD, set, drop, length-append, drop-of-length-le}
 use lib.Seq.{drop-cons}
 use borrow.Author.Tests.{lt-ltb}
-use Rattle.words.specs.Accepted.{unless-accepted}
+use Rattle.words.proofs.Accepted.{unless-accepted}
 use Rattle.words.specs.Blocks.{unmapped}
-use Rattle.words.specs.Choice.{or-l}
+use Rattle.words.proofs.ChoiceLaws.{or-l}
 use Rattle.words.specs.Lists.{all}
 use Rattle.words.specs.Outcome.{refused, accepted}
-use Rattle.words.specs.Places.{all-getD, all-set}
+use Rattle.words.proofs.Places.{all-getD, all-set}
 use Rattle.words.specs.declared.PBN.{PBN}
 use Rattle.list.specs.Changes.{Change, changeCount, changeAt, changes}
 use Rattle.list.specs.Laws.{length-changes, getD-changes}

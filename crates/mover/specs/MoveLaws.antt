@@ -14,7 +14,7 @@ use Rattle.words.specs.Blocks.{unmapped}
 use Rattle.words.specs.Choice.{if_then_else_}
 use Rattle.words.specs.Lists.{all}
 use Rattle.words.specs.Outcome.{refused, accepted}
-use Rattle.words.specs.Places.{all-getD}
+use Rattle.words.proofs.Places.{all-getD}
 use Rattle.book.specs.Book.{Entry, Book, freeEntry, entryAt, cellAt}
 use Rattle.book.specs.Conditions.{pbn-cases}
 use Rattle.book.specs.Form.{pbnOk}

@@ -11,11 +11,11 @@ use lib.Dec.{eqb}
 use lib.ListN.{length, getD, set, length-set}
 use lib.Seq.{getD-set-same, getD-set-other}
 use borrow.Author.Tests.{eqb-true, eqb-false}
-use Rattle.words.specs.Choice.{not-both}
+use Rattle.words.proofs.ChoiceLaws.{not-both}
 use Rattle.words.specs.Lists.{same}
 use Rattle.words.specs.Outcome.{refused, accepted}
 use Rattle.words.specs.declared.PBN.{PBN}
-use Rattle.words.specs.Parts.{length-part}
+use Rattle.words.proofs.Parts.{length-part}
 use Rattle.words.specs.Sections.{part}
 use Rattle.words.specs.Blocks.{printSize}
 use Rattle.list.specs.Changes.{Change, changeCount, changeAt, printsFrom}

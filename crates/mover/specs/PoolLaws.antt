@@ -13,10 +13,10 @@ use borrow.Author.Tests.{eqb-true, eqb-false, eq-eqb}
 use Rattle.words.specs.Blocks.{blockSize}
 use Rattle.words.specs.Choice.{if_then_else_}
 use Rattle.words.specs.Lists.{joined, upFrom}
-use Rattle.words.specs.Parts.{length-part, part-part}
-use Rattle.words.specs.Pieces.{sized, part-sized, length-sized, all-pieces}
-use Rattle.words.specs.Places.{all-upFrom}
-use Rattle.words.specs.Runs.{below-or-not, length-upFrom, getD-upFrom}
+use Rattle.words.proofs.Parts.{length-part, part-part}
+use Rattle.words.proofs.Pieces.{sized, part-sized, length-sized, all-pieces}
+use Rattle.words.proofs.Places.{all-upFrom}
+use Rattle.words.proofs.Runs.{below-or-not, length-upFrom, getD-upFrom}
 use Rattle.words.specs.Sections.{part, flat}
 use Rattle.list.specs.Changes.{changeAt}
 use Rattle.book.specs.Book.{Entry, entryAt}

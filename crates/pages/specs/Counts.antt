@@ -9,10 +9,10 @@ use lib.Dec.{eqb}
 use lib.ListN.{length, take}
 use lib.Seq.{take-all}
 use borrow.Author.Tests.{eq-eqb, ne-eqb}
-use Rattle.words.specs.Counting.{bit}
+use Rattle.words.specs.Lists.{bit}
 use Rattle.words.specs.Lists.{sum}
-use Rattle.words.specs.Prefixes.{bit-one, count-take}
-use Rattle.words.specs.Runs.{sum-take}
+use Rattle.words.proofs.Prefixes.{bit-one, count-take}
+use Rattle.words.proofs.Runs.{sum-take}
 use Rattle.book.specs.Book.{Entry, freeEntry, entryAt, isFree}
 use Rattle.pages.specs.Tally.{held, free, waiting, references}
 use Rattle.pages.specs.declared.counts.Counts.{Counts}

@@ -11,13 +11,13 @@ use borrow.Author.Tests.{lt-ltb, le-ltb, eq-eqb, ne-eqb}
 use Rattle.words.specs.Choice.{if_then_else_}
 use Rattle.words.specs.Laying.{Stored}
 use Rattle.words.specs.Lists.{joined}
-use Rattle.words.specs.Runs.{below-or-not}
+use Rattle.words.proofs.Runs.{below-or-not}
 use Rattle.book.specs.Layout.{bookOf, Holds}
 use Rattle.book.specs.Form.{formNumber}
 use Rattle.book.specs.FormNumber.{form-cases}
 use Rattle.book.specs.InForm.{holds-form}
 use Rattle.pages.specs.Tally.{tallyNumber, blocks, line, blocksWord, heldWord, freeWord, waitingWord, referencesWord, refusedWord, bookPage, tallyPage}
-use Rattle.words.specs.Stored.{stored-front}
+use Rattle.words.proofs.Stored.{stored-front}
 use Rattle.pages.specs.Lines.{line-fits}
 use Rattle.pages.specs.Counts.{countsOf, Few}
 use Rattle.pages.specs.declared.counts.Counts.{Counts}

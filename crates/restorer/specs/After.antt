@@ -9,7 +9,7 @@ use lib.Dec.{leb}
 use lib.ListN.{length, drop, length-map}
 use lib.Seq.{drop-nil}
 use borrow.Author.Tests.{le-leb, lt-leb}
-use Rattle.words.specs.Runs.{below-or-not}
+use Rattle.words.proofs.Runs.{below-or-not}
 use Rattle.book.specs.Book.{Book, slotAt}
 use Rattle.book.specs.Struct.{SlotIs}
 use Rattle.book.specs.declared.slot.Slot.{Slot}

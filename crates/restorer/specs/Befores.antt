@@ -10,7 +10,7 @@ use lib.Dec.{eqb}
 use lib.ListN.{length, take, drop}
 use lib.Seq.{drop-cons}
 use borrow.Author.Tests.{eq-eqb, ne-eqb}
-use Rattle.words.specs.Appends.{joined-append, map-append}
+use Rattle.words.proofs.Appends.{joined-append, map-append}
 use Rattle.words.specs.Choice.{if_then_else_}
 use Rattle.words.specs.Lists.{firstThat, joined}
 use Rattle.words.specs.declared.PBN.{PBN}

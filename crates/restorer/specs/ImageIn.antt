@@ -7,11 +7,12 @@ use mathlib.Core.List.{List, [], _∷_}
 use mathlib.Core.Option.{Option, none, some}
 use lib.Dec.{ltb, eqb}
 use lib.ListN.{take, drop}
-use Rattle.words.specs.Appends.{all-append}
+use Rattle.words.proofs.Appends.{all-append}
 use Rattle.words.specs.Blocks.{unmapped}
-use Rattle.words.specs.Choice.{if_then_else_, and-true, true-and}
+use Rattle.words.specs.Choice.{if_then_else_}
+use Rattle.words.proofs.ChoiceLaws.{and-true, true-and}
 use Rattle.words.specs.Lists.{all, firstThat}
-use Rattle.words.specs.Places.{all-take, all-drop, all-those, all-weaker}
+use Rattle.words.proofs.Places.{all-take, all-drop, all-those, all-weaker}
 use Rattle.book.specs.Book.{Sizes, Slot, Rec, Book, cellAt}
 use Rattle.book.specs.Conditions.{pbn-cases, cell-in}
 use Rattle.book.specs.Form.{pbnOk, recOk}

@@ -5,7 +5,7 @@ use mathlib.Core.Logic.{⊎-elim}
 use mathlib.Core.List.{List, []}
 use native.Mathlib.Omega.{arith}
 use lib.ListN.{length}
-use Rattle.words.specs.Accepted.{unless-accepted}
+use Rattle.words.proofs.Accepted.{unless-accepted}
 use Rattle.words.specs.Blocks.{blockSize}
 use Rattle.words.specs.Outcome.{Outcome, refused, accepted, andThen, unless}
 use Rattle.words.specs.declared.PBN.{PBN}

@@ -7,7 +7,8 @@ use lib.Dec.{leb, ltb, eqb}
 use lib.ListN.{length}
 use borrow.Author.Tests.{eq-eqb, ne-eqb, lt-ltb, le-ltb, eqb-false, le-leb, lt-leb}
 use Rattle.words.specs.Blocks.{unmapped}
-use Rattle.words.specs.Choice.{if_then_else_, or-l, or-r}
+use Rattle.words.specs.Choice.{if_then_else_}
+use Rattle.words.proofs.ChoiceLaws.{or-l, or-r}
 use Rattle.words.specs.Outcome.{Outcome, refused, accepted, unless}
 use Rattle.book.specs.Book.{volumes, Book, retentionOf}
 use Rattle.model.specs.AgreeLaws.{volume-inside}

@@ -7,8 +7,9 @@ use native.Mathlib.Omega.{arith}
 use lib.ListN.{length, drop, drop-of-length-le}
 use lib.Seq.{sets, drop-cons, length-sets}
 use Rattle.words.specs.Blocks.{printSize}
-use Rattle.words.specs.Counting.{bit}
-use Rattle.words.specs.Laying.{sets-next, Stored, Left, left-all, left-room, left-more, left-none}
+use Rattle.words.specs.Lists.{bit}
+use Rattle.words.proofs.LayingLaws.{sets-next, Left, left-all, left-room, left-more, left-none}
+use Rattle.words.specs.Laying.{Stored}
 use Rattle.words.specs.Numbers.{two}
 use Rattle.words.specs.Sections.{flat}
 use Rattle.book.specs.Book.{Entry, Book, freeEntry, entryAt, Sized}

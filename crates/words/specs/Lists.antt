@@ -1,5 +1,5 @@
 -- Words over lists that the box's definitions are written with.
-use Prim.Native.Nat.{ℕ, zero, suc, _+_}
+use Prim.Native.Nat.{ℕ, zero, suc, _+_, _-_}
 use mathlib.Core.Bool.{Bool, true, false, not, _&&_, _||_}
 use mathlib.Core.List.{List, [], _∷_, _++_}
 use mathlib.Core.Option.{Option, none, some}
@@ -70,3 +70,11 @@ sum (x ∷ xs) = x + sum xs
 
 abbrev pub allZero : List ℕ → Bool
 allZero b = all (λ x. eqb x 0) b
+
+-- the test holds at i, i + 1, .. up to n, which is not among them
+unfoldable pub each : (ℕ → Bool) → ℕ → ℕ → Bool
+each f i n = all f (upFrom i (n - i))
+
+abbrev pub bit : Bool → ℕ
+bit true = 1
+bit false = 0

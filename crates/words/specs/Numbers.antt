@@ -1,8 +1,6 @@
 -- Numbers of two bytes, little-endian (document 01, head).
 use Prim.Native.Nat.{ℕ, _+_, _*_, _/_, _%_}
-use mathlib.Core.Path.{_≡_}
 use mathlib.Core.List.{List, [], _∷_}
-use native.Mathlib.Nat.{mod-add-div'}
 use lib.ListN.{getD, set}
 
 -- v as two bytes, the number that stands at a place, and v written there
@@ -14,6 +12,3 @@ num b at = getD b at 0 + getD b (at + 1) 0 * 256
 
 abbrev pub put : List ℕ → ℕ → ℕ → List ℕ
 put b at v = set (set b at (v % 256)) (at + 1) (v / 256)
-
-pub two-back : (v : ℕ) → v % 256 + v / 256 * 256 ≡ v
-two-back v = mod-add-div' v 256

@@ -12,8 +12,9 @@ use lib.ListN.{length, getD, drop, drop-of-length-le}
 use lib.Seq.{drop-cons}
 use Rattle.words.specs.Choice.{if_then_else_}
 use Rattle.words.specs.Numbers.{two, put}
-use Rattle.words.specs.Filling.{put-sets}
-use Rattle.words.specs.Laying.{Stored, sets-next}
+use Rattle.words.proofs.Filling.{put-sets}
+use Rattle.words.specs.Laying.{Stored}
+use Rattle.words.proofs.LayingLaws.{sets-next}
 use Rattle.writer.specs.Writer.{runBefore, runs, pairBytes}
 use Rattle.writer.specs.Passes.{endedRun, rowAfter, ifMarked, counted, pairOf}
 use Rattle.writer.specs.declared.Tally.{Tally}

@@ -8,11 +8,12 @@ use lib.Dec.{leb, eqb}
 use lib.ListN.{length}
 use lib.Seq.{sets}
 use borrow.Author.Tests.{leb-true, eqb-true, lt-ltb, le-ltb}
-use Rattle.words.specs.Choice.{and-true}
+use Rattle.words.proofs.ChoiceLaws.{and-true}
 use Rattle.words.specs.Lists.{all}
 use Rattle.words.specs.Numbers.{two, put}
-use Rattle.words.specs.Filling.{put-sets}
-use Rattle.words.specs.Laying.{Stored, Left, left-all, left-room, left-more, sets-front}
+use Rattle.words.proofs.Filling.{put-sets}
+use Rattle.words.specs.Laying.{Stored}
+use Rattle.words.proofs.LayingLaws.{Left, left-all, left-room, left-more, sets-front}
 use Rattle.words.specs.Blocks.{blockSize, printSize}
 use Rattle.writer.specs.Writer.{runs, markedList, inputOk, writeNumber, answerAfter, outputAfter, Wrote}
 use Rattle.writer.specs.Passes.{pairsFrom, markedElements, Room}

@@ -11,8 +11,9 @@ use lib.ListN.{length, getD, take, drop, drop-of-length-le}
 use lib.Seq.{drop-cons}
 use Rattle.words.specs.Choice.{if_then_else_}
 use Rattle.words.specs.Sections.{flat}
-use Rattle.words.specs.Flat.{flat-append}
-use Rattle.words.specs.Laying.{Stored, Left, left-room, left-more, left-last, left-none}
+use Rattle.words.proofs.Flat.{flat-append}
+use Rattle.words.specs.Laying.{Stored}
+use Rattle.words.proofs.LayingLaws.{Left, left-room, left-more, left-last, left-none}
 use Rattle.list.specs.Changes.{Pair}
 use Rattle.writer.specs.Writer.{runs, markedFrom, pairBytes}
 use Rattle.writer.specs.Passes.{endedRun, rowAfter, pairOf, pairsFrom, ifMarked, element, markedElements, Passed}

@@ -9,9 +9,10 @@ use lib.Dec.{eqb}
 use lib.ListN.{length, length-append}
 use Rattle.words.specs.Choice.{if_then_else_}
 use Rattle.words.specs.Numbers.{two}
-use Rattle.words.specs.Sections.{flat, length-flat}
-use Rattle.words.specs.Flat.{flat-map}
-use Rattle.words.specs.Parts.{length-part}
+use Rattle.words.specs.Sections.{flat}
+use Rattle.words.proofs.SectionLaws.{length-flat}
+use Rattle.words.proofs.Flat.{flat-map}
+use Rattle.words.proofs.Parts.{length-part}
 use Rattle.list.specs.Changes.{Change, pairSize}
 use Rattle.words.specs.Blocks.{blockSize, printSize}
 use Rattle.writer.specs.Writer.{runs, markedFrom, imageChange, markedChanges, pairBytes, listBytes, markedList}

@@ -9,11 +9,13 @@ use lib.ListN.{length, getD, length-append, length-map, List·getD-append, List�
 use lib.Seq.{getD-append-add}
 use lib.Dec.{eqb}
 use borrow.Author.Tests.{le-ltb, eq-eqb}
-use Rattle.words.specs.Runs.{length-upFrom}
+use Rattle.words.proofs.Runs.{length-upFrom}
 use Rattle.words.specs.Lists.{sum, joined}
-use Rattle.words.specs.Numbers.{two, num, two-back}
-use Rattle.words.specs.Sections.{flat, part, tab-list, length-flat, getD-flat, inside}
-use Rattle.words.specs.Pieces.{sized, part-past, length-sized, part-sized}
+use Rattle.words.specs.Numbers.{two, num}
+use Rattle.words.proofs.NumberLaws.{two-back}
+use Rattle.words.specs.Sections.{flat, part}
+use Rattle.words.proofs.SectionLaws.{tab-list, length-flat, getD-flat, inside}
+use Rattle.words.proofs.Pieces.{sized, part-past, length-sized, part-sized}
 use Rattle.list.specs.Changes.{Pair, Change, pairSize, pairCount, pairAt, pairs, lengths, run, changeCount, lbns, printsFrom, blocksFrom, listSize, changeAt, changes, pairsFit, listNumber}
 use Rattle.words.specs.Blocks.{blockSize, printSize}
 use Rattle.writer.specs.Writer.{pairBytes, listBytes}

@@ -7,9 +7,9 @@ use native.Mathlib.Omega.{arith}
 use lib.ListN.{length, length-take, length-drop}
 use lib.Dec.{leb, ltb, eqb}
 use borrow.Author.Tests.{leb-true, eqb-true, ltb-true, eq-eqb}
-use Rattle.words.specs.Choice.{and-true}
+use Rattle.words.proofs.ChoiceLaws.{and-true}
 use Rattle.words.specs.Lists.{all, joined, upFrom}
-use Rattle.words.specs.Pieces.{sized, all-pieces}
+use Rattle.words.proofs.Pieces.{sized, all-pieces}
 use Rattle.words.specs.Sections.{flat}
 use Rattle.words.specs.Blocks.{blockSize, printSize}
 use Rattle.list.specs.Changes.{Change}

@@ -8,8 +8,9 @@ use native.Mathlib.Omega.{arith}
 use lib.ListN.{length, getD}
 use lib.Dec.{ltb, eqb}
 use borrow.Author.Tests.{ltb-true, lt-ltb, le-leb, eq-eqb, ne-eqb, eqb-true}
-use Rattle.words.specs.Choice.{if_then_else_, and-true}
-use Rattle.words.specs.Runs.{upFrom-snoc}
+use Rattle.words.specs.Choice.{if_then_else_}
+use Rattle.words.proofs.ChoiceLaws.{and-true}
+use Rattle.words.proofs.Runs.{upFrom-snoc}
 use Rattle.words.specs.Lists.{upFrom, joined, all, someOf, those, allZero}
 use Rattle.list.specs.Changes.{Pair, run, pairsFit}
 use Rattle.writer.specs.Writer.{runBefore, runs, markedFrom}

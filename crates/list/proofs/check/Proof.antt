@@ -3,7 +3,7 @@ use Prim.Native.Nat.{_≤_}
 use mathlib.Core.Path.{_≡_, sym, _∙_}
 use native.Mathlib.Omega.{arith}
 use borrow.Author.Needs.{needs}
-use Rattle.words.specs.Choice.{not-both}
+use Rattle.words.proofs.ChoiceLaws.{not-both}
 use Rattle.list.specs.Changes.{pairCount, pairs, listSize, pairsFit}
 use Rattle.list.specs.Answers.{countedOf}
 use Rattle.list.specs.declared.Counted.the-variants.{Fit}

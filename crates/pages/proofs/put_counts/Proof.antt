@@ -5,7 +5,7 @@ use mathlib.Core.List.{List}
 use native.Mathlib.Omega.{arith}
 use lib.ListN.{drop}
 use borrow.Author.Needs.{needs}
-use Rattle.words.specs.Laying.{Left, left-all, left-room, left-more, left-none}
+use Rattle.words.proofs.LayingLaws.{Left, left-all, left-room, left-more, left-none}
 use Rattle.words.specs.Lists.{joined}
 use Rattle.pages.specs.Tally.{line, blocksWord, heldWord, freeWord, waitingWord, referencesWord}
 use Rattle.pages.specs.Pages.{countLines, countsPage}

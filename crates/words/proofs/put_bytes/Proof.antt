@@ -1,5 +1,5 @@
 use mathlib.Core.List.{List}
-use Rattle.words.specs.Sections.{sets-more}
+use Rattle.words.proofs.SectionLaws.{sets-more}
 use lib.Seq.{sets, take-length}
 use lib.ListN.{length, take, getD, set, length-set}
 use Prim.Native.Nat.{ℕ, _+_, _-_, _≤_}

@@ -1,5 +1,5 @@
 -- `words::put_three`: what the three stores left, by `puts-three`.
-use Rattle.words.specs.Filling.{puts-three}
+use Rattle.words.proofs.Filling.{puts-three}
 use borrow.Author.Needs.{needs}
 use Rattle.words.proofs.put_three.Statement.{statement}
 use Rattle.words.proofs.put_three.Tie as tie

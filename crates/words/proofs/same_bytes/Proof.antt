@@ -6,7 +6,7 @@ use lib.ListN.{length, drop}
 use native.Mathlib.Omega.{arith}
 use borrow.Author.Needs.{needs}
 use Rattle.words.specs.Lists.{same}
-use Rattle.words.specs.Same.{same-long, same-turn, same-end}
+use Rattle.words.proofs.Same.{same-long, same-turn, same-end}
 use Rattle.words.proofs.same_bytes.Statement.{statement}
 use Rattle.words.proofs.same_bytes.Tie as tie
 

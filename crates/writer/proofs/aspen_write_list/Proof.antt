@@ -4,7 +4,7 @@ use mathlib.Core.Bool.{true}
 use lib.ListN.{length}
 use native.Mathlib.Omega.{arith}
 use borrow.Author.Needs.{needs}
-use Rattle.words.specs.Choice.{failed, passed}
+use Rattle.words.proofs.ChoiceLaws.{failed, passed}
 use Rattle.writer.specs.Writer.{inputOk, markedList}
 use Rattle.writer.specs.Lengths.{length-list}
 use Rattle.writer.proofs.Whole.{Fit, input-fits, wrote-none, wrote-short, wrote-list}

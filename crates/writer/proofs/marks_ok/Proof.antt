@@ -8,7 +8,7 @@ use native.Mathlib.Omega.{arith}
 use borrow.Author.Needs.{needs}
 use borrow.Author.Tests.{le-leb, lt-leb}
 use Rattle.words.specs.Lists.{all}
-use Rattle.words.specs.Turns.{all-more, all-stop, all-end}
+use Rattle.words.proofs.Turns.{all-more, all-stop, all-end}
 use Rattle.writer.proofs.marks_ok.Statement.{statement}
 use Rattle.writer.proofs.marks_ok.Tie as tie
 

@@ -1,7 +1,7 @@
 -- `put_list`: after each call, the sections that follow are left to store.
 use native.Mathlib.Omega.{arith}
 use borrow.Author.Needs.{needs}
-use Rattle.words.specs.Laying.{left-last}
+use Rattle.words.proofs.LayingLaws.{left-last}
 use Rattle.writer.proofs.Whole.{AfterNumber, AfterPairs, AfterPrints, number-room, number-stored, pairs-room, pairs-stored, prints-room, prints-stored}
 use Rattle.writer.proofs.put_list.Statement.{statement}
 use Rattle.writer.proofs.put_list.Tie as tie

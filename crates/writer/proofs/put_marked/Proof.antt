@@ -6,7 +6,7 @@ use lib.Seq.{length-sets}
 use native.Mathlib.Nat.{zero-mul}
 use native.Mathlib.Omega.{arith}
 use borrow.Author.Needs.{needs}
-use Rattle.words.specs.Laying.{Left, left-all}
+use Rattle.words.proofs.LayingLaws.{Left, left-all}
 use Rattle.writer.specs.Passes.{markedElements}
 use Rattle.writer.proofs.Writing.{element-room, element-next, part-room, part-stored, all-stored}
 use Rattle.writer.proofs.put_marked.Statement.{statement}

@@ -5,7 +5,7 @@ use lib.ListN.{length, drop}
 use lib.Seq.{length-sets}
 use native.Mathlib.Omega.{arith}
 use borrow.Author.Needs.{needs}
-use Rattle.words.specs.Laying.{Left, left-all}
+use Rattle.words.proofs.LayingLaws.{Left, left-all}
 use Rattle.writer.specs.Passes.{pairsFrom}
 use Rattle.writer.proofs.Writing.{next-room, last-room, next-stored, last-stored, row-room}
 use Rattle.writer.proofs.put_runs.Statement.{statement}

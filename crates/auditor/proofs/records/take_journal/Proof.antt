@@ -1,7 +1,7 @@
 -- `auditor::records::take_journal` meets its contract: what is left of the journal decides as the whole does.
 use Prim.Native.Nat.{ℕ, _-_, _≤_}
 use mathlib.Core.Path.{refl, _∙_}
-use Rattle.words.specs.Places.{getD-replicated}
+use Rattle.words.proofs.Places.{getD-replicated}
 use Rattle.book.specs.Layout.{bookOf}
 use Rattle.auditor.specs.Records.{notes}
 use Rattle.auditor.specs.Slots.{SlotsLeft, slots-start, slots-more, slots-end}

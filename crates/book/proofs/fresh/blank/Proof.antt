@@ -1,5 +1,5 @@
 -- `book::fresh::blank`: what the three stores left, by `runs-three`.
-use Rattle.words.specs.Filling.{runs-three}
+use Rattle.words.proofs.Filling.{runs-three}
 use borrow.Author.Needs.{needs}
 use Rattle.book.proofs.fresh.blank.Statement.{statement}
 use Rattle.book.proofs.fresh.blank.Tie as tie

@@ -2,7 +2,7 @@
 use mathlib.Core.Path.{ap}
 use mathlib.Core.Bool.{Bool}
 use denote.Ref.{now}
-use Rattle.words.specs.Counting.{bit}
+use Rattle.words.specs.Lists.{bit}
 use Rattle.book.specs.Layout.{bookOf}
 use Rattle.calendar.specs.Row.{row-stored}
 use borrow.Author.Needs.{needs}

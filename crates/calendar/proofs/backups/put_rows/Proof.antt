@@ -6,7 +6,7 @@ use native.Mathlib.Omega.{arith}
 use lib.ListN.{length}
 use lib.Seq.{length-sets}
 use denote.Ref.{now}
-use Rattle.words.specs.Laying.{Left, left-room, left-more, left-none}
+use Rattle.words.proofs.LayingLaws.{Left, left-room, left-more, left-none}
 use Rattle.book.specs.Book.{slotAt}
 use Rattle.book.specs.Conditions.{retention-in}
 use Rattle.book.specs.Layout.{bookOf}

@@ -1,7 +1,7 @@
 -- `collector::collect::free_over` meets its contract: what is not over stays as it is, and what is over becomes free.
 use mathlib.Core.Path.{sym}
 use borrow.Author.Needs.{needs}
-use Rattle.words.specs.Choice.{failed, passed}
+use Rattle.words.proofs.ChoiceLaws.{failed, passed}
 use Rattle.collector.specs.Sweep.{free-kept, free-freed}
 use Rattle.collector.proofs.collect.free_over.Statement.{statement}
 use Rattle.collector.proofs.collect.free_over.Tie as tie

@@ -5,7 +5,7 @@ use denote.Ref.{now}
 use lib.ListN.{length}
 use native.Mathlib.Omega.{arith}
 use borrow.Author.Needs.{needs}
-use Rattle.words.specs.Choice.{failed, passed}
+use Rattle.words.proofs.ChoiceLaws.{failed, passed}
 use Rattle.book.specs.Book.{Sizes}
 use Rattle.book.specs.Layout.{bookSize}
 use Rattle.book.specs.Form.{sizesOk}

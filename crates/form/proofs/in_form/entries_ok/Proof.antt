@@ -3,8 +3,9 @@ use Prim.Native.Nat.{_≤_, _-_}
 use mathlib.Core.Path.{_≡_, refl, sym, _∙_}
 use mathlib.Core.Bool.{_&&_}
 use native.Mathlib.Omega.{arith}
-use Rattle.words.specs.Choice.{failed, passed}
-use Rattle.words.specs.Each.{each, each-none, each-more, each-stop}
+use Rattle.words.proofs.ChoiceLaws.{failed, passed}
+use Rattle.words.specs.Lists.{each}
+use Rattle.words.proofs.Each.{each-none, each-more, each-stop}
 use Rattle.book.specs.Layout.{entryOf}
 use Rattle.book.specs.Form.{stateOk, entryOk}
 use Rattle.form.specs.Checks.{entriesOk}

@@ -3,7 +3,7 @@ use mathlib.Core.Path.{_≡_, sym}
 use mathlib.Core.Bool.{true}
 use borrow.Author.Needs.{needs}
 use denote.Ref.{now}
-use Rattle.words.specs.Choice.{failed, passed}
+use Rattle.words.proofs.ChoiceLaws.{failed, passed}
 use Rattle.book.specs.Form.{layoutOk}
 use Rattle.book.specs.FormNumber.{number-1, layout-facts}
 use Rattle.form.specs.Checks.{headOk, head-facts}

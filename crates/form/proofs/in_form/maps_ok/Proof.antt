@@ -2,7 +2,7 @@
 use Prim.Native.Nat.{_≤_, _-_}
 use mathlib.Core.Path.{_≡_, sym, ap, _∙_}
 use native.Mathlib.Omega.{arith}
-use Rattle.words.specs.Each.{each-none, each-grow}
+use Rattle.words.proofs.Each.{each-none, each-grow}
 use Rattle.book.specs.Form.{pbnOk}
 use Rattle.form.specs.Checks.{mapsOk}
 use Rattle.form.proofs.in_form.maps_ok.Statement.{statement}

@@ -3,7 +3,8 @@ use Prim.Native.Nat.{ℕ, _≤_, _-_}
 use mathlib.Core.Path.{_≡_, sym, ap}
 use native.Mathlib.Omega.{arith}
 use lib.Dec.{leb}
-use Rattle.words.specs.Each.{each, each-none, each-grow}
+use Rattle.words.specs.Lists.{each}
+use Rattle.words.proofs.Each.{each-none, each-grow}
 use Rattle.words.specs.Numbers.{num}
 use Rattle.book.specs.Layout.{retentionPlace}
 use Rattle.book.specs.Form.{retentionOk}

@@ -2,7 +2,7 @@
 use Prim.Native.Nat.{_≤_, _-_}
 use mathlib.Core.Path.{_≡_, sym}
 use native.Mathlib.Omega.{arith}
-use Rattle.words.specs.Each.{each-none, each-grow}
+use Rattle.words.proofs.Each.{each-none, each-grow}
 use Rattle.form.specs.Checks.{recordsOk}
 use Rattle.form.proofs.in_form.used_records_ok.Statement.{statement}
 use Rattle.form.proofs.in_form.used_records_ok.Tie as tie

@@ -6,7 +6,7 @@ use native.Mathlib.Omega.{arith}
 use lib.Dec.{eqb}
 use lib.ListN.{getD}
 use denote.Ref.{now}
-use Rattle.words.specs.Choice.{failed, passed}
+use Rattle.words.proofs.ChoiceLaws.{failed, passed}
 use Rattle.words.specs.Numbers.{num}
 use Rattle.book.specs.Layout.{dayPlace}
 use Rattle.form.specs.Days.{noLasts}

@@ -2,7 +2,7 @@
 use Prim.Native.Nat.{_≤_, _-_}
 use mathlib.Core.Path.{_≡_, refl, sym}
 use native.Mathlib.Omega.{arith}
-use Rattle.words.specs.Each.{each-none, each-grow}
+use Rattle.words.proofs.Each.{each-none, each-grow}
 use Rattle.form.specs.Checks.{zerosIn}
 use Rattle.form.proofs.in_form.zeros.Statement.{statement}
 use Rattle.form.proofs.in_form.zeros.Tie as tie

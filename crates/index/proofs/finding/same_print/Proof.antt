@@ -7,7 +7,7 @@ use native.Mathlib.Omega.{arith}
 use borrow.Author.Needs.{needs}
 use Rattle.words.specs.Blocks.{printSize}
 use Rattle.words.specs.Lists.{same}
-use Rattle.words.specs.Same.{same-turn, same-end}
+use Rattle.words.proofs.Same.{same-turn, same-end}
 use Rattle.index.proofs.finding.same_print.Statement.{statement}
 use Rattle.index.proofs.finding.same_print.Tie as tie
 

@@ -3,7 +3,7 @@ use Prim.Native.Nat.{_<_}
 use mathlib.Core.Path.{ap, _∙_}
 use native.Mathlib.Omega.{arith}
 use lib.ListN.{length}
-use Rattle.words.specs.Choice.{failed, passed}
+use Rattle.words.proofs.ChoiceLaws.{failed, passed}
 use Rattle.book.specs.Layout.{bookOf}
 use Rattle.index.specs.Bucket.{bucketOf}
 use Rattle.index.specs.Linking.{linked-free, linked-held}

@@ -1,6 +1,6 @@
 -- A store over the whole slice.
 use mathlib.Core.Path.{sym, _∙_}
-use Rattle.words.specs.Sections.{sets-whole}
+use Rattle.words.proofs.SectionLaws.{sets-whole}
 use borrow.Author.Needs.{needs}
 use Rattle.intake.proofs.storing.copy.Statement.{statement}
 use Rattle.intake.proofs.storing.copy.Tie as tie

@@ -6,9 +6,9 @@ use mathlib.Core.Bool.{true, false}
 use native.Mathlib.Omega.{arith}
 use lib.ListN.{length, getD}
 use Rattle.words.specs.Blocks.{blockSize}
-use Rattle.words.specs.Choice.{failed, passed}
-use Rattle.words.specs.Parts.{length-part}
-use Rattle.words.specs.Lending.{lent, spliced}
+use Rattle.words.proofs.ChoiceLaws.{failed, passed}
+use Rattle.words.proofs.Parts.{length-part}
+use Rattle.words.proofs.Lending.{lent, spliced}
 use Rattle.list.specs.Laws.{length-block}
 use Rattle.book.specs.Book.{entryAt}
 use Rattle.book.specs.Layout.{bookOf}

@@ -4,8 +4,8 @@ use mathlib.Core.Path.{ap, _∙_}
 use mathlib.Core.List.{List}
 use lib.ListN.{length}
 use Rattle.words.specs.Blocks.{printSize}
-use Rattle.words.specs.Lending.{lent}
-use Rattle.words.specs.Parts.{length-part}
+use Rattle.words.proofs.Lending.{lent}
+use Rattle.words.proofs.Parts.{length-part}
 use Rattle.book.specs.Layout.{bookOf}
 use Rattle.model.specs.Backup.{findHeld}
 use Rattle.index.specs.Answers.{foundOf}

@@ -5,7 +5,7 @@ use mathlib.Core.List.{List}
 use native.Mathlib.Omega.{arith}
 use lib.ListN.{length}
 use Rattle.words.specs.Blocks.{printSize}
-use Rattle.words.specs.Choice.{failed, passed}
+use Rattle.words.proofs.ChoiceLaws.{failed, passed}
 use Rattle.words.specs.Sections.{part}
 use Rattle.list.specs.Changes.{changeCount, changeAt}
 use Rattle.list.specs.Laws.{print-part, changes-within}

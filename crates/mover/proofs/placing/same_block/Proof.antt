@@ -5,7 +5,7 @@ use mathlib.Core.List.{List}
 use native.Mathlib.Omega.{arith}
 use Rattle.words.specs.Blocks.{blockSize}
 use Rattle.words.specs.Lists.{same}
-use Rattle.words.specs.Lending.{lent}
+use Rattle.words.proofs.Lending.{lent}
 use Rattle.book.specs.Layout.{bookOf}
 use Rattle.mover.specs.PoolLaws.{in-pool, in-list}
 use borrow.Author.Needs.{needs}

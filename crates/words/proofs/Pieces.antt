@@ -8,9 +8,10 @@ use lib.Dec.{eqb}
 use lib.ListN.{length, getD, take, length-append}
 use lib.Seq.{take-at, drop-append-add, take-length}
 use borrow.Author.Tests.{eqb-true}
-use Rattle.words.specs.Choice.{and-true}
+use Rattle.words.proofs.ChoiceLaws.{and-true}
 use Rattle.words.specs.Lists.{all, joined, upFrom}
-use Rattle.words.specs.Sections.{flat, part, part-add}
+use Rattle.words.specs.Sections.{flat, part}
+use Rattle.words.proofs.SectionLaws.{part-add}
 
 pub part-past : (xs ys : List ℕ) (n o m : ℕ) → length xs ≡ n → part (xs ++ ys) (n + o) m ≡ part ys o m
 part-past xs ys n o m e = rw (← e) (ap (λ (r : List ℕ). take m r) (drop-append-add xs ys o))

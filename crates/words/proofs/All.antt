@@ -2,7 +2,7 @@
 use mathlib.Core.Path.{_≡_, refl}
 use mathlib.Core.Bool.{Bool, _&&_}
 use mathlib.Core.List.{List, [], _∷_}
-use Rattle.words.specs.Choice.{and-swap}
+use Rattle.words.proofs.ChoiceLaws.{and-swap}
 use Rattle.words.specs.Lists.{all}
 
 module _ {A : Type 0} where

@@ -8,9 +8,10 @@ use native.Mathlib.Omega.{arith}
 use lib.Dec.{eqb, eqb·suc-zero}
 use lib.ListN.{length, getD, take, drop, set, replicate}
 use borrow.Author.Tests.{eqb-true, eqb-false}
-use Rattle.words.specs.Choice.{if_then_else_, and-true, true-and, or-cases, or-l, or-r, not-both}
+use Rattle.words.specs.Choice.{if_then_else_}
+use Rattle.words.proofs.ChoiceLaws.{and-true, true-and, or-cases, or-l, or-r, not-both}
 use Rattle.words.specs.Lists.{all, someOf, those, countOf, joined, upFrom}
-use Rattle.words.specs.Appends.{someOf-append}
+use Rattle.words.proofs.Appends.{someOf-append}
 
 -- a place within the list, whatever stands past the ends
 pub getD-map : {A B : Type 0} (f : A → B) (xs : List A) (i : ℕ) (d : A) (e : B) → i < length xs → getD (map f xs) i e ≡ f (getD xs i d)

@@ -8,8 +8,9 @@ use native.Mathlib.Omega.{arith}
 use lib.ListN.{length, set, drop, length-drop, replicate, length-replicate, replicate-append-replicate}
 use lib.Seq.{sets}
 use Rattle.words.specs.Numbers.{two, put}
-use Rattle.words.specs.Sections.{flat, fit, sets-snoc, sets-append-right, sets-whole}
-use Rattle.words.specs.Laying.{sets-front}
+use Rattle.words.specs.Sections.{flat, fit}
+use Rattle.words.proofs.SectionLaws.{sets-snoc, sets-append-right, sets-whole}
+use Rattle.words.proofs.LayingLaws.{sets-front}
 
 -- a number written is its two bytes stored
 pub put-sets : (b : List ℕ) (at v : ℕ) → put b at v ≡ sets b at (two v)

@@ -5,7 +5,8 @@ use mathlib.Core.List.{List, [], _∷_, _++_}
 use native.Mathlib.Omega.{arith}
 use lib.ListN.{length, set, take, drop, length-append}
 use lib.Seq.{sets, take-at}
-use Rattle.words.specs.Laying.{Stored, sets-append, sets-front}
+use Rattle.words.specs.Laying.{Stored}
+use Rattle.words.proofs.LayingLaws.{sets-append, sets-front}
 
 module _ {out : List ℕ} {at : ℕ} where
   -- an element more

@@ -5,7 +5,7 @@ use mathlib.Core.Bool.{Bool, true, false, _||_}
 use mathlib.Core.List.{List, [], _∷_}
 use lib.Dec.{eqb}
 use borrow.Author.Tests.{eqb-true, eq-eqb}
-use Rattle.words.specs.Choice.{same-test}
+use Rattle.words.proofs.ChoiceLaws.{same-test}
 use Rattle.words.specs.Lists.{someOf}
 
 pub eqb-swap : (a b : ℕ) → eqb a b ≡ eqb b a

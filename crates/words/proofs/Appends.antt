@@ -4,7 +4,8 @@ use mathlib.Core.Path.{_≡_, refl, ap}
 use mathlib.Core.Bool.{Bool, true, false, _&&_, _||_}
 use mathlib.Core.List.{List, [], _∷_, _++_, map, append-assoc}
 use native.Mathlib.Omega.{arith}
-use Rattle.words.specs.Choice.{if_then_else_, and-assoc, or-assoc}
+use Rattle.words.specs.Choice.{if_then_else_}
+use Rattle.words.proofs.ChoiceLaws.{and-assoc, or-assoc}
 use Rattle.words.specs.Lists.{all, someOf, those, countOf, lastOf, joined, sum}
 
 module _ {A : Type 0} (f : A → Bool) where

@@ -9,13 +9,11 @@ use native.Mathlib.Numerals.{add-one}
 use native.Mathlib.Omega.{arith}
 use lib.Dec.{eqb}
 use lib.ListN.{length, getD}
-use Rattle.words.specs.Choice.{and-true, true-and, same-test}
+use Rattle.words.proofs.ChoiceLaws.{and-true, true-and, same-test}
 use Rattle.words.specs.Lists.{all, upFrom, allZero}
-use Rattle.words.specs.Sections.{tab, part, part-cons, inside}
-
--- the test holds at i, i + 1, .. up to n, which is not among them
-unfoldable pub each : (ℕ → Bool) → ℕ → ℕ → Bool
-each f i n = all f (upFrom i (n - i))
+use Rattle.words.specs.Sections.{tab, part}
+use Rattle.words.proofs.SectionLaws.{part-cons, inside}
+use Rattle.words.specs.Lists.{each}
 
 -- ---- place by place
 

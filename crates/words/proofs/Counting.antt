@@ -5,13 +5,10 @@ use mathlib.Core.Bool.{Bool, true, false}
 use mathlib.Core.List.{List, [], _∷_}
 use native.Mathlib.Omega.{arith}
 use lib.ListN.{length, getD, set}
-use Rattle.words.specs.Appends.{countOf-append}
+use Rattle.words.proofs.Appends.{countOf-append}
 use Rattle.words.specs.Choice.{if_then_else_}
 use Rattle.words.specs.Lists.{countOf, joined}
-
-abbrev pub bit : Bool → ℕ
-bit true = 1
-bit false = 0
+use Rattle.words.specs.Lists.{bit}
 
 module _ {A : Type 0} (f : A → Bool) where
   count-cons : (x : A) (xs : List A) → countOf f (x ∷ xs) ≡ bit (f x) + countOf f xs

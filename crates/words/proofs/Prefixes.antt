@@ -7,9 +7,9 @@ use native.Mathlib.Numerals.{add-one}
 use native.Mathlib.Omega.{arith}
 use lib.ListN.{length, getD, take}
 use lib.Seq.{take-suc}
-use Rattle.words.specs.Appends.{countOf-append}
+use Rattle.words.proofs.Appends.{countOf-append}
 use Rattle.words.specs.Choice.{if_then_else_}
-use Rattle.words.specs.Counting.{bit}
+use Rattle.words.specs.Lists.{bit}
 use Rattle.words.specs.Lists.{countOf}
 
 pub bit-one : (t : Bool) → bit t ≤ 1
