@@ -1,8 +1,2 @@
 pub mod Changes
 pub mod Answers
-pub mod Pairs
-pub mod Reading
-pub mod Checks
-pub mod Cursors
-pub mod Laws
-pub mod Cases

@@ -15,7 +15,7 @@ use Rattle.words.proofs.ChoiceLaws.{and-false, or-no}
 use Rattle.words.specs.Lists.{joined, countOf}
 use Rattle.words.proofs.Stores.{getD-set-kept}
 use Rattle.list.specs.Changes.{Change, changeCount, changes}
-use Rattle.list.specs.Laws.{length-changes, changes-rise}
+use Rattle.list.proofs.Laws.{length-changes, changes-rise}
 use Rattle.book.specs.Book.{volumes, Sizes, Slot, Rec, Book, entryAt, retentionOf}
 use Rattle.book.specs.Next.{withDay, withSlot}
 use Rattle.book.specs.FormParts.{book-parts}

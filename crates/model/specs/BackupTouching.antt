@@ -11,7 +11,7 @@ use Rattle.words.proofs.Appends.{map-append, lastOf-append}
 use Rattle.words.specs.Blocks.{unmapped}
 use Rattle.words.specs.Lists.{someOf, lastOf}
 use Rattle.list.specs.Changes.{changes, changeCount, lbns}
-use Rattle.list.specs.Laws.{changes-lbns}
+use Rattle.list.proofs.Laws.{changes-lbns}
 use Rattle.book.specs.Book.{volumes, Rec, Book, entryAt, retentionOf}
 use Rattle.book.specs.Next.{withDay, withSlot}
 use Rattle.model.specs.Audit.{applied}

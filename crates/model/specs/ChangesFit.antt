@@ -13,7 +13,7 @@ use Rattle.words.specs.Lists.{all}
 use Rattle.words.proofs.Places.{place-all}
 use Rattle.list.specs.Answers.{shapeOf, Whole}
 use Rattle.list.specs.Changes.{Change, changeAt, changeCount, changes, listNumber}
-use Rattle.list.specs.Laws.{length-changes, getD-changes, change-below, number-good, good-whole, length-print, length-block}
+use Rattle.list.proofs.Laws.{length-changes, getD-changes, change-below, number-good, good-whole, length-print, length-block}
 
 unfoldable pub changeFit : ℕ → Change → Bool
 changeFit l c = ltb (c .lbn) l && eqb (length (c .print)) printSize && eqb (length (c .block)) blockSize

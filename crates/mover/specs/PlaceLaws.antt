@@ -20,7 +20,7 @@ use Rattle.words.specs.Sections.{part}
 use Rattle.words.specs.Blocks.{printSize}
 use Rattle.list.specs.Changes.{Change, changeCount, changeAt, printsFrom}
 use Rattle.list.specs.Answers.{Whole}
-use Rattle.list.specs.Laws.{length-block}
+use Rattle.list.proofs.Laws.{length-block}
 use Rattle.list.specs.declared.Shape.{Shape}
 use Rattle.book.specs.Book.{Entry, Book, freeEntry, entryAt, Sized}
 use Rattle.book.specs.Layout.{bookOf, Holds, Is}

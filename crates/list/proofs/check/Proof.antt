@@ -7,8 +7,8 @@ use Rattle.words.proofs.ChoiceLaws.{not-both}
 use Rattle.list.specs.Changes.{pairCount, pairs, listSize, pairsFit}
 use Rattle.list.specs.Answers.{countedOf}
 use Rattle.list.specs.declared.Counted.the-variants.{Fit}
-use Rattle.list.specs.Reading.{fit-counted, counted-within, unfit-counted}
-use Rattle.list.specs.Checks.{accepted-good, unaccepted-refused}
+use Rattle.list.proofs.Reading.{fit-counted, counted-within, unfit-counted}
+use Rattle.list.proofs.Checks.{accepted-good, unaccepted-refused}
 use Rattle.list.proofs.check.Statement.{statement}
 use Rattle.list.proofs.check.Tie as tie
 

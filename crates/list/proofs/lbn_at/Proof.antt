@@ -2,7 +2,7 @@
 use native.Mathlib.Omega.{arith}
 use borrow.Author.Needs.{needs}
 use Rattle.list.specs.Changes.{pairAt}
-use Rattle.list.specs.Cursors.{in-pair, lbn-there}
+use Rattle.list.proofs.Cursors.{in-pair, lbn-there}
 use Rattle.list.proofs.lbn_at.Statement.{statement}
 use Rattle.list.proofs.lbn_at.Tie as tie
 

@@ -3,7 +3,7 @@ use Prim.Native.Nat.{_<_}
 use mathlib.Core.Path.{ap}
 use native.Mathlib.Omega.{arith}
 use Rattle.list.specs.Changes.{changeCount}
-use Rattle.list.specs.Laws.{changes-within, change-below}
+use Rattle.list.proofs.Laws.{changes-within, change-below}
 use Rattle.book.specs.Book.{Sizes}
 use Rattle.book.specs.Layout.{bookOf}
 use Rattle.mover.specs.ChangeLaws.{change-unplaced, change-by, move-indexed}

@@ -10,10 +10,10 @@ use Rattle.words.proofs.Runs.{map-tab}
 use Rattle.words.proofs.Parts.{length-part, part-part}
 use Rattle.list.specs.Changes.{Change, pairSize, pairCount, pairAt, pairs, changeCount, lbns, printsFrom, blocksFrom, listSize, changeAt, changes, listNumber}
 use Rattle.words.specs.Blocks.{blockSize, printSize}
-use Rattle.list.specs.Pairs.{length-runs, fit-sum, fit-count, fit-each, fit-bounds, fit-rise}
+use Rattle.list.proofs.Pairs.{length-runs, fit-sum, fit-count, fit-each, fit-bounds, fit-rise}
 use Rattle.list.specs.Answers.{shapeOf, checkedOf, numberOf, Whole}
-use Rattle.list.specs.Reading.{length-pairs, getD-pairs}
-use Rattle.list.specs.Checks.{number-accepted, good-accepted, accepted-good, number-of-checked}
+use Rattle.list.proofs.Reading.{length-pairs, getD-pairs}
+use Rattle.list.proofs.Checks.{number-accepted, good-accepted, accepted-good, number-of-checked}
 use Rattle.list.specs.declared.Shape.{Shape}
 use Rattle.list.specs.declared.Checked.the-variants.{Good, Refused}
 

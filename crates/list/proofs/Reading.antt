@@ -12,7 +12,7 @@ use Rattle.words.specs.Lists.{sum}
 use Rattle.words.proofs.SectionLaws.{length-tab, getD-tab}
 use Rattle.list.specs.Changes.{Pair, pairCount, pairAt, pairs, lengths, changeCount, pairsFit}
 use Rattle.list.specs.Answers.{pairFits, countedOf}
-use Rattle.list.specs.Pairs.{fit-sum}
+use Rattle.list.proofs.Pairs.{fit-sum}
 use Rattle.list.specs.declared.Counted.the-variants.{Fit, Unfit}
 
 module _ (b : List ℕ) where
