@@ -17,7 +17,7 @@ use Rattle.words.proofs.LayingLaws.{Left, left-all, left-room, left-more, sets-
 use Rattle.words.specs.Blocks.{blockSize, printSize}
 use Rattle.writer.specs.Writer.{runs, markedList, inputOk, writeNumber, answerAfter, outputAfter, Wrote}
 use Rattle.writer.specs.Passes.{pairsFrom, markedElements, Room}
-use Rattle.writer.specs.Lengths.{list-sections}
+use Rattle.writer.proofs.Lengths.{list-sections}
 
 -- an input that is not refused holds L elements of each kind
 pub record Fit (ms ps bs : List ℕ) : Type 0 where

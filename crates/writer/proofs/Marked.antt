@@ -13,8 +13,8 @@ use Rattle.words.proofs.Pieces.{sized, all-pieces}
 use Rattle.words.specs.Sections.{flat}
 use Rattle.words.specs.Blocks.{blockSize, printSize}
 use Rattle.list.specs.Changes.{Change}
-use Rattle.writer.specs.ListBytes.{lbn, print, block, Fitting}
-use Rattle.writer.specs.Runs.{marked-below, runs-named}
+use Rattle.writer.proofs.ListBytes.{lbn, print, block, Fitting}
+use Rattle.writer.proofs.RunLaws.{marked-below, runs-named}
 use Rattle.writer.specs.Writer.{runs, markedFrom, imageChange, markedChanges, inputOk}
 
 -- ---- what an accepted input is
