@@ -16,8 +16,8 @@ use Rattle.words.specs.Lists.{all, someOf, countOf, joined, upFrom}
 use Rattle.words.proofs.Places.{place-some, place-all, countOf-none, someOf-joined}
 use Rattle.book.specs.Book.{Book, Sized, entryAt, cellAt}
 use Rattle.book.specs.Layout.{bookOf}
-use Rattle.book.specs.FormParts.{BookParts}
-use Rattle.book.specs.Conditions.{entry-in, cell-in}
+use Rattle.book.specs.Formed.{BookParts}
+use Rattle.book.proofs.Conditions.{entry-in, cell-in}
 use Rattle.book.specs.Formed.{Formed}
 use Rattle.model.specs.Journal.{journal}
 use Rattle.model.specs.Audit.{mapsSound, countSound, expirySound, printsSound, cellSound, currentSound, backupsSound, audit}

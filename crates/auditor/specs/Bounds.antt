@@ -11,9 +11,9 @@ use Rattle.words.specs.Blocks.{unmapped}
 use Rattle.book.specs.Book.{volumes, Slot, Book, Sized, slotAt, recAt, retentionOf}
 use Rattle.book.specs.Layout.{bookOf}
 use Rattle.book.specs.Form.{enrolled}
-use Rattle.book.specs.FormParts.{BookParts}
+use Rattle.book.specs.Formed.{BookParts}
 use Rattle.book.specs.Formed.{Formed}
-use Rattle.book.specs.Conditions.{slot-in, rec-in, retention-in, pairs-in}
+use Rattle.book.proofs.Conditions.{slot-in, rec-in, retention-in, pairs-in}
 use Rattle.book.specs.Struct.{RecordIs}
 use Rattle.book.specs.declared.record.Record.{Record}
 

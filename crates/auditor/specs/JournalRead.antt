@@ -15,7 +15,7 @@ use Rattle.words.proofs.Places.{place-all, all-take, all-drop}
 use Rattle.book.specs.Book.{volumes, Sizes, Rec, Book, Sized, slotAt, retentionOf}
 use Rattle.book.specs.Form.{recOk}
 use Rattle.book.specs.Formed.{Formed}
-use Rattle.book.specs.FormParts.{BookParts}
+use Rattle.book.specs.Formed.{BookParts}
 use Rattle.book.specs.Layout.{bookOf}
 use Rattle.book.specs.Struct.{SlotIs}
 use Rattle.book.specs.declared.slot.Slot as read

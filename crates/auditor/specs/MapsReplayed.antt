@@ -17,7 +17,7 @@ use Rattle.words.proofs.Same.{same-equal}
 use Rattle.words.proofs.Stores.{getD-set}
 use Rattle.book.specs.Book.{volumes, Sizes, Slot, Rec, Book, Sized}
 use Rattle.book.specs.Form.{enrolled, pbnOk, recOk, slotOk, laterOk, daysOk}
-use Rattle.book.specs.FormParts.{BookParts}
+use Rattle.book.specs.Formed.{BookParts}
 use Rattle.model.specs.Journal.{Backup, journalOf, journal, backupsIn}
 use Rattle.model.specs.Audit.{applied, replayed, beforesIn, befores, noMaps, sameMap, mapsSound}
 use Rattle.model.specs.Sound.{Sound, SoundAll, Days}

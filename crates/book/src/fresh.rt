@@ -8,7 +8,7 @@ ghost use Rattle.words.specs.Numbers.{two};
 ghost use Rattle.words.specs.Sections.{flat};
 ghost use Rattle.book.specs.Layout.{layoutNumber, headerSize, bookSize, Is};
 ghost use Rattle.book.specs.Next.{fresh};
-ghost use Rattle.book.specs.Shape.{Bounds};
+ghost use Rattle.book.specs.Formed.{Bounds};
 use super::header::L_PLACE;
 use super::header::LAYOUT_NUMBER;
 use super::header::N_PLACE;

@@ -18,7 +18,7 @@ use Rattle.words.specs.Numbers.{two, put}
 use Rattle.words.proofs.Runs.{below-or-not}
 use Rattle.words.specs.Sections.{flat}
 use Rattle.book.specs.Book.{Book, slotAt}
-use Rattle.book.specs.Conditions.{pairs-in}
+use Rattle.book.proofs.Conditions.{pairs-in}
 use Rattle.book.specs.Form.{pairsOk}
 use Rattle.book.specs.Struct.{SlotIs}
 use Rattle.book.specs.declared.slot.Slot.{Slot}

@@ -12,7 +12,7 @@ use Rattle.words.specs.Outcome.{refused, accepted, andThen}
 use Rattle.book.specs.Layout.{bookOf, Is}
 use Rattle.book.specs.Form.{formNumber}
 use Rattle.book.specs.Next.{withDay, withEntries}
-use Rattle.book.specs.Holding.{bytes-is}
+use Rattle.book.proofs.Holding.{bytes-is}
 use Rattle.model.specs.Days.{badDay}
 use Rattle.model.specs.Collect.{isOver, entryAfter, collectNumber, collected, collect}
 use Rattle.model.specs.OnBytes.{collectedBytes, collectBytes}

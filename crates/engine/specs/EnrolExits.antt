@@ -12,7 +12,7 @@ use Rattle.book.specs.Book.{Book, retentionOf}
 use Rattle.book.specs.Layout.{bytes, bookOf, Is}
 use Rattle.book.specs.Form.{formNumber}
 use Rattle.book.specs.Next.{withRetention}
-use Rattle.book.specs.Holding.{bytes-is}
+use Rattle.book.proofs.Holding.{bytes-is}
 use Rattle.model.specs.Days.{badRetention}
 use Rattle.model.specs.Enrol.{enrolNumber, enrol}
 use Rattle.model.specs.OnBytes.{enrolBytes}

@@ -11,7 +11,7 @@ use Rattle.book.specs.Book.{Sizes}
 use Rattle.book.specs.Layout.{bookSize, Is}
 use Rattle.book.specs.Form.{sizesOk}
 use Rattle.book.specs.Next.{fresh}
-use Rattle.book.specs.Holding.{bytes-is}
+use Rattle.book.proofs.Holding.{bytes-is}
 use Rattle.model.specs.OnBytes.{formatNumber, formatBytes}
 use Rattle.engine.specs.Contracts.{Formatted}
 

@@ -20,8 +20,9 @@ use Rattle.words.proofs.SectionLaws.{length-tab}
 use Rattle.book.specs.Book.{volumes, Slot}
 use Rattle.book.specs.Layout.{nPlace, lPlace, sPlace, jPlace, bPlace, uPlace, retentionPlace, entriesFrom, entrySize, mapsFrom, cellPlace, slotsFrom, slotSize, recSize, slotPlace, recordsFrom, recPlace, bookSize, sizesOf, entryOf, cellOf, recOf, bookOf}
 use Rattle.book.specs.Form.{retentionOk, entryOk, pbnOk, recOk, enrolled, slotOk, daysOk, pairsOk, bookOk, stateOk, secondOk, rawOk, layoutOk, formNumber}
-use Rattle.book.specs.FormNumber.{number-0, number-2}
-use Rattle.book.specs.FormParts.{BookParts, book-parts, parts-book, RawParts, raw-parts, parts-raw}
+use Rattle.book.proofs.FormNumber.{number-0, number-2}
+use Rattle.book.specs.Formed.{BookParts}
+use Rattle.book.proofs.FormParts.{book-parts, parts-book, RawParts, raw-parts, parts-raw}
 use Rattle.form.specs.Days.{volumeOk, noLasts, days-pass}
 use Rattle.form.specs.Slots.{slotsLeft, no-retention}
 use Rattle.form.specs.Checks.{zerosIn, headOk, head-facts, facts-head, retentionsOk, entriesOk, mapsOk, recordsOk}

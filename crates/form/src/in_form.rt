@@ -26,7 +26,7 @@ ghost use lib.ListN.{length};
 ghost use Rattle.words.specs.Numbers.{num};
 ghost use Rattle.book.specs.Layout.{nPlace, lPlace, dayPlace, headerSize, entriesFrom, entryPlace, entrySize, slotsFrom, slotSize, recSize, entryOf, recOf, sizesOf};
 ghost use Rattle.book.specs.Form.{layoutOk, stateOk, entryOk, pbnOk, recOk, formNumber};
-ghost use Rattle.book.specs.FormNumber.{Laid};
+ghost use Rattle.book.specs.Formed.{Laid};
 ghost use Rattle.form.specs.Passes.{blocksOk, slotsOk, journalOk};
 ghost use Rattle.form.specs.Days.{noLasts};
 ghost use Rattle.form.specs.Slots.{SlotsAt, slotHere, slotsLeft};

@@ -8,7 +8,7 @@ use Rattle.words.specs.Outcome.{Outcome, refused, accepted, andThen}
 use Rattle.list.specs.Changes.{changeCount, changes}
 use Rattle.book.specs.Book.{Book}
 use Rattle.book.specs.Layout.{bookOf}
-use Rattle.book.specs.Holding.{bytes-is}
+use Rattle.book.proofs.Holding.{bytes-is}
 use Rattle.model.specs.Backup.{Work, runChanges, begun, closed}
 use Rattle.model.specs.OnBytes.{backedBytes, backupBytes}
 use Rattle.mover.specs.Stepping.{stepNumber}

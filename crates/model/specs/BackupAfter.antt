@@ -18,7 +18,7 @@ use Rattle.list.specs.Changes.{Change, changeCount, changes}
 use Rattle.list.proofs.Laws.{length-changes, changes-rise}
 use Rattle.book.specs.Book.{volumes, Sizes, Slot, Rec, Book, entryAt, retentionOf}
 use Rattle.book.specs.Next.{withDay, withSlot}
-use Rattle.book.specs.FormParts.{book-parts}
+use Rattle.book.proofs.FormParts.{book-parts}
 use Rattle.model.specs.Journal.{Backup, journalOf, journal, backupsIn}
 use Rattle.model.specs.Audit.{applied, replayed, noMaps, untilIn, printsSound}
 use Rattle.model.specs.Backup.{Work, closed}

@@ -9,7 +9,7 @@ use Rattle.words.specs.Lists.{someOf}
 use Rattle.words.specs.Outcome.{Outcome, refused, accepted, andThen, unless}
 use Rattle.list.specs.Changes.{changes, changeCount, lbns}
 use Rattle.book.specs.Book.{volumes, Book, entryAt, retentionOf}
-use Rattle.book.specs.SizesIn.{sizes-facts}
+use Rattle.book.proofs.SizesIn.{sizes-facts}
 use Rattle.model.specs.Backup.{Work, Backed, begun, closed, runChanges, backupNumber, backup}
 use Rattle.model.specs.Plain.{Plain, currentMaps}
 use Rattle.model.specs.PlainBackup

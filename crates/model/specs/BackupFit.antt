@@ -18,7 +18,7 @@ use Rattle.list.proofs.Laws.{length-changes}
 use Rattle.book.specs.Book.{Slot, Book, retentionOf}
 use Rattle.book.specs.Form.{enrolled, slotOk}
 use Rattle.book.specs.Next.{withDay, withSlot}
-use Rattle.book.specs.SizesIn.{sizes-facts}
+use Rattle.book.proofs.SizesIn.{sizes-facts}
 use Rattle.model.specs.Journal.{noVolume}
 use Rattle.model.specs.Pool.{poolSize}
 use Rattle.model.specs.Backup.{Work, Backed, runChanges, begun, closed, backupNumber, backup}

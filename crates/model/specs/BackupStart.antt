@@ -17,8 +17,8 @@ use Rattle.words.proofs.Runs.{below-or-not}
 use Rattle.list.specs.Changes.{Change}
 use Rattle.book.specs.Book.{volumes, Book}
 use Rattle.book.specs.Form.{pbnOk}
-use Rattle.book.specs.FormParts.{book-parts}
-use Rattle.book.specs.SizesIn.{sizes-facts}
+use Rattle.book.proofs.FormParts.{book-parts}
+use Rattle.book.proofs.SizesIn.{sizes-facts}
 use Rattle.model.specs.Backup.{begun, runChanges}
 use Rattle.model.specs.Plain.{Plain, volumeAt, current, currentMaps}
 use Rattle.model.specs.PlainBackup

@@ -15,7 +15,7 @@ use Rattle.words.specs.Lists.{all, someOf}
 use Rattle.book.specs.Book.{volumes, Slot, Rec, Book}
 use Rattle.book.specs.Form.{enrolled, slotOk}
 use Rattle.book.specs.Next.{withRetention}
-use Rattle.book.specs.FormParts.{book-parts}
+use Rattle.book.proofs.FormParts.{book-parts}
 use Rattle.model.specs.Days.{badRetention}
 use Rattle.model.specs.Journal.{Backup, journalOf, journal, backupsIn}
 use Rattle.model.specs.Enrol.{enrolNumber}

@@ -11,7 +11,7 @@ use Rattle.words.specs.Lists.{all}
 use Rattle.words.proofs.Places.{all-replicate}
 use Rattle.book.specs.Book.{volumes, Sizes, freeEntry}
 use Rattle.book.specs.Form.{sizesOk, retentionOk, pbnOk}
-use Rattle.book.specs.SizesIn.{sizes-facts}
+use Rattle.book.proofs.SizesIn.{sizes-facts}
 use Rattle.book.specs.Next.{fresh}
 use Rattle.model.specs.Agree.{Fit}
 use Rattle.model.specs.Bounds.{unmapped-ok}

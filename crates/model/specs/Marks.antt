@@ -15,7 +15,7 @@ use Rattle.words.specs.Lists.{someOf, joined}
 use Rattle.words.proofs.Places.{some-place, place-some, getD-replicated, countOf-none, someOf-joined}
 use Rattle.book.specs.Book.{volumes, Book, entryAt, cellAt, retentionOf}
 use Rattle.book.specs.Form.{sizesOk}
-use Rattle.book.specs.SizesIn.{sizes-facts}
+use Rattle.book.proofs.SizesIn.{sizes-facts}
 use Rattle.model.specs.Journal.{journal, backupsIn}
 use Rattle.model.specs.Audit.{noMaps, untilIn}
 use Rattle.model.specs.Plain

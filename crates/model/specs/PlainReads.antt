@@ -11,7 +11,7 @@ use Rattle.words.specs.Blocks.{unmapped}
 use Rattle.words.specs.Outcome.{accepted}
 use Rattle.book.specs.Book.{Sizes}
 use Rattle.book.specs.Form.{sizesOk}
-use Rattle.book.specs.SizesIn.{sizes-facts}
+use Rattle.book.proofs.SizesIn.{sizes-facts}
 use Rattle.model.specs.Days.{kept}
 use Rattle.model.specs.Plain
 use Rattle.model.specs.Plain.{Plain, Volume, noVolume, free, start, volumeAt, isEnrolled, daysOf, bytesOf, cell}

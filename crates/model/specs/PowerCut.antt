@@ -15,7 +15,7 @@ use Rattle.words.specs.Choice.{if_then_else_}
 use Rattle.words.specs.Outcome.{Outcome, refused, accepted, andThen}
 use Rattle.list.specs.Changes.{Change, changes, changeCount}
 use Rattle.book.specs.Book.{Sizes, Entry, Book, entryAt}
-use Rattle.book.specs.Bytes.{length-bytes}
+use Rattle.book.proofs.Bytes.{length-bytes}
 use Rattle.book.specs.Layout.{bookSize, bytes}
 use Rattle.model.specs.Agree.{Agree}
 use Rattle.model.specs.Backup

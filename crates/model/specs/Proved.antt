@@ -7,7 +7,7 @@ use native.Mathlib.Omega.{arith}
 use Rattle.words.specs.Outcome.{Outcome, refused, accepted, andThen, unless}
 use Rattle.list.specs.Changes.{changeCount}
 use Rattle.book.specs.Book.{Sizes, Book, Entry, entryAt, isFree}
-use Rattle.book.specs.Bytes.{length-bytes}
+use Rattle.book.proofs.Bytes.{length-bytes}
 use Rattle.book.specs.Form.{sizesOk}
 use Rattle.book.specs.Layout.{bookSize, bytes, bookOf}
 use Rattle.book.specs.Next.{fresh}

@@ -15,7 +15,7 @@ use Rattle.words.specs.Sections.{tab}
 use Rattle.words.proofs.Sums.{sum-tab-same, sum-tab-zero, sum-tab-add, sum-tab-one, sum-map-tab}
 use Rattle.book.specs.Book.{volumes, Slot, Rec, Book}
 use Rattle.book.specs.Form.{pairsOk}
-use Rattle.book.specs.FormParts.{book-parts}
+use Rattle.book.proofs.FormParts.{book-parts}
 use Rattle.model.specs.Journal.{Backup, journalOf, journal, backupsIn}
 use Rattle.model.specs.Audit.{applied, noMaps}
 use Rattle.model.specs.Plain

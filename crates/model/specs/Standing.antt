@@ -10,11 +10,11 @@ use Rattle.words.specs.Choice.{if_then_else_}
 use Rattle.words.specs.Lists.{all}
 use Rattle.words.specs.Outcome.{Outcome, accepted, andThen, unless}
 use Rattle.book.specs.Book.{Sizes, Book, retentionOf}
-use Rattle.book.specs.Bytes.{length-bytes}
+use Rattle.book.proofs.Bytes.{length-bytes}
 use Rattle.book.specs.Form.{enrolled, formNumber}
-use Rattle.book.specs.InForm.{form-bytes}
+use Rattle.book.proofs.InForm.{form-bytes}
 use Rattle.book.specs.Layout.{bookSize, bytes, bookOf}
-use Rattle.book.specs.Laws.{book-bytes}
+use Rattle.book.proofs.Laws.{book-bytes}
 use Rattle.book.specs.Next.{withDay, withEntries, withRetention}
 use Rattle.model.specs.Agree.{Fit, Agree}
 use Rattle.model.specs.AuditAgree.{audit-agree}

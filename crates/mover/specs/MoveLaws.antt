@@ -16,7 +16,7 @@ use Rattle.words.specs.Lists.{all}
 use Rattle.words.specs.Outcome.{refused, accepted}
 use Rattle.words.proofs.Places.{all-getD}
 use Rattle.book.specs.Book.{Entry, Book, freeEntry, entryAt, cellAt}
-use Rattle.book.specs.Conditions.{pbn-cases}
+use Rattle.book.proofs.Conditions.{pbn-cases}
 use Rattle.book.specs.Form.{pbnOk}
 use Rattle.book.specs.Layout.{bookOf, Holds, Is}
 use Rattle.book.specs.Next.{withEntries, withEntry, withCell, withRecord, countAs, expiryAs}

@@ -14,8 +14,8 @@ use Rattle.words.specs.Lists.{joined}
 use Rattle.words.proofs.Runs.{below-or-not}
 use Rattle.book.specs.Layout.{bookOf, Holds}
 use Rattle.book.specs.Form.{formNumber}
-use Rattle.book.specs.FormNumber.{form-cases}
-use Rattle.book.specs.InForm.{holds-form}
+use Rattle.book.proofs.FormNumber.{form-cases}
+use Rattle.book.proofs.InForm.{holds-form}
 use Rattle.pages.specs.Tally.{tallyNumber, blocks, line, blocksWord, heldWord, freeWord, waitingWord, referencesWord, refusedWord, bookPage, tallyPage}
 use Rattle.words.proofs.Stored.{stored-front}
 use Rattle.pages.specs.Lines.{line-fits}

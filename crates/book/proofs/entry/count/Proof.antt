@@ -1,5 +1,5 @@
 -- `book::entry::count`: the byte at its place, by `count-at`.
-use Rattle.book.specs.Read.{count-at}
+use Rattle.book.proofs.Read.{count-at}
 use borrow.Author.Needs.{needs}
 use Rattle.book.proofs.entry.count.Statement.{statement}
 use Rattle.book.proofs.entry.count.Tie as tie

@@ -1,6 +1,6 @@
 -- `book::entry::expiry`: the number at its place, by `expiry-at`.
 use mathlib.Core.Path.{_∙_}
-use Rattle.book.specs.Read.{expiry-at}
+use Rattle.book.proofs.Read.{expiry-at}
 use borrow.Author.Needs.{needs}
 use Rattle.book.proofs.entry.expiry.Statement.{statement}
 use Rattle.book.proofs.entry.expiry.Tie as tie

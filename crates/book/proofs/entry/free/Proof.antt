@@ -3,7 +3,7 @@ use mathlib.Core.Path.{_∙_, ap}
 use lib.ListN.{length, length-set}
 use lib.Seq.{length-sets}
 use native.Mathlib.Omega.{arith}
-use Rattle.book.specs.Write.{is-freed}
+use Rattle.book.proofs.Write.{is-freed}
 use borrow.Author.Needs.{needs}
 use Rattle.book.proofs.entry.free.Statement.{statement}
 use Rattle.book.proofs.entry.free.Tie as tie

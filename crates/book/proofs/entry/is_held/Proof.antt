@@ -1,5 +1,5 @@
 -- `book::entry::is_held`: the byte at its place, by `held-at`.
-use Rattle.book.specs.Read.{held-at}
+use Rattle.book.proofs.Read.{held-at}
 use borrow.Author.Needs.{needs}
 use Rattle.book.proofs.entry.is_held.Statement.{statement}
 use Rattle.book.proofs.entry.is_held.Tie as tie

@@ -4,7 +4,7 @@ use Prim.Native.Nat.{ℕ, _+_}
 use lib.ListN.{take, drop}
 use native.Mathlib.Nat.{add-sub-cancel-left}
 use Rattle.words.specs.Blocks.{printSize}
-use Rattle.book.specs.Read.{print-at}
+use Rattle.book.proofs.Read.{print-at}
 use borrow.Author.Needs.{needs}
 use Rattle.book.proofs.entry.print_of.Statement.{statement}
 use Rattle.book.proofs.entry.print_of.Tie as tie

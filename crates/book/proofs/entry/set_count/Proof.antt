@@ -1,5 +1,5 @@
 -- `book::entry::set_count`: what the store left, by `is-count`.
-use Rattle.book.specs.Write.{is-count}
+use Rattle.book.proofs.Write.{is-count}
 use borrow.Author.Needs.{needs}
 use Rattle.book.proofs.entry.set_count.Statement.{statement}
 use Rattle.book.proofs.entry.set_count.Tie as tie

@@ -1,5 +1,5 @@
 -- `book::entry::set_expiry`: what the store left, by `is-expiry`.
-use Rattle.book.specs.Write.{is-expiry}
+use Rattle.book.proofs.Write.{is-expiry}
 use borrow.Author.Needs.{needs}
 use Rattle.book.proofs.entry.set_expiry.Statement.{statement}
 use Rattle.book.proofs.entry.set_expiry.Tie as tie

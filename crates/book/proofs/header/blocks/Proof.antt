@@ -1,7 +1,7 @@
 -- `book::header::blocks`: the number at its place, by `n-at`.
 use mathlib.Core.Path.{_∙_}
 use borrow.Author.Needs.{needs}
-use Rattle.book.specs.Read.{n-at}
+use Rattle.book.proofs.Read.{n-at}
 use Rattle.book.proofs.header.blocks.Statement.{statement}
 use Rattle.book.proofs.header.blocks.Tie as tie
 

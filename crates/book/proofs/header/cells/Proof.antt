@@ -1,7 +1,7 @@
 -- `book::header::cells`: the number at its place, by `l-at`.
 use mathlib.Core.Path.{_∙_}
 use borrow.Author.Needs.{needs}
-use Rattle.book.specs.Read.{l-at}
+use Rattle.book.proofs.Read.{l-at}
 use Rattle.book.proofs.header.cells.Statement.{statement}
 use Rattle.book.proofs.header.cells.Tie as tie
 

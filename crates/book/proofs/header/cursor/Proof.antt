@@ -1,7 +1,7 @@
 -- `book::header::cursor`: the number at its place, by `cursor-at`.
 use mathlib.Core.Path.{_∙_}
 use borrow.Author.Needs.{needs}
-use Rattle.book.specs.Read.{cursor-at}
+use Rattle.book.proofs.Read.{cursor-at}
 use Rattle.book.proofs.header.cursor.Statement.{statement}
 use Rattle.book.proofs.header.cursor.Tie as tie
 

@@ -1,7 +1,7 @@
 -- `book::header::day`: the number at its place, by `day-at`.
 use mathlib.Core.Path.{_∙_}
 use borrow.Author.Needs.{needs}
-use Rattle.book.specs.Read.{day-at}
+use Rattle.book.proofs.Read.{day-at}
 use Rattle.book.proofs.header.day.Statement.{statement}
 use Rattle.book.proofs.header.day.Tie as tie
 

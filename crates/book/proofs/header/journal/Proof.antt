@@ -1,7 +1,7 @@
 -- `book::header::journal`: the number at its place, by `j-at`.
 use mathlib.Core.Path.{_∙_}
 use borrow.Author.Needs.{needs}
-use Rattle.book.specs.Read.{j-at}
+use Rattle.book.proofs.Read.{j-at}
 use Rattle.book.proofs.header.journal.Statement.{statement}
 use Rattle.book.proofs.header.journal.Tie as tie
 

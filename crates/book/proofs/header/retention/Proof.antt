@@ -1,7 +1,7 @@
 -- `book::header::retention`: the number at its place, by `retention-at`.
 use mathlib.Core.Path.{_∙_}
 use borrow.Author.Needs.{needs}
-use Rattle.book.specs.Read.{retention-at}
+use Rattle.book.proofs.Read.{retention-at}
 use Rattle.book.proofs.header.retention.Statement.{statement}
 use Rattle.book.proofs.header.retention.Tie as tie
 

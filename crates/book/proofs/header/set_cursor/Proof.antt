@@ -1,5 +1,5 @@
 -- `book::header::set_cursor`: what the store left, by `is-cursor`.
-use Rattle.book.specs.Write.{is-cursor}
+use Rattle.book.proofs.Write.{is-cursor}
 use borrow.Author.Needs.{needs}
 use Rattle.book.proofs.header.set_cursor.Statement.{statement}
 use Rattle.book.proofs.header.set_cursor.Tie as tie

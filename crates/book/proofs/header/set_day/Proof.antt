@@ -1,5 +1,5 @@
 -- `book::header::set_day`: what the store left, by `is-day`.
-use Rattle.book.specs.Write.{is-day}
+use Rattle.book.proofs.Write.{is-day}
 use borrow.Author.Needs.{needs}
 use Rattle.book.proofs.header.set_day.Statement.{statement}
 use Rattle.book.proofs.header.set_day.Tie as tie

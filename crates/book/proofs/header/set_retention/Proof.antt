@@ -1,5 +1,5 @@
 -- `book::header::set_retention`: what the store left, by `is-retention`.
-use Rattle.book.specs.Write.{is-retention}
+use Rattle.book.proofs.Write.{is-retention}
 use borrow.Author.Needs.{needs}
 use Rattle.book.proofs.header.set_retention.Statement.{statement}
 use Rattle.book.proofs.header.set_retention.Tie as tie

@@ -1,7 +1,7 @@
 -- `book::header::slots`: the number at its place, by `s-at`.
 use mathlib.Core.Path.{_∙_}
 use borrow.Author.Needs.{needs}
-use Rattle.book.specs.Read.{s-at}
+use Rattle.book.proofs.Read.{s-at}
 use Rattle.book.proofs.header.slots.Statement.{statement}
 use Rattle.book.proofs.header.slots.Tie as tie
 

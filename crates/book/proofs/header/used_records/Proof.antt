@@ -1,7 +1,7 @@
 -- `book::header::used_records`: the number at its place, by `u-at`.
 use mathlib.Core.Path.{_∙_}
 use borrow.Author.Needs.{needs}
-use Rattle.book.specs.Read.{u-at}
+use Rattle.book.proofs.Read.{u-at}
 use Rattle.book.proofs.header.used_records.Statement.{statement}
 use Rattle.book.proofs.header.used_records.Tie as tie
 

@@ -1,7 +1,7 @@
 -- `book::header::used_slots`: the number at its place, by `b-at`.
 use mathlib.Core.Path.{_∙_}
 use borrow.Author.Needs.{needs}
-use Rattle.book.specs.Read.{b-at}
+use Rattle.book.proofs.Read.{b-at}
 use Rattle.book.proofs.header.used_slots.Statement.{statement}
 use Rattle.book.proofs.header.used_slots.Tie as tie
 

@@ -1,6 +1,6 @@
 -- `book::map::cell`: the number at its place, by `cell-at`.
 use mathlib.Core.Path.{_∙_}
-use Rattle.book.specs.Read.{cell-at}
+use Rattle.book.proofs.Read.{cell-at}
 use borrow.Author.Needs.{needs}
 use Rattle.book.proofs.map.cell.Statement.{statement}
 use Rattle.book.proofs.map.cell.Tie as tie

@@ -4,7 +4,7 @@ use Prim.Native.Nat.{ℕ, _+_, _*_, _≤_}
 use lib.ListN.{length, take, drop}
 use native.Mathlib.Nat.{add-sub-cancel-left}
 use native.Mathlib.Omega.{arith}
-use Rattle.book.specs.Read.{row-room, row-at}
+use Rattle.book.proofs.Read.{row-room, row-at}
 use borrow.Author.Needs.{needs}
 use Rattle.book.proofs.map.row.Statement.{statement}
 use Rattle.book.proofs.map.row.Tie as tie

@@ -1,5 +1,5 @@
 -- `book::map::set_cell`: what the store left, by `is-cell`.
-use Rattle.book.specs.Write.{is-cell}
+use Rattle.book.proofs.Write.{is-cell}
 use borrow.Author.Needs.{needs}
 use Rattle.book.proofs.map.set_cell.Statement.{statement}
 use Rattle.book.proofs.map.set_cell.Tie as tie

@@ -1,6 +1,6 @@
 -- `book::place::cell_place`: the sizes are those of the book, and the cell lies in the maps by `cell-room`.
 use native.Mathlib.Omega.{arith}
-use Rattle.book.specs.Read.{cell-room}
+use Rattle.book.proofs.Read.{cell-room}
 use borrow.Author.Needs.{needs}
 use Rattle.book.proofs.place.cell_place.Statement.{statement}
 use Rattle.book.proofs.place.cell_place.Tie as tie

@@ -3,7 +3,7 @@ use Prim.Native.Nat.{ℕ}
 use mathlib.Core.Path.{_∙_, ap}
 use native.Mathlib.Omega.{arith}
 use Rattle.book.specs.Layout.{recPlace, bookOf}
-use Rattle.book.specs.Write.{is-record}
+use Rattle.book.proofs.Write.{is-record}
 use borrow.Author.Needs.{needs}
 use Rattle.book.proofs.record.append_record.Statement.{statement}
 use Rattle.book.proofs.record.append_record.Tie as tie

@@ -1,7 +1,7 @@
 -- `book::record::record_at`: the three numbers at their places, by `rec-at`.
 use mathlib.Core.Path.{_∙_, ap}
 use Rattle.book.specs.Book.{Rec}
-use Rattle.book.specs.Read.{rec-at}
+use Rattle.book.proofs.Read.{rec-at}
 use borrow.Author.Needs.{needs}
 use Rattle.book.proofs.record.record_at.Statement.{statement}
 use Rattle.book.proofs.record.record_at.Tie as tie

@@ -3,7 +3,7 @@ use Prim.Native.Nat.{ℕ}
 use mathlib.Core.Path.{_∙_, ap}
 use native.Mathlib.Omega.{arith}
 use Rattle.book.specs.Layout.{slotPlace, bookOf}
-use Rattle.book.specs.Write.{is-slot}
+use Rattle.book.proofs.Write.{is-slot}
 use borrow.Author.Needs.{needs}
 use Rattle.book.proofs.slot.append_slot.Statement.{statement}
 use Rattle.book.proofs.slot.append_slot.Tie as tie

@@ -1,7 +1,7 @@
 -- `book::slot::slot_at`: the four numbers at their places, by `slot-at`.
 use mathlib.Core.Path.{_∙_, ap}
 use Rattle.book.specs.Book.{Slot}
-use Rattle.book.specs.Read.{slot-at}
+use Rattle.book.proofs.Read.{slot-at}
 use borrow.Author.Needs.{needs}
 use Rattle.book.proofs.slot.slot_at.Statement.{statement}
 use Rattle.book.proofs.slot.slot_at.Tie as tie

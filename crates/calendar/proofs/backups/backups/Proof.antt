@@ -4,7 +4,8 @@ use mathlib.Core.Path.{_≡_, sym, _∙_}
 use native.Mathlib.Omega.{arith}
 use lib.ListN.{length}
 use denote.Ref.{now}
-use Rattle.book.specs.Formed.{Formed, formed}
+use Rattle.book.specs.Formed.{Formed}
+use Rattle.book.proofs.FormedLaws.{formed}
 use Rattle.book.specs.Layout.{bookOf}
 use Rattle.model.specs.EnrolledNumber.{passed-enrolled}
 use Rattle.model.specs.ViewLaws.{length-backupsOf}

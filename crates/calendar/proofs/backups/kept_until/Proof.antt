@@ -2,7 +2,7 @@
 use mathlib.Core.Path.{sym}
 use native.Mathlib.Omega.{arith}
 use denote.Ref.{now}
-use Rattle.book.specs.Conditions.{slot-in}
+use Rattle.book.proofs.Conditions.{slot-in}
 use Rattle.book.specs.Layout.{bookOf}
 use Rattle.calendar.specs.Row.{until-newest, until-replaced}
 use borrow.Author.Needs.{needs}

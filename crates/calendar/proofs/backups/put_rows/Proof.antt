@@ -8,7 +8,7 @@ use lib.Seq.{length-sets}
 use denote.Ref.{now}
 use Rattle.words.proofs.LayingLaws.{Left, left-room, left-more, left-none}
 use Rattle.book.specs.Book.{slotAt}
-use Rattle.book.specs.Conditions.{retention-in}
+use Rattle.book.proofs.Conditions.{retention-in}
 use Rattle.book.specs.Layout.{bookOf}
 use Rattle.model.specs.Views.{backupsOf}
 use Rattle.calendar.specs.Row.{rowFrom}

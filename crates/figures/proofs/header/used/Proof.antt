@@ -3,7 +3,7 @@ use mathlib.Core.Path.{_≡_, sym, _∙_}
 use borrow.Author.Needs.{needs}
 use denote.Ref.{now}
 use Rattle.book.specs.Form.{formNumber}
-use Rattle.book.specs.InForm.{holds-form}
+use Rattle.book.proofs.InForm.{holds-form}
 use Rattle.book.specs.Layout.{Holds}
 use Rattle.figures.specs.HeaderExits.{used-refused, used-told}
 use Rattle.figures.proofs.header.used.Statement.{statement}

@@ -2,7 +2,7 @@
 use mathlib.Core.Path.{_≡_, sym, _∙_}
 use borrow.Author.Needs.{needs}
 use denote.Ref.{now}
-use Rattle.book.specs.InForm.{holds-form}
+use Rattle.book.proofs.InForm.{holds-form}
 use Rattle.book.specs.Layout.{Holds}
 use Rattle.model.specs.EnrolledNumber.{passed-enrolled}
 use Rattle.model.specs.Views.{enrolledNumber}

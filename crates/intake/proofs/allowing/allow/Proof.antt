@@ -7,9 +7,10 @@ use native.Mathlib.Omega.{arith}
 use Rattle.list.specs.Answers.{checkedOf}
 use Rattle.list.proofs.Laws.{good-number, refused-number, good-whole}
 use Rattle.book.specs.Book.{retentionOf}
-use Rattle.book.specs.Conditions.{retention-in}
+use Rattle.book.proofs.Conditions.{retention-in}
 use Rattle.book.specs.Layout.{bookOf}
-use Rattle.book.specs.Formed.{Formed, formed}
+use Rattle.book.specs.Formed.{Formed}
+use Rattle.book.proofs.FormedLaws.{formed}
 use Rattle.model.specs.Backup.{backupNumber}
 use Rattle.model.specs.BackupAllowed.{Allowed, number-zero}
 use Rattle.intake.specs.Allowing.{lentNumber, dayRefused, roomNumber, AllowedBy}

@@ -4,7 +4,7 @@ use mathlib.Core.Path.{sym}
 use native.Mathlib.Omega.{arith}
 use lib.ListN.{length}
 use denote.Ref.{now}
-use Rattle.book.specs.Conditions.{pairs-in}
+use Rattle.book.proofs.Conditions.{pairs-in}
 use Rattle.book.specs.Layout.{bookOf}
 use Rattle.restorer.specs.Befores.{slot-own, slot-other}
 use Rattle.restorer.proofs.image.slot_before.Statement.{statement}

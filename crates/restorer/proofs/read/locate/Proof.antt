@@ -3,7 +3,8 @@ use borrow.Author.Needs.{needs}
 use mathlib.Core.Path.{_≡_, sym, _∙_, subst}
 use denote.Ref.{now}
 use Rattle.book.specs.Layout.{bookOf}
-use Rattle.book.specs.Formed.{Formed, formed}
+use Rattle.book.specs.Formed.{Formed}
+use Rattle.book.proofs.FormedLaws.{formed}
 use Rattle.buffers.specs.Buffers.{buffersNumber}
 use Rattle.buffers.specs.BuffersLaws.{buffers-facts}
 use Rattle.restorer.specs.Reading.{KeptIs}

@@ -3,7 +3,7 @@ use mathlib.Core.Path.{_≡_, sym, _∙_}
 use native.Mathlib.Omega.{arith}
 use denote.Ref.{now}
 use borrow.Author.Needs.{needs}
-use Rattle.book.specs.InForm.{holds-form}
+use Rattle.book.proofs.InForm.{holds-form}
 use Rattle.model.specs.EnrolledNumber.{passed-enrolled}
 use Rattle.model.specs.Views.{enrolledNumber, cellsOf}
 use Rattle.rows.specs.Exits.{cells-refused, cells-short, cells-done}

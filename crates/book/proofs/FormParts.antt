@@ -1,5 +1,5 @@
 -- Number 2's two tests, of the bytes and of the book that they are, taken apart and put together.
-use Prim.Native.Nat.{_-_, _*_, _≤_, _<_}
+use Prim.Native.Nat.{_-_, _*_, _≤_}
 use mathlib.Core.Path.{_≡_}
 use mathlib.Core.Bool.{true, _&&_}
 use mathlib.Core.List.{List}
@@ -14,18 +14,7 @@ use Rattle.words.specs.Sections.{part}
 use Rattle.book.specs.Book.{Book}
 use Rattle.book.specs.Layout.{nPlace, sPlace, jPlace, bPlace, uPlace, zeroPlace, slotSize, recSize, slotPlace, recPlace, sizesOf}
 use Rattle.book.specs.Form.{retentionOk, entryOk, pbnOk, recOk, slotOk, daysOk, pairsOk, bookOk, stateOk, secondOk, rawOk}
-
--- what the book shows
-pub record BookParts (x : Book) : Type 0 where
-  pub day : x .day ≤ 60000
-  pub cursor : x .cursor < x .sizes .n
-  pub retentions : all retentionOk (x .retentions) ≡ true
-  pub entries : all entryOk (x .entries) ≡ true
-  pub maps : all (all (pbnOk (x .sizes .n))) (x .maps) ≡ true
-  pub slots : all (slotOk x) (x .slots) ≡ true
-  pub days : daysOk (x .slots) ≡ true
-  pub pairs : pairsOk 0 (x .slots) (length (x .records)) ≡ true
-  pub records : all (recOk (x .sizes)) (x .records) ≡ true
+use Rattle.book.specs.Formed.{BookParts}
 
 pub book-parts : (x : Book) → bookOk x ≡ true → BookParts x
 unfolding bookOk

@@ -7,16 +7,7 @@ use borrow.Author.Tests.{leb-true, le-leb}
 use Rattle.words.proofs.ChoiceLaws.{and-true}
 use Rattle.book.specs.Book.{Sizes}
 use Rattle.book.specs.Form.{between, sizesOk}
-
-pub record SizesIn (z : Sizes) : Type 0 where
-  pub n₀ : 1 ≤ z .n
-  pub n : z .n ≤ 4096
-  pub l₀ : 1 ≤ z .l
-  pub l : z .l ≤ 1024
-  pub s₀ : 1 ≤ z .s
-  pub s : z .s ≤ 1024
-  pub j₀ : 1 ≤ z .j
-  pub j : z .j ≤ 16384
+use Rattle.book.specs.Formed.{SizesIn}
 
 between-facts : (low high k : ℕ) → between low high k ≡ true → (low ≤ k) × (k ≤ high)
 unfolding between

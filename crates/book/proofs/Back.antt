@@ -16,7 +16,7 @@ use Rattle.words.specs.Sections.{flat, fit, tab, part}
 use Rattle.words.proofs.SectionLaws.{length-tab, getD-tab, part-add, part-cons, part-tab, flat-tab, fit-tab, fit-all, joined-parts}
 use Rattle.book.specs.Book.{volumes, Sizes, freeEntry, noSlot, noRec, Sized}
 use Rattle.book.specs.Layout.{layoutNumber, headerSize, entrySize, slotSize, recSize, bPlace, uPlace, dayPlace, cursorPlace, retentionPlace, entriesFrom, entryPlace, mapsFrom, slotsFrom, slotPlace, recordsFrom, recPlace, stateByte, entryBytes, mapBytes, slotBytes, recBytes, bytes, sizesOf, entryOf, cellOf, slotOf, recOf, bookOf}
-use Rattle.book.specs.Shape.{Shape}
+use Rattle.book.proofs.Shape.{Shape}
 
 -- a state's byte, where it is 0 or 1
 state-byte : (s : ℕ) → s ≤ 1 → stateByte (eqb s 1) ≡ s

@@ -14,13 +14,14 @@ use Rattle.words.specs.Sections.{part}
 use Rattle.book.specs.Book.{Book, Sized}
 use Rattle.book.specs.Layout.{layoutNumber, headerSize, nPlace, sPlace, jPlace, bPlace, uPlace, entryPlace, slotSize, slotPlace, recSize, recPlace, bookSize, bytes, sizesOf, bookOf, Holds}
 use Rattle.book.specs.Form.{sizesOk, layoutOk, stateOk, secondOk, bookOk, formNumber}
-use Rattle.book.specs.SizesIn.{sizes-in}
-use Rattle.book.specs.FormNumber.{Laid, layout-facts, form-parts, parts-form}
-use Rattle.book.specs.FormParts.{RawParts, raw-parts, parts-raw}
-use Rattle.book.specs.Laws.{sizes-bytes, book-bytes}
-use Rattle.book.specs.Shape.{Shape}
-use Rattle.book.specs.Shaped.{shape-bytes}
-use Rattle.book.specs.Holding.{holds-shape, bounds-in}
+use Rattle.book.proofs.SizesIn.{sizes-in}
+use Rattle.book.specs.Formed.{Laid}
+use Rattle.book.proofs.FormNumber.{layout-facts, form-parts, parts-form}
+use Rattle.book.proofs.FormParts.{RawParts, raw-parts, parts-raw}
+use Rattle.book.proofs.Laws.{sizes-bytes, book-bytes}
+use Rattle.book.proofs.Shape.{Shape}
+use Rattle.book.proofs.Shaped.{shape-bytes}
+use Rattle.book.proofs.Holding.{holds-shape, bounds-in}
 
 -- ---- zero bytes, as one test and place by place
 

@@ -7,10 +7,10 @@ use native.Mathlib.Omega.{arith}
 use lib.ListN.{length, getD, getD-replicate, List·getD-eq-default}
 use Rattle.book.specs.Book.{Sizes, Slot, Rec, Book, noSlot, noRec, entryAt, slotAt, recAt, Sized}
 use Rattle.book.specs.Layout.{slotSize, recSize, entryPlace, slotsFrom, slotPlace, recordsFrom, recPlace, bookSize, stateByte, slotBytes, recBytes, bytes}
-use Rattle.book.specs.Bytes.{length-bytes, get-entry, get-slot, get-rec}
-use Rattle.book.specs.Laws.{num-layout, num-n, num-l, num-s, num-j, num-b, num-u, num-zero}
-use Rattle.book.specs.Shape.{Shape}
-use Rattle.book.specs.Fresh.{slot-zero, rec-zero}
+use Rattle.book.proofs.Bytes.{length-bytes, get-entry, get-slot, get-rec}
+use Rattle.book.proofs.Laws.{num-layout, num-n, num-l, num-s, num-j, num-b, num-u, num-zero}
+use Rattle.book.proofs.Shape.{Shape}
+use Rattle.book.proofs.Fresh.{slot-zero, rec-zero}
 
 state-small : (h : Bool) → stateByte h ≤ 1
 state-small true = omega arith

@@ -1,5 +1,5 @@
 -- The number of form, taken apart, and what it takes to be other than 1.
-use Prim.Native.Nat.{ℕ, _≤_}
+use Prim.Native.Nat.{ℕ}
 use mathlib.Core.Path.{_≡_}
 use mathlib.Core.Logic.{_⊎_, inl, inr}
 use mathlib.Core.Bool.{true, false, _&&_}
@@ -12,7 +12,8 @@ use Rattle.words.proofs.ChoiceLaws.{and-true, true-and, true-or-false}
 use Rattle.words.specs.Numbers.{num}
 use Rattle.book.specs.Layout.{layoutNumber, headerSize, bookSize, sizesOf, bookOf}
 use Rattle.book.specs.Form.{sizesOk, layoutOk, bookOk, rawOk, formNumber}
-use Rattle.book.specs.SizesIn.{SizesIn, sizes-facts}
+use Rattle.book.proofs.SizesIn.{sizes-facts}
+use Rattle.book.specs.Formed.{Laid}
 
 -- 1 without the layout; then 2 or 0
 pub number-1 : (b : List ℕ) → layoutOk b ≡ false → formNumber b ≡ 1
@@ -52,12 +53,6 @@ pub parts-form : (b : List ℕ) → layoutOk b ≡ true → rawOk b ≡ true →
 parts-form b e r f = number-0 b e (true-and (rawOk b) (bookOk (bookOf b)) r f)
 
 -- ---- number 1
-
-pub record Laid (b : List ℕ) : Type 0 where
-  pub header : headerSize ≤ length b
-  pub layout : num b 0 ≡ layoutNumber
-  pub sizes : SizesIn (sizesOf b)
-  pub len : length b ≡ bookSize (sizesOf b)
 
 pub layout-facts : (b : List ℕ) → layoutOk b ≡ true → Laid b
 unfolding layoutOk

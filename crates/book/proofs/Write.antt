@@ -10,10 +10,10 @@ use Rattle.words.proofs.Filling.{put-sets}
 use Rattle.book.specs.Book.{volumes, Slot, Rec, Book}
 use Rattle.book.specs.Layout.{bPlace, uPlace, dayPlace, cursorPlace, retentionPlace, entryPlace, cellPlace, slotPlace, recPlace, slotBytes, recBytes, bytes, bookOf, Holds, Is}
 use Rattle.book.specs.Next.{withDay, withCursor, withRetention, withEntries, withMaps, withSlot, withRecord, countAs, expiryAs, heldAs, freed, withEntry, withCell}
-use Rattle.book.specs.Store.{set-day, set-cursor, set-retention, set-cell, add-slot, add-record}
-use Rattle.book.specs.Entries.{set-count, set-expiry, set-held, set-freed}
-use Rattle.book.specs.Sizing.{sized-day, sized-cursor, sized-retention, sized-count, sized-expiry, sized-held, sized-freed, sized-cell, sized-slot, sized-record}
-use Rattle.book.specs.Holding.{is-bytes, bounds-holds}
+use Rattle.book.proofs.Store.{set-day, set-cursor, set-retention, set-cell, add-slot, add-record}
+use Rattle.book.proofs.Entries.{set-count, set-expiry, set-held, set-freed}
+use Rattle.book.proofs.Sizing.{sized-day, sized-cursor, sized-retention, sized-count, sized-expiry, sized-held, sized-freed, sized-cell, sized-slot, sized-record}
+use Rattle.book.proofs.Holding.{is-bytes, bounds-holds}
 
 module _ {b : List ℕ} (h : Holds b) where
   abbrev x : Book

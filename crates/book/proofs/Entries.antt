@@ -13,7 +13,7 @@ use Rattle.words.proofs.SectionLaws.{sets-cons, sets-whole, length-fit, fit-all
 use Rattle.book.specs.Book.{Entry, Book, noPrint, freeEntry, entryAt}
 use Rattle.book.specs.Layout.{entryPlace, stateByte, entryBytes, bytes}
 use Rattle.book.specs.Next.{withEntries, countAs, expiryAs, heldAs, freed, withEntry}
-use Rattle.book.specs.Store.{set-entry}
+use Rattle.book.proofs.Store.{set-entry}
 
 -- ---- an entry's bytes
 

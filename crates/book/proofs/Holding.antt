@@ -7,11 +7,13 @@ use lib.ListN.{length, getD}
 use Rattle.book.specs.Book.{Sizes, Book, Sized}
 use Rattle.book.specs.Layout.{bytes, sizesOf, bookOf, Holds, Is}
 use Rattle.book.specs.Form.{sizesOk}
-use Rattle.book.specs.SizesIn.{SizesIn, sizes-facts}
-use Rattle.book.specs.Bytes.{length-bytes}
-use Rattle.book.specs.Laws.{book-bytes}
-use Rattle.book.specs.Shape.{Shape, Bounds}
-use Rattle.book.specs.Back.{bytes-book, sized-book}
+use Rattle.book.specs.Formed.{SizesIn}
+use Rattle.book.proofs.SizesIn.{sizes-facts}
+use Rattle.book.proofs.Bytes.{length-bytes}
+use Rattle.book.proofs.Laws.{book-bytes}
+use Rattle.book.proofs.Shape.{Shape}
+use Rattle.book.specs.Formed.{Bounds}
+use Rattle.book.proofs.Back.{bytes-book, sized-book}
 
 holds-of : (b : List ℕ) → b ≡ bytes (bookOf b) → Sized (bookOf b) → Bounds (bookOf b .sizes) → Holds b
 holds-of b e s z =

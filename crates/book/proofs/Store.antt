@@ -14,7 +14,7 @@ use Rattle.words.specs.Sections.{flat, fit}
 use Rattle.book.specs.Book.{volumes, Entry, Slot, Rec, Book, freeEntry, noSlot, noRec, entryAt}
 use Rattle.book.specs.Layout.{headerSize, entrySize, slotSize, recSize, bPlace, uPlace, dayPlace, cursorPlace, retentionPlace, entriesFrom, entryPlace, mapsFrom, cellPlace, slotsFrom, slotPlace, recordsFrom, recPlace, entryBytes, mapBytes, slotBytes, recBytes, headerWords, sections, bytes}
 use Rattle.book.specs.Next.{withDay, withCursor, withRetention, withEntries, withMaps, withSlot, withRecord, withCell}
-use Rattle.book.specs.Bytes.{two-size, entry-size, map-size, slot-size, rec-size, retentions-long, entries-long, maps-long, slots-long, records-long, start-entries, start-maps, start-slots, start-records}
+use Rattle.book.proofs.Bytes.{two-size, entry-size, map-size, slot-size, rec-size, retentions-long, entries-long, maps-long, slots-long, records-long, start-entries, start-maps, start-slots, start-records}
 
 module _ (x : Book) where
   -- a store at i is one at j of section k, which starts at o and has m bytes

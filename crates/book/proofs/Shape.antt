@@ -4,7 +4,6 @@ use mathlib.Core.List.{List}
 use Prim.Native.Nat.{ℕ, _+_, _≤_, _<_}
 use lib.ListN.{length, getD}
 use Rattle.words.specs.Numbers.{num}
-use Rattle.book.specs.Book.{Sizes}
 use Rattle.book.specs.Layout.{layoutNumber, nPlace, sPlace, jPlace, bPlace, uPlace, zeroPlace, entryPlace, recordsFrom, slotPlace, recPlace, bookSize, sizesOf}
 
 pub record Shape (b : List ℕ) : Type 0 where
@@ -22,10 +21,3 @@ pub record Shape (b : List ℕ) : Type 0 where
   -- "unused slots and records" are zero: each byte from the first unused one to the section's end
   pub freeSlots : (i : ℕ) → slotPlace (sizesOf b) (num b bPlace) ≤ i → i < recordsFrom (sizesOf b) → getD b i 0 ≡ 0
   pub freeRecords : (i : ℕ) → recPlace (sizesOf b) (num b uPlace) ≤ i → i < bookSize (sizesOf b) → getD b i 0 ≡ 0
-
--- "N pool blocks, 1 to 4,096" and so on: the upper bounds alone, which keep every place below 2¹⁸
-pub record Bounds (z : Sizes) : Type 0 where
-  pub n : z .n ≤ 4096
-  pub l : z .l ≤ 1024
-  pub s : z .s ≤ 1024
-  pub j : z .j ≤ 16384

@@ -12,7 +12,7 @@ use Rattle.words.specs.Sections.{flat, tab, part}
 use Rattle.words.proofs.SectionLaws.{length-tab, getD-tab, part-tab, inside}
 use Rattle.book.specs.Book.{volumes, freeEntry, noSlot, noRec, entryAt, cellAt, slotAt, recAt, retentionOf}
 use Rattle.book.specs.Layout.{nPlace, lPlace, sPlace, jPlace, bPlace, uPlace, dayPlace, cursorPlace, retentionPlace, entryPlace, mapsFrom, cellPlace, slotPlace, recPlace, sizesOf, entryOf, cellOf, slotOf, recOf, bookOf, Holds}
-use Rattle.book.specs.Back.{nums-part}
+use Rattle.book.proofs.Back.{nums-part}
 
 module _ (b : List ℕ) where
   pub n-at : num b nPlace ≡ bookOf b .sizes .n

@@ -14,7 +14,7 @@ use Rattle.words.specs.Sections.{flat, tab}
 use Rattle.words.proofs.SectionLaws.{tab-list, getD-fit}
 use Rattle.book.specs.Book.{volumes, Book, freeEntry, noSlot, noRec, entryAt, cellAt, slotAt, recAt, retentionOf, Sized}
 use Rattle.book.specs.Layout.{headerSize, slotSize, recSize, nPlace, lPlace, sPlace, jPlace, bPlace, uPlace, dayPlace, cursorPlace, zeroPlace, retentionPlace, entryPlace, cellPlace, slotPlace, recPlace, stateByte, slotBytes, recBytes, headerWords, bytes, sizesOf, entryOf, slotOf, recOf, bookOf}
-use Rattle.book.specs.Bytes.{get-head, get-retention, get-entry, get-cell, get-slot, get-rec}
+use Rattle.book.proofs.Bytes.{get-head, get-retention, get-entry, get-cell, get-slot, get-rec}
 
 -- a state's byte read back
 state-back : (h : Bool) → eqb (stateByte h) 1 ≡ h
