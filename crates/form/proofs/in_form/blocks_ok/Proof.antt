@@ -1,7 +1,7 @@
 -- `form::in_form::blocks_ok` meets its contract, by `blocks-tests`.
 use borrow.Author.Needs.{needs}
 use denote.Ref.{now}
-use Rattle.form.specs.Passes.{blocks-tests}
+use Rattle.form.proofs.PassLaws.{blocks-tests}
 use Rattle.form.proofs.in_form.blocks_ok.Statement.{statement}
 use Rattle.form.proofs.in_form.blocks_ok.Tie as tie
 

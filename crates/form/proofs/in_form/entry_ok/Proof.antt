@@ -3,7 +3,7 @@ use mathlib.Core.Path.{_∙_}
 use native.Mathlib.Omega.{arith}
 use borrow.Author.Needs.{needs}
 use denote.Ref.{now}
-use Rattle.form.specs.Checks.{bad-state, late-expiry, held-entry, counted-free, free-entry}
+use Rattle.form.proofs.CheckLaws.{bad-state, late-expiry, held-entry, counted-free, free-entry}
 use Rattle.form.proofs.in_form.entry_ok.Statement.{statement}
 use Rattle.form.proofs.in_form.entry_ok.Tie as tie
 

@@ -1,7 +1,7 @@
 -- `form::in_form::journal_ok` meets its contract, by `journal-tests`.
 use borrow.Author.Needs.{needs}
 use denote.Ref.{now}
-use Rattle.form.specs.Passes.{journal-tests}
+use Rattle.form.proofs.PassLaws.{journal-tests}
 use Rattle.form.proofs.in_form.journal_ok.Statement.{statement}
 use Rattle.form.proofs.in_form.journal_ok.Tie as tie
 

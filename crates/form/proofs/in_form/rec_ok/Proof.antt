@@ -1,7 +1,7 @@
 -- `form::in_form::rec_ok` meets its contract: the code computes the definition, on the numbers read.
 use borrow.Author.Needs.{needs}
 use denote.Ref.{now}
-use Rattle.form.specs.Checks.{rec-tests}
+use Rattle.form.proofs.CheckLaws.{rec-tests}
 use Rattle.form.proofs.in_form.rec_ok.Statement.{statement}
 use Rattle.form.proofs.in_form.rec_ok.Tie as tie
 

@@ -3,7 +3,7 @@ use mathlib.Core.Path.{sym}
 use native.Mathlib.Omega.{arith}
 use borrow.Author.Needs.{needs}
 use denote.Ref.{now}
-use Rattle.form.specs.Slots.{slot-above, slot-tests}
+use Rattle.form.proofs.SlotLaws.{slot-above, slot-tests}
 use Rattle.form.proofs.in_form.slot_ok.Statement.{statement}
 use Rattle.form.proofs.in_form.slot_ok.Tie as tie
 

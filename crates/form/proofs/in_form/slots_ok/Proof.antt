@@ -1,7 +1,7 @@
 -- `form::in_form::slots_ok` meets its contract, by `slots-tests`.
 use borrow.Author.Needs.{needs}
 use denote.Ref.{now}
-use Rattle.form.specs.Passes.{slots-tests}
+use Rattle.form.proofs.PassLaws.{slots-tests}
 use Rattle.form.proofs.in_form.slots_ok.Statement.{statement}
 use Rattle.form.proofs.in_form.slots_ok.Tie as tie
 

@@ -10,7 +10,8 @@ use Rattle.words.proofs.ChoiceLaws.{failed, passed}
 use Rattle.words.specs.Numbers.{num}
 use Rattle.book.specs.Layout.{dayPlace}
 use Rattle.form.specs.Days.{noLasts}
-use Rattle.form.specs.Slots.{slotHere, slotsLeft, slots-more, slots-stop, slots-end, slot-bounds}
+use Rattle.form.specs.Slots.{slotHere, slotsLeft}
+use Rattle.form.proofs.SlotLaws.{slots-more, slots-stop, slots-end, slot-bounds}
 use Rattle.form.proofs.in_form.used_slots_ok.Statement.{statement}
 use Rattle.form.proofs.in_form.used_slots_ok.Tie as tie
 

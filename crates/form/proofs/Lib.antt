@@ -1,0 +1,4 @@
+pub mod DayLaws
+pub mod CheckLaws
+pub mod SlotLaws
+pub mod PassLaws
