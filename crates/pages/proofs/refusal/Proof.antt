@@ -2,7 +2,7 @@
 use mathlib.Core.Path.{_∙_, sym}
 use native.Mathlib.Omega.{arith}
 use borrow.Author.Needs.{needs}
-use Rattle.pages.specs.Pages.{long-number, short-number}
+use Rattle.pages.proofs.PageLaws.{long-number, short-number}
 use Rattle.pages.proofs.refusal.Statement.{statement}
 use Rattle.pages.proofs.refusal.Tie as tie
 

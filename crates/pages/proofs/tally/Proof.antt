@@ -6,7 +6,8 @@ use native.Mathlib.Omega.{arith}
 use lib.ListN.{length}
 use borrow.Author.Needs.{needs}
 use Rattle.book.specs.Layout.{Holds}
-use Rattle.pages.specs.Pages.{countsPage, number-small, refused-page, counted-page, refused-fits, counts-fit, written, accepted-holds}
+use Rattle.pages.specs.Pages.{countsPage}
+use Rattle.pages.proofs.PageLaws.{number-small, refused-page, counted-page, refused-fits, counts-fit, written, accepted-holds}
 use Rattle.pages.proofs.tally.Statement.{statement}
 use Rattle.pages.proofs.tally.Tie as tie
 

@@ -5,7 +5,7 @@ use borrow.Author.Needs.{needs}
 use Rattle.book.specs.Form.{formNumber}
 use Rattle.book.proofs.InForm.{holds-form}
 use Rattle.book.specs.Layout.{Holds}
-use Rattle.pages.specs.Counted.{counted-refused, counted-up}
+use Rattle.pages.proofs.CountedLaws.{counted-refused, counted-up}
 use Rattle.pages.proofs.count.count.Statement.{statement}
 use Rattle.pages.proofs.count.count.Tie as tie
 

@@ -2,7 +2,7 @@
 use Prim.Native.Nat.{_-_, _≤_}
 use native.Mathlib.Omega.{arith}
 use Rattle.book.specs.Layout.{bookOf}
-use Rattle.pages.specs.Counts.{few-less, Passing, passing-none, passing-more, passing-all}
+use Rattle.pages.proofs.CountLaws.{few-less, Passing, passing-none, passing-more, passing-all}
 use Rattle.pages.proofs.counts.count_entries.Statement.{statement}
 use Rattle.pages.proofs.counts.count_entries.Tie as tie
 

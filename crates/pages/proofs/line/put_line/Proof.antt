@@ -5,7 +5,7 @@ use native.Mathlib.Omega.{arith}
 use lib.ListN.{length, length-set}
 use lib.Seq.{length-sets}
 use borrow.Author.Needs.{needs}
-use Rattle.pages.specs.Lines.{line-length, line-stored}
+use Rattle.pages.proofs.Lines.{line-length, line-stored}
 use Rattle.pages.proofs.line.put_line.Statement.{statement}
 use Rattle.pages.proofs.line.put_line.Tie as tie
 

@@ -12,7 +12,7 @@ use Rattle.book.specs.Layout.{bytes, bookOf}
 use Rattle.book.specs.Form.{between, sizesOk, layoutOk, retentionOk, entryOk, pbnOk, recOk, slotOk, laterOk, bookOk, stateOk, secondOk, rawOk, formNumber}
 use Rattle.book.specs.Next.{withDay}
 use Rattle.pages.specs.Tally.{tallyNumber, blocks, held, free, waiting, references, decimal, line, refusedWord, bookPage, tallyPage}
-use Rattle.pages.specs.Pages.{long-number, refused-page}
+use Rattle.pages.proofs.PageLaws.{long-number, refused-page}
 
 -- a held block with count, expiry and the letter of its fingerprint
 abbrev hold : ℕ → ℕ → ℕ → Entry
