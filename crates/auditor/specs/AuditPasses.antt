@@ -21,7 +21,8 @@ use Rattle.book.proofs.Conditions.{entry-in, cell-in}
 use Rattle.book.specs.Formed.{Formed}
 use Rattle.model.specs.Journal.{journal}
 use Rattle.model.specs.Audit.{mapsSound, countSound, expirySound, printsSound, cellSound, currentSound, backupsSound, audit}
-use Rattle.model.specs.KeptBefores.{takenSound, kept-befores}
+use Rattle.model.specs.JournalAt.{takenSound}
+use Rattle.model.proofs.kept.KeptBefores.{kept-befores}
 use Rattle.auditor.specs.JournalRead.{journal-in}
 use Rattle.auditor.specs.MapsReplayed.{maps-replayed}
 use Rattle.auditor.specs.Table.{rowSize, tableSize, tableAfter, tableBefores}

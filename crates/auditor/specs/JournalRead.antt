@@ -20,7 +20,8 @@ use Rattle.book.specs.Layout.{bookOf}
 use Rattle.book.specs.Struct.{SlotIs}
 use Rattle.book.specs.declared.slot.Slot as read
 use Rattle.model.specs.Journal.{Backup, journal}
-use Rattle.model.specs.JournalAt.{noBackup, backupAt, length-journal, volume-at, day-at, records-at}
+use Rattle.model.specs.JournalAt.{noBackup, backupAt}
+use Rattle.model.proofs.kept.JournalAtLaws.{length-journal, volume-at, day-at, records-at}
 use Rattle.auditor.specs.Bounds.{slot-bounds}
 
 -- a backup in form: its volume, and its records

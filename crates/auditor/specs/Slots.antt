@@ -19,8 +19,9 @@ use Rattle.book.specs.Struct.{SlotIs}
 use Rattle.book.specs.declared.slot.Slot as read
 use Rattle.model.specs.Audit.{untilIn}
 use Rattle.model.specs.Journal.{Backup, journal}
-use Rattle.model.specs.JournalAt.{backupAt, journal-next, journal-end}
-use Rattle.model.specs.KeptBefores.{takenSound}
+use Rattle.model.specs.JournalAt.{backupAt}
+use Rattle.model.proofs.kept.JournalAtLaws.{journal-next, journal-end}
+use Rattle.model.specs.JournalAt.{takenSound}
 use Rattle.auditor.specs.Expiries.{Raised, Raising, untilEach, raising-start, raising-more, raising-end, until-next}
 use Rattle.auditor.specs.JournalRead.{readBackup, backup-read}
 use Rattle.auditor.specs.Records.{Notes, notes, RecordsTaken}

@@ -18,7 +18,7 @@ use Rattle.words.proofs.Tests.{eqb-swap}
 use Rattle.book.specs.Book.{Sizes, Rec, Book}
 use Rattle.book.specs.Form.{pbnOk, recOk}
 use Rattle.model.specs.Audit.{cellSound}
-use Rattle.model.specs.ReadRule.{firstBefore}
+use Rattle.model.specs.JournalAt.{firstBefore}
 
 -- the backup's day is past, or each record whose LBN has not the stamp k yet has a before that is unmapped or held
 abbrev pub firstsSound : Book → Bool → ℕ → List ℕ → List Rec → Bool

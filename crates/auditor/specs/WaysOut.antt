@@ -10,7 +10,7 @@ use Rattle.book.specs.Formed.{Formed}
 use Rattle.book.specs.Layout.{bookOf}
 use Rattle.model.specs.Audit.{countSound, expirySound, printsSound, audit}
 use Rattle.model.specs.Journal.{journal}
-use Rattle.model.specs.KeptBefores.{takenSound}
+use Rattle.model.specs.JournalAt.{takenSound}
 use Rattle.auditor.specs.AuditPasses.{noCells, auditPasses, formed-audit}
 use Rattle.auditor.specs.Counts.{poolBlocks}
 use Rattle.auditor.specs.Entries.{entriesMatch, entries-sound}

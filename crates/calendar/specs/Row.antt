@@ -24,7 +24,8 @@ use Rattle.book.specs.Struct.{SlotIs}
 use Rattle.book.specs.declared.slot.Slot.{Slot}
 use Rattle.model.specs.Days.{keptBefore}
 use Rattle.model.specs.Journal.{Backup}
-use Rattle.model.specs.JournalAt.{backupAt, day-at, records-at, backupsFrom, from-own, from-end}
+use Rattle.model.specs.JournalAt.{backupAt, backupsFrom}
+use Rattle.model.proofs.kept.JournalAtLaws.{day-at, records-at, from-own, from-end}
 use Rattle.model.specs.Views.{keptUntil, backupRow}
 use Rattle.restorer.specs.After.{keptFrom, kept-newest, kept-replaced}
 use Rattle.calendar.specs.Own.{NextIs}

@@ -9,7 +9,7 @@ use Rattle.words.proofs.Accepted.{unless-refused}
 use Rattle.book.specs.Layout.{bookOf}
 use Rattle.model.specs.Journal.{backups}
 use Rattle.model.specs.Views.{enrolledNumber, outputNumber, backupsOf, withRoom, backupsBytes}
-use Rattle.model.specs.Written.{written-refused, written-short, written-whole}
+use Rattle.model.proofs.views.WrittenLaws.{written-refused, written-short, written-whole}
 use Rattle.calendar.specs.Contracts.{BackupsTold}
 
 module _ (b : List ℕ) (v : ℕ) (out : List ℕ) (n : ℕ) where

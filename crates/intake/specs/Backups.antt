@@ -9,7 +9,8 @@ use Rattle.book.specs.Book.{Book, slotAt}
 use Rattle.book.specs.Struct.{SlotIs}
 use Rattle.book.specs.declared.slot.Slot.{Slot}
 use Rattle.model.specs.Journal.{Backup, backups, days}
-use Rattle.model.specs.JournalAt.{day-at, backupsFrom, from-start, from-own, from-other, from-end}
+use Rattle.model.proofs.kept.JournalAtLaws.{day-at, from-start, from-own, from-other, from-end}
+use Rattle.model.specs.JournalAt.{backupsFrom}
 use Rattle.intake.specs.declared.slots.Backups.{Backups}
 
 -- what the code answers

@@ -11,7 +11,7 @@ use Rattle.words.specs.Choice.{if_then_else_}
 use Rattle.list.specs.Changes.{changeAt}
 use Rattle.book.specs.Book.{Entry, entryAt}
 use Rattle.model.specs.Pool.{poolSize, blockAt, withBlock}
-use Rattle.model.specs.BlockLaws.{length-with}
+use Rattle.model.proofs.agreement.BlockLaws.{length-with}
 use Rattle.mover.specs.PoolLaws.{Known, block-with, is-now}
 use Rattle.mover.specs.Working.{heldBlock, blockNow, poolNow}
 

@@ -1,22 +1,33 @@
 -- What is claimed of every list of calls on every fresh book (document 01, "The plain store", last two paragraphs). Statements only.
-use Prim.Native.Nat.{ℕ, _*_, _≤_, _<_}
+use Prim.Native.Nat.{ℕ, _*_, _≤_, _<_, _+_, _-_}
 use mathlib.Core.Path.{_≡_}
 use mathlib.Core.Bool.{Bool, true, false, not, _&&_, _||_}
 use mathlib.Core.List.{List, [], _∷_, _++_}
-use lib.ListN.{length, getD}
-use lib.Dec.{eqb}
+use lib.ListN.{length, getD, drop, set}
+use lib.Dec.{eqb, leb}
 use Rattle.words.specs.Blocks.{unmapped}
-use Rattle.words.specs.Lists.{all, someOf}
+use Rattle.words.specs.Lists.{all, someOf, countOf, joined}
 use Rattle.words.specs.Outcome.{accepted}
-use Rattle.list.specs.Changes.{lbns, changeCount}
-use Rattle.book.specs.Book.{Sizes, Entry, entryAt, isFree}
+use Rattle.list.specs.Changes.{lbns, changeCount, changes}
+use Rattle.book.specs.Book.{Sizes, Entry, entryAt, isFree, Book, Rec, cellAt, retentionOf, volumes}
 use Rattle.book.specs.Layout.{bookSize, bookOf}
-use Rattle.model.specs.Pool.{poolSize}
+use Rattle.model.specs.Pool.{poolSize, blockAt}
 use Rattle.model.specs.OnBytes.{formatBytes}
-use Rattle.model.specs.Plain.{Plain, start, volumeAt, current, marked}
+use Rattle.model.specs.Plain.{Plain, start, volumeAt, current, marked, free, held}
 use Rattle.model.specs.Calls.{Call, backup, collect, read, audit, Answer, number, backed, freed, block, sound, isBacked}
 use Rattle.model.specs.Runs.{answersOf, endOf, Ours, ours, plain, oursShown, plainShown}
 use Rattle.model.specs.History.{historyOf, dayOf, historyRead}
+use Rattle.words.specs.Choice.{if_then_else_}
+use Rattle.model.specs.Backup.{Backed, backup}
+use Rattle.model.proofs.agreement.BackupAgree.{backed}
+use mathlib.Core.Logic.{_≢_}
+use Rattle.book.specs.Next.{freed}
+use Rattle.model.specs.Collect.{entryAfter}
+use Rattle.model.specs.Journal.{Backup, journal, days}
+use Rattle.model.specs.Read.{image}
+use Rattle.model.specs.Audit.{applied, replayed, befores, noMaps, untilIn, audit}
+use Rattle.model.specs.Backup
+use Rattle.model.specs.Days
 
 -- "one fresh book (as an accepted format of any sizes leaves it) and its pool (any bytes at first) with a spare long enough"
 pub record Fresh : Type 0 where
@@ -117,3 +128,97 @@ pub record Corollaries (f : Fresh) (cs : List Call) : Type 0 where
       → touched ≤ 2 * changeCount list
   -- a collect right after a collect on the same day frees nothing
   pub collects : (t k : ℕ) → ourAnswer f cs (collect t) ≡ freed k → ourAnswer f (cs ++ (collect t ∷ [])) (collect t) ≡ freed 0
+
+-- ---- the claim about power cuts. A host writes the pool blocks that a call took, syncs them, and then replaces the book. Cut off, it has the new
+-- book and the new pool, or the old book and a pool in which only blocks were written that this book has free: from there it goes on as if the
+-- call had not been
+
+-- a pool that has the bytes of every block that the book holds, and of the others any
+pub record Serves (o : Ours) (pool : List ℕ) : Type 0 where
+  pub long : length pool ≡ length (o .pool)
+  pub holds : (p : ℕ) → entryIn o p .held ≡ true → blockAt pool p ≡ blockAt (o .pool) p
+
+-- where a host may be after these calls and any number of cuts; a call that a cut undid isn't among them
+pub data Reached (f : Fresh) : List Call → Ours → Type 0 where
+  begins : Reached f [] (begin f)
+  calls : (cs : List Call) (o : Ours) (c : Call) → Reached f cs o → Reached f (cs ++ (c ∷ [])) (ours (f .spare) o c .next)
+  cut : (cs : List Call) (o : Ours) (pool : List ℕ) → Serves o pool → Reached f cs o → Reached f cs (record { book = o .book; pool = pool })
+
+pub record PowerCut (f : Fresh) (cs : List Call) (o : Ours) : Type 0 where
+  -- "Only taken blocks' pool bytes change": whatever of the pool after a call was written, the pool still serves the book before it
+  pub leaves : (c : Call) → Serves o (ours (f .spare) o c .next .pool)
+  -- all goes on as in the plain store that was given these calls
+  pub answers : (ds : List Call) → answersOf (ours (f .spare)) o ds ≡ answersOf plain (plainEnd f cs) ds
+
+-- ---- what the numbers in a backup's answer count
+
+abbrev pub heldIn : List Entry → ℕ
+heldIn es = countOf (λ (e : Entry). e .held) es
+
+-- a record of a change that had a before
+abbrev pub hadBefore : Rec → Bool
+hadBefore r = not (eqb (r .before) unmapped)
+
+-- the records that a call added
+abbrev pub addedTo : Book → Book → List Rec
+addedTo x y = drop (length (x .records)) (y .records)
+
+-- "blocks taken, and touched: n plus the changes that had a before"
+pub record Answered (x : Book) (n : ℕ) (d : Backed) : Type 0 where
+  pub taken : heldIn (d .book .entries) ≡ heldIn (x .entries) + d .taken
+  pub changes : length (addedTo x (d .book)) ≡ n
+  pub touched : d .touched ≡ n + countOf hadBefore (addedTo x (d .book))
+
+-- ---- what steps 1 and 2 of a change find
+
+-- "the lowest-numbered held block with this fingerprint"
+pub record IsLowest (es : List Entry) (f : List ℕ) (p : ℕ) : Type 0 where
+  pub inside : p < length es
+  pub held : entryAt es p .held ≡ true
+  pub print : entryAt es p .print ≡ f
+  pub lowest : (q : ℕ) → q < p → entryAt es q .held ≡ true → entryAt es q .print ≡ f → ⊥
+
+-- how many blocks are passed from block c up to q, "going round after N − 1"
+unfoldable pub passed : ℕ → ℕ → ℕ → ℕ
+passed n c q = if leb c q then q - c else q + (n - c)
+
+-- "the first free block from the cursor up"
+pub record IsNext (es : List Entry) (c p : ℕ) : Type 0 where
+  pub inside : p < length es
+  pub free : entryAt es p .held ≡ false
+  pub first : (q : ℕ) → q < length es → entryAt es q .held ≡ false → passed (length es) c p ≤ passed (length es) c q
+
+-- ---- what audit's yes says, clause by clause (document 01, "Audit says yes exactly when")
+
+-- "each before being the cell that it replaces"
+abbrev pub BeforesIn : List ℕ → List Rec → Type 0
+BeforesIn m [] = Unit {0}
+BeforesIn m (r ∷ rs) = (getD m (r .lbn) unmapped ≡ r .before) × BeforesIn (set m (r .lbn) (r .after)) rs
+
+abbrev pub Befores : List (List ℕ) → List Backup → Type 0
+Befores ms [] = Unit {0}
+Befores ms (b ∷ bs) =
+    BeforesIn (getD ms (b .volume) []) (b .records) × Befores (set ms (b .volume) (applied (getD ms (b .volume) []) (b .records))) bs
+
+-- a cell that is mapped names a held block
+abbrev pub Holds : Book → ℕ → Type 0
+Holds x p = p ≢ unmapped → entryAt (x .entries) p .held ≡ true
+
+-- held entries of the same fingerprint are one
+abbrev pub Differ : List Entry → Type 0
+Differ es = (p q : ℕ) → p < q → q < length es → entryAt es p .held ≡ true → entryAt es q .held ≡ true → entryAt es p .print ≢ entryAt es q .print
+
+pub record Means (x : Book) : Type 0 where
+  -- "the maps are the records replayed in order from all unmapped, each before being the cell that it replaces"
+  pub befores : Befores (noMaps x) (journal x)
+  pub maps : (v : ℕ) → v < volumes → getD (x .maps) v [] ≡ getD (replayed (noMaps x) (journal x)) v []
+  -- "each count is the number of map cells naming the block"
+  pub counts : (p : ℕ) → p < x .sizes .n → entryAt (x .entries) p .count ≡ countOf (eqb p) (joined (x .maps))
+  -- "each expiry is the largest slot day plus retention over records with that before, 0 if none"
+  pub expiries : (p : ℕ) → p < x .sizes .n → entryAt (x .entries) p .expiry ≡ untilIn x p (journal x)
+  -- "held fingerprints differ"
+  pub prints : Differ (x .entries)
+  -- "no current map and no kept backup names a free block"
+  pub current : (v l : ℕ) → v < length (x .maps) → l < length (getD (x .maps) v []) → Holds x (cellAt (x .maps) v l)
+  pub kept : (v k l : ℕ) → v < volumes → 1 ≤ k → k ≤ length (days x v) → Days.kept (days x v) (retentionOf x v) (x .day) k ≡ true → l < x .sizes .l
+      → Holds x (image x v k l)

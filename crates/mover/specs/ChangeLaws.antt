@@ -22,7 +22,7 @@ use Rattle.book.specs.Book.{Sizes, Book, entryAt, cellAt}
 use Rattle.book.specs.Form.{pbnOk}
 use Rattle.book.specs.Layout.{bookOf, Holds}
 use Rattle.book.specs.Next.{withEntries, withMaps, withRecord}
-use Rattle.model.specs.Moving.{moved-held}
+use Rattle.model.proofs.agreement.Moving.{moved-held}
 use Rattle.model.specs.Backup.{Work, Placed, lower, nameBlock, moveNumber, moved, moveTo, changeStep, runChanges}
 use Rattle.index.specs.Indexed.{Indexed}
 use Rattle.mover.specs.Indexing.{moved-indexed}

@@ -15,7 +15,8 @@ use Rattle.book.specs.Struct.{SlotIs}
 use Rattle.book.specs.declared.slot.Slot.{Slot}
 use Rattle.model.specs.Days.{keptBefore, kept}
 use Rattle.model.specs.Journal.{Backup, backups, days}
-use Rattle.model.specs.JournalAt.{backupAt, day-at, backupsFrom, from-start, from-own, from-other, from-end}
+use Rattle.model.specs.JournalAt.{backupAt, backupsFrom}
+use Rattle.model.proofs.kept.JournalAtLaws.{day-at, from-start, from-own, from-other, from-end}
 use Rattle.restorer.specs.declared.image.After.{After}
 
 -- what the code answers

@@ -20,7 +20,8 @@ use Rattle.book.specs.Struct.{SlotIs}
 use Rattle.book.specs.declared.slot.Slot.{Slot}
 use Rattle.model.specs.Journal.{Backup}
 use Rattle.model.specs.Read.{recordsOf, beforeOr}
-use Rattle.model.specs.JournalAt.{backupAt, volume-at, records-at, backupsFrom, ownAt, from-split, from-end}
+use Rattle.model.specs.JournalAt.{backupAt, backupsFrom, ownAt}
+use Rattle.model.proofs.kept.JournalAtLaws.{volume-at, records-at, from-split, from-end}
 use Rattle.restorer.specs.declared.image.Before.{Before}
 use Rattle.restorer.specs.declared.image.Before.the-variants.{At, Nothing}
 

@@ -11,7 +11,7 @@ use Rattle.words.specs.Choice.{if_then_else_}
 use Rattle.words.proofs.ChoiceLaws.{or-l, or-r}
 use Rattle.words.specs.Outcome.{Outcome, refused, accepted, unless}
 use Rattle.book.specs.Book.{volumes, Book, retentionOf}
-use Rattle.model.specs.AgreeLaws.{volume-inside}
+use Rattle.model.proofs.agreement.AgreeLaws.{volume-inside}
 use Rattle.model.specs.Days.{kept}
 use Rattle.model.specs.Journal.{days, noVolume}
 use Rattle.model.specs.Read.{image, readNumber}

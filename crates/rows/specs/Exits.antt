@@ -9,7 +9,8 @@ use Rattle.words.specs.Outcome.{Outcome}
 use Rattle.book.specs.Form.{formNumber}
 use Rattle.book.specs.Layout.{bookOf}
 use Rattle.model.specs.Views.{enrolledNumber, blocksOf, cellsOf, withRoom, blocksBytes, cellsBytes}
-use Rattle.model.specs.Written.{Written, written-refused, written-past, written-short, written-whole}
+use Rattle.model.specs.Written.{Written}
+use Rattle.model.proofs.views.WrittenLaws.{written-refused, written-past, written-short, written-whole}
 
 -- ---- the blocks
 

@@ -7,8 +7,8 @@ use denote.Ref.{now}
 use Rattle.book.specs.Formed.{Formed}
 use Rattle.book.proofs.FormedLaws.{formed}
 use Rattle.book.specs.Layout.{bookOf}
-use Rattle.model.specs.EnrolledNumber.{passed-enrolled}
-use Rattle.model.specs.ViewLaws.{length-backupsOf}
+use Rattle.model.proofs.views.EnrolledNumber.{passed-enrolled}
+use Rattle.model.proofs.views.ViewLaws.{length-backupsOf}
 use Rattle.model.specs.Views.{enrolledNumber, backupsOf}
 use Rattle.calendar.specs.Told.{told-refused, told-short, told-whole}
 use borrow.Author.Needs.{needs}

@@ -4,7 +4,7 @@ use borrow.Author.Needs.{needs}
 use denote.Ref.{now}
 use Rattle.book.proofs.InForm.{holds-form}
 use Rattle.book.specs.Layout.{Holds}
-use Rattle.model.specs.EnrolledNumber.{passed-enrolled}
+use Rattle.model.proofs.views.EnrolledNumber.{passed-enrolled}
 use Rattle.model.specs.Views.{enrolledNumber}
 use Rattle.figures.specs.VolumeExits.{volume-refused, volume-told}
 use Rattle.figures.proofs.volume.volume.Statement.{statement}

@@ -12,7 +12,7 @@ use Rattle.book.specs.Layout.{bookOf}
 use Rattle.book.specs.Formed.{Formed}
 use Rattle.book.proofs.FormedLaws.{formed}
 use Rattle.model.specs.Backup.{backupNumber}
-use Rattle.model.specs.BackupAllowed.{Allowed, number-zero}
+use Rattle.model.proofs.form.BackupAllowed.{Allowed, number-zero}
 use Rattle.intake.specs.Allowing.{lentNumber, dayRefused, roomNumber, AllowedBy}
 use Rattle.intake.specs.AllowLaws.{lent-facts, lent-refused, number-refused, goes-on, five-above, five-none, seven, eight, by-room, days-bound}
 use borrow.Author.Needs.{needs}

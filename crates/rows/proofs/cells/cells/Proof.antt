@@ -4,7 +4,7 @@ use native.Mathlib.Omega.{arith}
 use denote.Ref.{now}
 use borrow.Author.Needs.{needs}
 use Rattle.book.proofs.InForm.{holds-form}
-use Rattle.model.specs.EnrolledNumber.{passed-enrolled}
+use Rattle.model.proofs.views.EnrolledNumber.{passed-enrolled}
 use Rattle.model.specs.Views.{enrolledNumber, cellsOf}
 use Rattle.rows.specs.Exits.{cells-refused, cells-short, cells-done}
 use Rattle.rows.proofs.cells.cells.Statement.{statement}

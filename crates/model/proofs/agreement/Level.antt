@@ -1,0 +1,142 @@
+-- Where both sides stand alike between two changes of a backup: the same blocks, the copy is our map, counts are cells. Placing keeps it,
+-- and so do steps 3 and 4, which are refused by the same number.
+use Prim.Native.Nat.{ℕ, _+_, _<_}
+use mathlib.Core.Path.{_≡_, refl, sym, ap, subst, _∙_}
+use mathlib.Core.Logic.{_≢_}
+use mathlib.Core.Bool.{Bool, true, false, not, _&&_}
+use mathlib.Core.List.{List, []}
+use native.Mathlib.Omega.{arith}
+use lib.Dec.{eqb}
+use lib.ListN.{length, getD, set, length-set}
+use lib.Seq.{getD-set-same, getD-set-other, set-set}
+use borrow.Author.Tests.{eqb-true, eqb-false, eq-eqb, ne-eqb}
+use Rattle.words.specs.Blocks.{unmapped}
+use Rattle.words.specs.Choice.{if_then_else_}
+use Rattle.words.specs.Lists.{bit}
+use Rattle.words.proofs.Counting.{count-set, count-joined}
+use Rattle.words.specs.Lists.{countOf, joined}
+use Rattle.book.specs.Book.{Book, entryAt, cellAt}
+use Rattle.book.specs.Next.{withEntries, withMaps, withRecord, cellsWith}
+use Rattle.model.specs.Backup.{Work, lower, nameBlock, moveNumber, moved}
+use Rattle.model.specs.PlainBackup
+use Rattle.model.proofs.agreement.Placing.{Alike, PlacedAt}
+use Rattle.model.proofs.agreement.Moving.{length-moved, moved-blocks, lower-count, moved-count}
+
+-- how many cells name block q, when volume v's map is m and the others are as in ms
+abbrev pub namesIn : List (List ℕ) → ℕ → List ℕ → ℕ → ℕ
+namesIn ms v m q = countOf (eqb q) (joined (set ms v m))
+
+-- a cell changed
+pub names-set : (ms : List (List ℕ)) (v : ℕ) (m : List ℕ) (i b q : ℕ) → v < length ms → i < length m
+    → namesIn ms v (set m i b) q + bit (eqb q (getD m i unmapped)) ≡ namesIn ms v m q + bit (eqb q b)
+names-set ms v m i b q h k =
+    omega (arith, count-joined (eqb q) ms v (set m i b) h, count-joined (eqb q) ms v m h, count-set (eqb q) m i b unmapped k)
+
+-- x is the book at the backup's start
+pub record Level (x : Book) (v : ℕ) (w : Work) (u : PlainBackup.Work) : Type 0 where
+  pub alike : Alike w u
+  pub sizes : w .book .sizes ≡ x .sizes
+  pub retentions : w .book .retentions ≡ x .retentions
+  pub slots : w .book .slots ≡ x .slots
+  pub maps : w .book .maps ≡ set (x .maps) v (u .copy)
+  pub width : length (u .copy) ≡ x .sizes .l
+  pub counts : (q : ℕ) → q < x .sizes .n → entryAt (w .book .entries) q .count ≡ namesIn (x .maps) v (u .copy) q
+  pub cells : (i : ℕ) → getD (u .copy) i unmapped ≢ unmapped → getD (u .copy) i unmapped < x .sizes .n
+
+pub placed-level : (x : Book) (v : ℕ) (w : Work) (u : PlainBackup.Work) (p : ℕ) (w′ : Work) (u′ : PlainBackup.Work)
+    → Level x v w u → PlacedAt w u p w′ u′ → Level x v w′ u′
+placed-level x v w u p w′ u′ a r = record {
+  alike = r .alike;
+  sizes = r .aside .sizes ∙ a .sizes;
+  retentions = r .aside .retentions ∙ a .retentions;
+  slots = r .aside .slots ∙ a .slots;
+  maps = r .aside .maps ∙ a .maps ∙ ap (λ (m : List ℕ). set (x .maps) v m) (sym (r .copy));
+  width = ap length (r .copy) ∙ a .width;
+  counts = λ q k. r .counts q ∙ a .counts q k ∙ ap (λ (m : List ℕ). namesIn (x .maps) v m q) (sym (r .copy));
+  cells = subst (λ (m : List ℕ). (i : ℕ) → getD m i unmapped ≢ unmapped → getD m i unmapped < x .sizes .n) (sym (r .copy)) (a .cells);
+}
+
+-- the cell that a change replaces
+module _ (x : Book) (v lbn : ℕ) (w : Work) (u : PlainBackup.Work) (a : Level x v w u) where
+  pub cell-before : v < length (x .maps) → cellAt (w .book .maps) v lbn ≡ getD (u .copy) lbn unmapped
+  cell-before inside = ap (λ (m : List (List ℕ)). cellAt m v lbn) (a .maps) ∙ rw (getD-set-same (x .maps) v (u .copy) [] inside)
+
+  pub before-inside : getD (u .copy) lbn unmapped ≢ unmapped → getD (u .copy) lbn unmapped < length (w .book .entries)
+  before-inside z = omega (arith, a .cells lbn z, a .alike .entries, ap (λ s. s .n) (a .sizes))
+
+module _ (x : Book) (v : ℕ) (inside : v < length (x .maps)) (small : x .sizes .n < unmapped) where
+  -- steps 3 and 4 of a change that was placed at p
+  module _ (until lbn p : ℕ) (w : Work) (u : PlainBackup.Work) (a : Level x v w u) (i : lbn < x .sizes .l) (h : p < x .sizes .n) where
+    abbrev before : ℕ
+    before = getD (u .copy) lbn unmapped
+
+    -- the cells without this one
+    out : (q : ℕ) → q < x .sizes .n → namesIn (x .maps) v (set (u .copy) lbn unmapped) q + bit (eqb q before) ≡ namesIn (x .maps) v (u .copy) q
+    out q k =
+        names-set (x .maps) v (u .copy) lbn unmapped q inside (omega (arith, a .width))
+        ∙ rw (ne-eqb q unmapped (λ (z : q ≡ unmapped). omega arith)) (omega arith)
+
+    lowered-is : (q : ℕ) → q < x .sizes .n
+        → entryAt (lower until before (w .book .entries)) q .count ≡ namesIn (x .maps) v (set (u .copy) lbn unmapped) q
+    lowered-is q k =
+        lower-count until before p (w .book .entries) q (omega arith) (before-inside x v lbn w u a)
+        ∙ omega (arith, a .counts q k, out q k)
+
+    some-left : before ≢ unmapped → eqb (entryAt (w .book .entries) before .count) 0 ≡ false
+    some-left z =
+        let k : before < x .sizes .n = a .cells lbn z in
+        ne-eqb (entryAt (w .book .entries) before .count) 0 (λ (e : entryAt (w .book .entries) before .count ≡ 0).
+        omega (arith, a .counts before k, out before k, ap bit (eq-eqb before before refl)))
+
+    -- never 13
+    pub number-same : moveNumber until before p (w .book .entries) ≡ (if eqb (namesIn (x .maps) v (set (u .copy) lbn unmapped) p) 255 then 14 else 0)
+    unfolding moveNumber
+    number-same = go (eqb before unmapped) refl
+      where
+        go : (t : Bool) → eqb before unmapped ≡ t →
+            _≡_ {A = ℕ}
+            (if not t && eqb (entryAt (w .book .entries) before .count) 0 then 13 else
+            if eqb (entryAt (lower until before (w .book .entries)) p .count) 255 then 14 else 0)
+            (if eqb (namesIn (x .maps) v (set (u .copy) lbn unmapped) p) 255 then 14 else 0)
+        go true e = rw (lowered-is p h)
+        go false e = rw (some-left (eqb-false before unmapped e), lowered-is p h)
+
+    cell-in : (j : ℕ) (t : Bool) → eqb j lbn ≡ t → getD (set (u .copy) lbn p) j unmapped ≢ unmapped → getD (set (u .copy) lbn p) j unmapped < x .sizes .n
+    cell-in j true e z = rw (eqb-true j lbn e, getD-set-same (u .copy) lbn p unmapped (omega (arith, a .width))) h
+    cell-in j false e z =
+        let s : getD (set (u .copy) lbn p) j unmapped ≡ getD (u .copy) j unmapped = getD-set-other (u .copy) lbn j p unmapped (eqb-false j lbn e) in
+        rw s (a .cells j (λ (y : getD (u .copy) j unmapped ≡ unmapped). z (s ∙ y)))
+
+    abbrev ourNext : Work
+    ourNext = moved v until lbn before (record { pbn = p; work = w })
+
+    abbrev plainNext : PlainBackup.Work
+    plainNext = PlainBackup.moved lbn (record { pbn = p; work = u })
+
+    moved-alike : Alike ourNext plainNext
+    unfolding moved PlainBackup.moved nameBlock withRecord withMaps withEntries
+    moved-alike = record {
+      blocks = a .alike .blocks ∙ sym (moved-blocks until before p (w .book .entries) (w .pool));
+      cursor = a .alike .cursor;
+      taken = a .alike .taken;
+      touched = ap (λ (k : ℕ). k + (if eqb before unmapped then 1 else 2)) (a .alike .touched);
+      entries = length-moved until before p (w .book .entries) ∙ a .alike .entries;
+      pool = a .alike .pool;
+    }
+
+    pub moved-level : Level x v ourNext plainNext
+    unfolding moved PlainBackup.moved nameBlock withRecord withMaps withEntries
+    moved-level = record {
+      alike = moved-alike;
+      sizes = a .sizes;
+      retentions = a .retentions;
+      slots = a .slots;
+      maps =
+          ap (λ (m : List (List ℕ)). cellsWith m v lbn p) (a .maps)
+          ∙ rw (getD-set-same (x .maps) v (u .copy) [] inside) (set-set (x .maps) v (u .copy) (set (u .copy) lbn p));
+      width = length-set (u .copy) lbn p ∙ a .width;
+      counts = λ q k.
+          moved-count until before p (w .book .entries) q (omega arith) (before-inside x v lbn w u a) (omega (arith, a .alike .entries, ap (λ s. s .n) (a .sizes)))
+          ∙ omega (arith, lowered-is q k, out q k, names-set (x .maps) v (u .copy) lbn p q inside (omega (arith, a .width)));
+      cells = λ j k. cell-in j (eqb j lbn) refl k;
+    }

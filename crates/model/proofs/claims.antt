@@ -1,0 +1,8 @@
+pub mod FoundBlocks
+pub mod BackupCounts
+pub mod CollectLaws
+pub mod AuditMeans
+pub mod CollectTwice
+pub mod BackupBounds
+pub mod Proved
+pub mod PowerCut

@@ -1,0 +1,14 @@
+pub mod DayLaws
+pub mod Sound
+pub mod JournalLaws
+pub mod Replays
+pub mod KeptCells
+pub mod KeptNames
+pub mod Reaches
+pub mod Marks
+pub mod ReadRule
+pub mod ReadNumbers
+pub mod KeptHeld
+pub mod JournalAtLaws
+pub mod KeptNumbers
+pub mod KeptBefores

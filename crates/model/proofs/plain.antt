@@ -1,0 +1,10 @@
+pub mod HistoryLaws
+pub mod PlainShows
+pub mod PlainPlacing
+pub mod PlainChanges
+pub mod PlainMarks
+pub mod PlainRecalls
+pub mod PlainRecallsBackup
+pub mod PlainRecallsOthers
+pub mod PlainHistory
+pub mod PlainReads

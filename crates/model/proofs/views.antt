@@ -1,0 +1,4 @@
+pub mod WrittenLaws
+pub mod EnrolledNumber
+pub mod ViewLaws
+pub mod RowLaws
