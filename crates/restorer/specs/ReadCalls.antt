@@ -17,7 +17,7 @@ use Rattle.model.specs.OnBytes.{numberOf, poolNumber, readBytes, readNumberByte
 use Rattle.model.specs.Pool.{blockAt}
 use Rattle.model.specs.Read.{image, readNumber, read}
 use Rattle.buffers.specs.Buffers.{buffersNumber}
-use Rattle.buffers.specs.BuffersLaws.{pool-size, buffers-order}
+use Rattle.buffers.proofs.BuffersLaws.{pool-size, buffers-order}
 use Rattle.restorer.specs.declared.read.Sought.{Sought}
 use Rattle.restorer.specs.declared.read.Sought.the-variants.{At, Refused}
 use Rattle.restorer.specs.Contracts.{Located}

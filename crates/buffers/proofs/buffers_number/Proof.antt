@@ -7,7 +7,7 @@ use Rattle.words.specs.Blocks.{blockSize}
 use Rattle.book.specs.Form.{formNumber}
 use Rattle.book.proofs.InForm.{holds-form}
 use Rattle.book.specs.Layout.{bookOf}
-use Rattle.buffers.specs.BuffersLaws.{buffers-form, buffers-pool, buffers-good}
+use Rattle.buffers.proofs.BuffersLaws.{buffers-form, buffers-pool, buffers-good}
 use Rattle.buffers.proofs.buffers_number.Statement.{statement}
 use Rattle.buffers.proofs.buffers_number.Tie as tie
 

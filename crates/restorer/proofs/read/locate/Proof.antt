@@ -6,7 +6,7 @@ use Rattle.book.specs.Layout.{bookOf}
 use Rattle.book.specs.Formed.{Formed}
 use Rattle.book.proofs.FormedLaws.{formed}
 use Rattle.buffers.specs.Buffers.{buffersNumber}
-use Rattle.buffers.specs.BuffersLaws.{buffers-facts}
+use Rattle.buffers.proofs.BuffersLaws.{buffers-facts}
 use Rattle.restorer.specs.Reading.{KeptIs}
 use Rattle.restorer.specs.ReadingLaws.{kept-volume, sought-before, sought-refused}
 use Rattle.restorer.specs.ReadCalls.{sought-stopped, sought-on}
