@@ -3,8 +3,8 @@ use Prim.Native.Nat.{ℕ, _+_, _≤_, _<_}
 use mathlib.Core.Path.{_≡_}
 use mathlib.Core.Bool.{true}
 use mathlib.Core.List.{List}
-use lib.ListN.{length, getD, set}
-use Rattle.book.specs.Book.{Entry, freeEntry, entryAt}
+use lib.ListN.{length, getD}
+use Rattle.book.specs.Book.{Entry, entryAt}
 use Rattle.index.specs.Bucket.{tableSize, bucketOf, firstIn}
 
 -- the tables index the held blocks from p on: `heads` has the first of each bucket, `nexts` the next one of a block's own bucket
@@ -18,7 +18,3 @@ pub record IndexedFrom (p : ℕ) (es : List Entry) (heads nexts : List ℕ) : Ty
 -- all held blocks
 abbrev pub Indexed : List Entry → List ℕ → List ℕ → Type 0
 Indexed es heads nexts = IndexedFrom 0 es heads nexts
-
--- the entries where block p is still free
-abbrev pub without : ℕ → List Entry → List Entry
-without p es = set es p freeEntry

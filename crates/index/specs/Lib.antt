@@ -2,9 +2,4 @@ pub mod Answers
 pub mod First
 pub mod Bucket
 pub mod Indexed
-pub mod Linking
 pub mod Finding
-pub mod Joining
-pub mod Inserting
-pub mod Keeping
-pub mod Holding

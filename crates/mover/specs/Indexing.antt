@@ -13,7 +13,7 @@ use Rattle.book.specs.Next.{withCursor, countAs, expiryAs}
 use Rattle.model.specs.Backup.{lowered, lower, raised}
 use Rattle.model.proofs.agreement.Moving.{movedEntries}
 use Rattle.index.specs.Indexed.{Indexed}
-use Rattle.index.specs.Keeping.{indexed-alike, alike-set}
+use Rattle.index.proofs.Keeping.{indexed-alike, alike-set}
 
 -- the cursor is no entry
 pub cursor-indexed : (k : ℕ) (b b₁ : List ℕ) {heads nexts : List ℕ} → Is b₁ (withCursor k (bookOf b)) → Indexed (bookOf b .entries) heads nexts → Indexed (bookOf b₁ .entries) heads nexts

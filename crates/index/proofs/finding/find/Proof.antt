@@ -6,7 +6,7 @@ use Rattle.book.specs.Layout.{bookOf}
 use Rattle.index.specs.Answers.{foundOf}
 use Rattle.index.specs.First.{firstFrom}
 use Rattle.index.specs.Bucket.{hasPrint}
-use Rattle.index.specs.Finding.{chain-start, search-start, found-at, found-nowhere}
+use Rattle.index.proofs.FindingLaws.{chain-start, search-start, found-at, found-nowhere}
 use Rattle.index.proofs.finding.find.Statement.{statement}
 use Rattle.index.proofs.finding.find.Tie as tie
 

@@ -7,7 +7,8 @@ use lib.ListN.{length}
 use Rattle.book.specs.Layout.{bookOf}
 use Rattle.index.specs.First.{firstFrom}
 use Rattle.index.specs.Bucket.{bucketOf, hasPrint}
-use Rattle.index.specs.Finding.{Chain, chain-up, chain-more, search-more, search-stop, search-end}
+use Rattle.index.specs.Finding.{Chain}
+use Rattle.index.proofs.FindingLaws.{chain-up, chain-more, search-more, search-stop, search-end}
 use Rattle.index.proofs.finding.search.Statement.{statement}
 use Rattle.index.proofs.finding.search.Tie as tie
 

@@ -10,10 +10,11 @@ use Rattle.book.specs.Book.{Entry}
 use Rattle.book.specs.Layout.{bookOf, Is}
 use Rattle.book.specs.Next.{heldAs, withEntry}
 use Rattle.index.specs.Bucket.{tableSize}
-use Rattle.index.specs.Indexed.{Indexed, without}
-use Rattle.index.specs.Joining.{Joins, homeOf}
-use Rattle.index.specs.Holding.{held-joins, held-home, held-without}
-use Rattle.index.specs.Inserting.{Before, walk-start, walk-up, walk-more, insert-first, insert-after}
+use Rattle.index.specs.Indexed.{Indexed}
+use Rattle.index.proofs.Without.{without}
+use Rattle.index.proofs.Joining.{Joins, homeOf}
+use Rattle.index.proofs.Holding.{held-joins, held-home, held-without}
+use Rattle.index.proofs.Inserting.{Before, walk-start, walk-up, walk-more, insert-first, insert-after}
 use Rattle.index.proofs.inserting.hold.Statement.{statement}
 use Rattle.index.proofs.inserting.hold.Tie as tie
 

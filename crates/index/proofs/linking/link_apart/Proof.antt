@@ -7,9 +7,10 @@ use lib.ListN.{length}
 use Rattle.words.proofs.ChoiceLaws.{failed, passed}
 use Rattle.book.specs.Book.{entryAt}
 use Rattle.book.specs.Layout.{bookOf}
-use Rattle.index.specs.Bucket.{bucketOf, apart-free, apart-held}
-use Rattle.index.specs.Finding.{chain-start, search-start}
-use Rattle.index.specs.Linking.{linked-free, linked-held}
+use Rattle.index.specs.Bucket.{bucketOf}
+use Rattle.index.proofs.BucketLaws.{apart-free, apart-held}
+use Rattle.index.proofs.FindingLaws.{chain-start, search-start}
+use Rattle.index.proofs.Linking.{linked-free, linked-held}
 use borrow.Author.Needs.{needs}
 use Rattle.index.proofs.linking.link_apart.Statement.{statement}
 use Rattle.index.proofs.linking.link_apart.Tie as tie

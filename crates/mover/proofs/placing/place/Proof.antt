@@ -12,7 +12,8 @@ use Rattle.list.proofs.Laws.{print-part, changes-within}
 use Rattle.book.specs.Book.{Sizes}
 use Rattle.book.specs.Layout.{bookOf}
 use Rattle.model.specs.Backup.{findHeld}
-use Rattle.index.specs.Answers.{foundOf, found-some, found-none}
+use Rattle.index.specs.Answers.{foundOf}
+use Rattle.index.proofs.AnswerLaws.{found-some, found-none}
 use Rattle.mover.specs.Finding.{found-held, found-free}
 use Rattle.mover.specs.PlaceLaws.{prints-size, twelve-by, eleven-by, found-by, taken-by}
 use borrow.Author.Needs.{needs}

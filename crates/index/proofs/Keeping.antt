@@ -9,9 +9,11 @@ use lib.Seq.{getD-set-other, set-set}
 use Rattle.words.proofs.ChoiceLaws.{not-both}
 use Rattle.words.proofs.Stores.{getD-set-kept}
 use Rattle.book.specs.Book.{Entry, freeEntry, entryAt}
-use Rattle.index.specs.First.{first-is, first-at}
-use Rattle.index.specs.Bucket.{bucketOf, inBucket, firstIn, free-held, free-out, bucket-by}
-use Rattle.index.specs.Indexed.{Indexed, without}
+use Rattle.index.proofs.FirstLaws.{first-is, first-at}
+use Rattle.index.specs.Bucket.{bucketOf, inBucket, firstIn}
+use Rattle.index.proofs.BucketLaws.{free-held, free-out, bucket-by}
+use Rattle.index.specs.Indexed.{Indexed}
+use Rattle.index.proofs.Without.{without}
 
 -- the same blocks are held, with the same fingerprints
 pub record Alike (es es′ : List Entry) : Type 0 where

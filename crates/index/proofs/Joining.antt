@@ -10,9 +10,10 @@ use lib.Seq.{getD-set-same, getD-set-other}
 use borrow.Author.Tests.{eqb-true, eqb-false}
 use Rattle.words.proofs.ChoiceLaws.{not-both}
 use Rattle.book.specs.Book.{Entry, freeEntry, entryAt}
-use Rattle.index.specs.First.{First, first-is, first-at}
-use Rattle.index.specs.Bucket.{bucketOf, inBucket, firstIn, free-held, free-out, held-in}
-use Rattle.index.specs.Indexed.{without}
+use Rattle.index.proofs.FirstLaws.{First, first-is, first-at}
+use Rattle.index.specs.Bucket.{bucketOf, inBucket, firstIn}
+use Rattle.index.proofs.BucketLaws.{free-held, free-out, held-in}
+use Rattle.index.proofs.Without.{without}
 
 -- p is held in es; it joins those that are held in `without p es`
 pub record Joins (es : List Entry) (p : ℕ) : Type 0 where

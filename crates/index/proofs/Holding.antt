@@ -10,9 +10,10 @@ use Rattle.book.specs.Book.{Entry, Book, freeEntry, entryAt}
 use Rattle.book.specs.Layout.{bookOf, Is}
 use Rattle.book.specs.Next.{withEntries, withEntry, heldAs}
 use Rattle.index.specs.Bucket.{bucketOf}
-use Rattle.index.specs.Indexed.{Indexed, without}
-use Rattle.index.specs.Joining.{Joins, homeOf}
-use Rattle.index.specs.Keeping.{indexed-alike, alike-without}
+use Rattle.index.specs.Indexed.{Indexed}
+use Rattle.index.proofs.Without.{without}
+use Rattle.index.proofs.Joining.{Joins, homeOf}
+use Rattle.index.proofs.Keeping.{indexed-alike, alike-without}
 
 module _ (f : List ℕ) (p : ℕ) (b : List ℕ) {b′ : List ℕ} (i : Is b′ (withEntry (heldAs f) p (bookOf b))) where
   held-entries : bookOf b′ .entries ≡ set (bookOf b .entries) p (heldAs f (entryAt (bookOf b .entries) p))

@@ -12,9 +12,11 @@ use borrow.Author.Tests.{eqb-true, eqb-false}
 use Rattle.words.proofs.ChoiceLaws.{not-both}
 use Rattle.words.proofs.Tests.{surely-not}
 use Rattle.book.specs.Book.{Entry, entryAt}
-use Rattle.index.specs.Bucket.{tableSize, bucketOf, inBucket, firstIn, held-in, in-held}
-use Rattle.index.specs.Indexed.{Indexed, without}
-use Rattle.index.specs.Joining.{Joins, homeOf, as-long, other, was, not-p, kept, becomes, beyond}
+use Rattle.index.specs.Bucket.{tableSize, bucketOf, inBucket, firstIn}
+use Rattle.index.proofs.BucketLaws.{held-in, in-held}
+use Rattle.index.specs.Indexed.{Indexed}
+use Rattle.index.proofs.Without.{without}
+use Rattle.index.proofs.Joining.{Joins, homeOf, as-long, other, was, not-p, kept, becomes, beyond}
 
 -- q is a block of p's bucket below p
 pub record Before (es : List Entry) (p q : ℕ) : Type 0 where

@@ -1,0 +1,10 @@
+pub mod AnswerLaws
+pub mod FirstLaws
+pub mod BucketLaws
+pub mod Without
+pub mod Linking
+pub mod FindingLaws
+pub mod Joining
+pub mod Inserting
+pub mod Keeping
+pub mod Holding
