@@ -1,20 +1,12 @@
 -- The entries gone through once: each count and each expiry against what was gathered for its block.
-use Prim.Native.Nat.{ℕ, _+_}
-use mathlib.Core.Path.{_≡_, refl, _∙_}
-use mathlib.Core.Bool.{Bool, true, _&&_}
+use Prim.Native.Nat.{ℕ}
+use mathlib.Core.Bool.{Bool, _&&_}
 use mathlib.Core.List.{List}
 use lib.Dec.{eqb}
-use lib.ListN.{replicate}
-use Rattle.words.proofs.ChoiceLaws.{and-swap}
-use Rattle.words.specs.Lists.{all, joined, upFrom}
 use Rattle.book.specs.Book.{Entry}
-use Rattle.book.specs.Layout.{bookOf}
-use Rattle.book.specs.Formed.{Formed}
-use Rattle.model.specs.Journal.{journal}
-use Rattle.model.specs.Audit.{untilIn, countSound, expirySound}
-use Rattle.auditor.specs.Counts.{poolBlocks, Counted, countOfBlock, numberAt, counts-sound}
-use Rattle.auditor.specs.Expiries.{Raised, expiryOfBlock, expiries-sound}
-use Rattle.auditor.specs.Matching.{matching, matching-none, matching-grow}
+use Rattle.auditor.specs.Counts.{countOfBlock, numberAt}
+use Rattle.auditor.specs.Expiries.{expiryOfBlock}
+use Rattle.auditor.specs.Matching.{matching}
 
 module _ (es : List Entry) (counts expiries : List ℕ) where
   unfoldable pub entryMatches : ℕ → Bool
@@ -23,22 +15,3 @@ module _ (es : List Entry) (counts expiries : List ℕ) where
   -- the entries below n
   unfoldable pub entriesMatch : ℕ → Bool
   entriesMatch n = matching (countOfBlock es) (numberAt counts) n && matching (expiryOfBlock es) (numberAt expiries) n
-
-  pub entries-none : true ≡ entriesMatch 0
-  unfolding entriesMatch
-  entries-none = rw (← (matching-none (countOfBlock es) (numberAt counts))) (matching-none (expiryOfBlock es) (numberAt expiries))
-
-  pub entries-grow : (n : ℕ) {good good′ : Bool} → good ≡ entriesMatch n → good′ ≡ entryMatches n → (good && good′) ≡ entriesMatch (n + 1)
-  unfolding entriesMatch entryMatches
-  entries-grow n e h =
-      rw (e, h, ← (matching-grow (countOfBlock es) (numberAt counts) n refl refl refl), ← (matching-grow (expiryOfBlock es) (numberAt expiries) n refl refl refl))
-      (and-swap (matching (countOfBlock es) (numberAt counts) n) (matching (expiryOfBlock es) (numberAt expiries) n)
-      (eqb (countOfBlock es n) (numberAt counts n)) (eqb (expiryOfBlock es n) (numberAt expiries n)))
-
--- counts from the maps and expiries from the journal: two tests of audit
-pub entries-sound : {b : List ℕ} → Formed b → {counts expiries : List ℕ} {t : Bool} → Counted (replicate poolBlocks 0) (joined (bookOf b .maps)) counts
-    → Raised (replicate poolBlocks 0) (λ p. untilIn (bookOf b) p (journal (bookOf b))) expiries
-    → t ≡ entriesMatch (bookOf b .entries) counts expiries (bookOf b .sizes .n)
-    → t ≡ (all (countSound (bookOf b)) (upFrom 0 (bookOf b .sizes .n)) && all (expirySound (bookOf b)) (upFrom 0 (bookOf b .sizes .n)))
-unfolding entriesMatch
-entries-sound f c r e = e ∙ rw (counts-sound f c refl, expiries-sound f r refl)

@@ -1,6 +1,4 @@
 pub mod Contracts
-pub mod Bounds
-pub mod JournalRead
 pub mod Matching
 pub mod Table
 pub mod TableMaps
@@ -11,8 +9,3 @@ pub mod Entries
 pub mod Stamps
 pub mod Records
 pub mod Slots
-pub mod MapsReplayed
-pub mod AuditPasses
-pub mod WaysOut
-pub mod HeldPrints
-pub mod AuditAnswers

@@ -3,7 +3,7 @@ use mathlib.Core.Path.{_≡_, sym, _∙_}
 use denote.Ref.{now}
 use Rattle.book.specs.Form.{formNumber}
 use Rattle.book.proofs.FormedLaws.{formed}
-use Rattle.auditor.specs.AuditAnswers.{audit-refused, audit-yes, audit-no}
+use Rattle.auditor.proofs.AuditAnswers.{audit-refused, audit-yes, audit-no}
 use borrow.Author.Needs.{needs}
 use Rattle.auditor.proofs.audit.answer.Statement.{statement}
 use Rattle.auditor.proofs.audit.answer.Tie as tie

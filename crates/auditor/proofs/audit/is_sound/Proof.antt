@@ -1,7 +1,7 @@
 -- `auditor::audit::is_sound` meets its contract: what each pass decides on its way out.
 use borrow.Author.Needs.{needs}
 use borrow.Author.Tests.{not-true, not-false}
-use Rattle.auditor.specs.WaysOut.{journal-no, maps-no, entries-no, prints-last}
+use Rattle.auditor.proofs.WaysOut.{journal-no, maps-no, entries-no, prints-last}
 use Rattle.auditor.proofs.audit.is_sound.Statement.{statement}
 use Rattle.auditor.proofs.audit.is_sound.Tie as tie
 

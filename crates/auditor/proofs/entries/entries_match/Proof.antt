@@ -3,7 +3,8 @@ use Prim.Native.Nat.{_-_, _≤_}
 use mathlib.Core.Path.{_≡_}
 use denote.Ref.{now}
 use Rattle.book.specs.Layout.{bookOf}
-use Rattle.auditor.specs.Entries.{entriesMatch, entries-none, entries-grow}
+use Rattle.auditor.specs.Entries.{entriesMatch}
+use Rattle.auditor.proofs.EntryLaws.{entries-none, entries-grow}
 use borrow.Author.Needs.{needs}
 use native.Mathlib.Omega.{arith}
 use Rattle.auditor.proofs.entries.entries_match.Statement.{statement}

@@ -1,6 +1,6 @@
 -- `auditor::maps::count_one` meets its contract: a store at the block's counter, or none.
 use native.Mathlib.Omega.{arith}
-use Rattle.auditor.specs.Counts.{counted-one, counted-past}
+use Rattle.auditor.proofs.CountLaws.{counted-one, counted-past}
 use borrow.Author.Needs.{needs}
 use Rattle.auditor.proofs.maps.count_one.Statement.{statement}
 use Rattle.auditor.proofs.maps.count_one.Tie as tie

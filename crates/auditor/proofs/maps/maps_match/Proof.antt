@@ -1,7 +1,7 @@
 -- `auditor::maps::maps_match` meets its contract: the rows passed are tested and counted.
 use Prim.Native.Nat.{_-_, _≤_}
 use Rattle.book.specs.Layout.{bookOf}
-use Rattle.auditor.specs.MapsTaken.{MapsTaking, taking-start, taking-long, taking-row, taking-end}
+use Rattle.auditor.proofs.MapsTakenLaws.{MapsTaking, taking-start, taking-long, taking-row, taking-end}
 use borrow.Author.Needs.{needs}
 use native.Mathlib.Omega.{arith}
 use Rattle.auditor.proofs.maps.maps_match.Statement.{statement}

@@ -5,8 +5,9 @@ use mathlib.Core.List.{[]}
 use lib.ListN.{getD, take, length-take}
 use lib.Seq.{take-all}
 use Rattle.book.specs.Layout.{bookOf}
-use Rattle.auditor.specs.Counts.{Counted, counted-none, counted-cell, counted-le}
-use Rattle.auditor.specs.Matching.{matching-none, matching-grow}
+use Rattle.auditor.specs.Counts.{Counted}
+use Rattle.auditor.proofs.CountLaws.{counted-none, counted-cell, counted-le}
+use Rattle.auditor.proofs.MatchingLaws.{matching-none, matching-grow}
 use Rattle.auditor.specs.Table.{rowSize}
 use Rattle.auditor.specs.TableMaps.{rowMatches}
 use borrow.Author.Needs.{needs}

@@ -1,5 +1,5 @@
 -- `auditor::notes::raise` meets its contract: a store at the block's expiry, or none.
-use Rattle.auditor.specs.Expiries.{raised-past, raised-kept, raised-set}
+use Rattle.auditor.proofs.ExpiryLaws.{raised-past, raised-kept, raised-set}
 use native.Mathlib.Omega.{arith}
 use borrow.Author.Needs.{needs}
 use Rattle.auditor.proofs.notes.raise.Statement.{statement}

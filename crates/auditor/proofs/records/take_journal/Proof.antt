@@ -4,7 +4,7 @@ use mathlib.Core.Path.{refl, _∙_}
 use Rattle.words.proofs.Places.{getD-replicated}
 use Rattle.book.specs.Layout.{bookOf}
 use Rattle.auditor.specs.Records.{notes}
-use Rattle.auditor.specs.Slots.{SlotsLeft, slots-start, slots-more, slots-end}
+use Rattle.auditor.proofs.SlotLaws.{SlotsLeft, slots-start, slots-more, slots-end}
 use Rattle.auditor.specs.Table.{rowSize}
 use borrow.Author.Needs.{needs}
 use native.Mathlib.Omega.{arith}

@@ -2,8 +2,8 @@
 use denote.Ref.{now}
 use borrow.Author.Needs.{needs}
 use Rattle.book.specs.Layout.{bookOf}
-use Rattle.auditor.specs.Bounds.{ReadIn, read-in}
-use Rattle.auditor.specs.Records.{record-taken}
+use Rattle.auditor.proofs.Bounds.{ReadIn, read-in}
+use Rattle.auditor.proofs.RecordLaws.{record-taken}
 use Rattle.auditor.proofs.records.take_record.Statement.{statement}
 use Rattle.auditor.proofs.records.take_record.Tie as tie
 

@@ -4,7 +4,8 @@ use mathlib.Core.Path.{_≡_, _∙_}
 use lib.Seq.{slice}
 use denote.Ref.{now}
 use Rattle.book.specs.Layout.{bookOf}
-use Rattle.auditor.specs.Records.{notes, RecordsLeft, records-start, records-more, records-end}
+use Rattle.auditor.specs.Records.{notes}
+use Rattle.auditor.proofs.RecordLaws.{RecordsLeft, records-start, records-more, records-end}
 use borrow.Author.Needs.{needs}
 use native.Mathlib.Omega.{arith}
 use Rattle.auditor.proofs.records.take_records.Statement.{statement}

@@ -1,8 +1,8 @@
 -- `auditor::records::take_slot` meets its contract, by `slot-taken`.
 use denote.Ref.{now}
 use Rattle.book.specs.Layout.{bookOf}
-use Rattle.auditor.specs.JournalRead.{SlotRead, slot-read}
-use Rattle.auditor.specs.Slots.{slot-taken}
+use Rattle.auditor.proofs.JournalRead.{SlotRead, slot-read}
+use Rattle.auditor.proofs.SlotLaws.{slot-taken}
 use native.Mathlib.Omega.{arith}
 use borrow.Author.Needs.{needs}
 use Rattle.auditor.proofs.records.take_slot.Statement.{statement}

@@ -11,9 +11,10 @@ use Rattle.book.specs.Layout.{bookOf}
 use Rattle.model.specs.Audit.{countSound, expirySound, printsSound, audit}
 use Rattle.model.specs.Journal.{journal}
 use Rattle.model.specs.JournalAt.{takenSound}
-use Rattle.auditor.specs.AuditPasses.{noCells, auditPasses, formed-audit}
+use Rattle.auditor.proofs.AuditPasses.{noCells, auditPasses, formed-audit}
 use Rattle.auditor.specs.Counts.{poolBlocks}
-use Rattle.auditor.specs.Entries.{entriesMatch, entries-sound}
+use Rattle.auditor.specs.Entries.{entriesMatch}
+use Rattle.auditor.proofs.EntryLaws.{entries-sound}
 use Rattle.auditor.specs.MapsTaken.{MapsTaken}
 use Rattle.auditor.specs.Slots.{JournalTaken}
 use Rattle.auditor.specs.Table.{tableAfter, tableBefores}
