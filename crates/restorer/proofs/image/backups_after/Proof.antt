@@ -5,7 +5,7 @@ use native.Mathlib.Omega.{arith}
 use lib.ListN.{length}
 use denote.Ref.{now}
 use Rattle.book.specs.Layout.{bookOf}
-use Rattle.restorer.specs.After.{Skipped, skipped-none, skipped-own, skipped-other, skipped-stop, skipped-end}
+use Rattle.restorer.proofs.AfterLaws.{Skipped, skipped-none, skipped-own, skipped-other, skipped-stop, skipped-end}
 use Rattle.restorer.proofs.image.backups_after.Statement.{statement}
 use Rattle.restorer.proofs.image.backups_after.Tie as tie
 

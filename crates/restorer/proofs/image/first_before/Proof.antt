@@ -5,7 +5,7 @@ use native.Mathlib.Omega.{arith}
 use denote.Ref.{now}
 use Rattle.book.specs.Layout.{bookOf}
 use Rattle.restorer.specs.declared.image.Before.the-variants.{At}
-use Rattle.restorer.specs.Befores.{beforeSpan, span-whole, span-here, span-next, span-none}
+use Rattle.restorer.proofs.BeforeLaws.{beforeSpan, span-whole, span-here, span-next, span-none}
 use Rattle.restorer.proofs.image.first_before.Statement.{statement}
 use Rattle.restorer.proofs.image.first_before.Tie as tie
 

@@ -3,7 +3,7 @@ use borrow.Author.Needs.{needs}
 use mathlib.Core.Path.{sym, _∙_}
 use denote.Ref.{now}
 use Rattle.book.specs.Layout.{bookOf}
-use Rattle.restorer.specs.Befores.{image-before, image-current}
+use Rattle.restorer.proofs.BeforeLaws.{image-before, image-current}
 use Rattle.restorer.proofs.image.image_at.Statement.{statement}
 use Rattle.restorer.proofs.image.image_at.Tie as tie
 

@@ -4,7 +4,7 @@ use mathlib.Core.Path.{sym}
 use native.Mathlib.Omega.{arith}
 use denote.Ref.{now}
 use Rattle.book.specs.Layout.{bookOf}
-use Rattle.restorer.specs.After.{kept-newest, kept-replaced}
+use Rattle.restorer.proofs.AfterLaws.{kept-newest, kept-replaced}
 use Rattle.restorer.proofs.image.is_kept.Statement.{statement}
 use Rattle.restorer.proofs.image.is_kept.Tie as tie
 

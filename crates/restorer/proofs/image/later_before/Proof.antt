@@ -5,7 +5,8 @@ use native.Mathlib.Omega.{arith}
 use borrow.Author.Needs.{needs}
 use denote.Ref.{now}
 use Rattle.book.specs.Layout.{bookOf}
-use Rattle.restorer.specs.Befores.{beforeFrom, later-here, later-next, later-none}
+use Rattle.restorer.specs.Befores.{beforeFrom}
+use Rattle.restorer.proofs.BeforeLaws.{later-here, later-next, later-none}
 use Rattle.restorer.proofs.image.later_before.Statement.{statement}
 use Rattle.restorer.proofs.image.later_before.Tie as tie
 

@@ -6,7 +6,7 @@ use lib.ListN.{length}
 use denote.Ref.{now}
 use Rattle.book.proofs.Conditions.{pairs-in}
 use Rattle.book.specs.Layout.{bookOf}
-use Rattle.restorer.specs.Befores.{slot-own, slot-other}
+use Rattle.restorer.proofs.BeforeLaws.{slot-own, slot-other}
 use Rattle.restorer.proofs.image.slot_before.Statement.{statement}
 use Rattle.restorer.proofs.image.slot_before.Tie as tie
 

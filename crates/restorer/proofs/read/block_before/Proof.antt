@@ -2,7 +2,7 @@
 use borrow.Author.Needs.{needs}
 use mathlib.Core.Path.{sym}
 use native.Mathlib.Omega.{arith}
-use Rattle.restorer.specs.ReadingLaws.{block-outside, block-unmapped, block-found}
+use Rattle.restorer.proofs.ReadingLaws.{block-outside, block-unmapped, block-found}
 use Rattle.restorer.proofs.read.block_before.Statement.{statement}
 use Rattle.restorer.proofs.read.block_before.Tie as tie
 

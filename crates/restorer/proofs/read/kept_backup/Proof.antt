@@ -2,7 +2,7 @@
 use borrow.Author.Needs.{needs}
 use native.Mathlib.Omega.{arith}
 use Rattle.words.proofs.ChoiceLaws.{failed, passed}
-use Rattle.restorer.specs.ReadingLaws.{backup-above, backup-unenrolled, backup-zero, backup-missing, backup-lapsed, backup-kept}
+use Rattle.restorer.proofs.ReadingLaws.{backup-above, backup-unenrolled, backup-zero, backup-missing, backup-lapsed, backup-kept}
 use Rattle.restorer.proofs.read.kept_backup.Statement.{statement}
 use Rattle.restorer.proofs.read.kept_backup.Tie as tie
 

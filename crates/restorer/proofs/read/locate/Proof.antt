@@ -8,8 +8,8 @@ use Rattle.book.proofs.FormedLaws.{formed}
 use Rattle.buffers.specs.Buffers.{buffersNumber}
 use Rattle.buffers.proofs.BuffersLaws.{buffers-facts}
 use Rattle.restorer.specs.Reading.{KeptIs}
-use Rattle.restorer.specs.ReadingLaws.{kept-volume, sought-before, sought-refused}
-use Rattle.restorer.specs.ReadCalls.{sought-stopped, sought-on}
+use Rattle.restorer.proofs.ReadingLaws.{kept-volume, sought-before, sought-refused}
+use Rattle.restorer.proofs.ReadCalls.{sought-stopped, sought-on}
 use Rattle.restorer.proofs.read.locate.Statement.{statement}
 use Rattle.restorer.proofs.read.locate.Tie as tie
 

@@ -5,7 +5,7 @@ use mathlib.Core.Path.{_≡_}
 use native.Mathlib.Omega.{arith}
 use denote.Ref.{now}
 use Rattle.words.specs.Blocks.{blockSize}
-use Rattle.restorer.specs.ReadCalls.{block-refused, block-at, block-inside}
+use Rattle.restorer.proofs.ReadCalls.{block-refused, block-at, block-inside}
 use Rattle.restorer.proofs.read.read.Statement.{statement}
 use Rattle.restorer.proofs.read.read.Tie as tie
 

@@ -1,7 +1,7 @@
 -- `restorer::read::read_number` meets its contract: the number of what the search answers.
 use borrow.Author.Needs.{needs}
 use mathlib.Core.Path.{_∙_}
-use Rattle.restorer.specs.ReadCalls.{number-is}
+use Rattle.restorer.proofs.ReadCalls.{number-is}
 use Rattle.restorer.proofs.read.read_number.Statement.{statement}
 use Rattle.restorer.proofs.read.read_number.Tie as tie
 

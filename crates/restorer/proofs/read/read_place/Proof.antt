@@ -1,6 +1,6 @@
 -- `restorer::read::read_place` meets its contract: the place of the block that the search found, or its number.
 use borrow.Author.Needs.{needs}
-use Rattle.restorer.specs.ReadCalls.{located-refused, located-at}
+use Rattle.restorer.proofs.ReadCalls.{located-refused, located-at}
 use Rattle.restorer.proofs.read.read_place.Statement.{statement}
 use Rattle.restorer.proofs.read.read_place.Tie as tie
 

@@ -21,9 +21,9 @@ use Rattle.buffers.proofs.BuffersLaws.{pool-size, buffers-order}
 use Rattle.restorer.specs.declared.read.Sought.{Sought}
 use Rattle.restorer.specs.declared.read.Sought.the-variants.{At, Refused}
 use Rattle.restorer.specs.Contracts.{Located}
-use Rattle.restorer.specs.ImageIn.{image-in}
+use Rattle.restorer.proofs.ImageIn.{image-in}
 use Rattle.restorer.specs.Reading.{soughtOf, soughtNumber, soughtIn, soughtBytes}
-use Rattle.restorer.specs.ReadingLaws.{number-mapped}
+use Rattle.restorer.proofs.ReadingLaws.{number-mapped}
 
 then-unless : {A B : Type 0} (n : ℕ) (o : Outcome A) (f : A → Outcome B) → andThen (unless n o) f ≡ unless n (andThen o f)
 then-unless zero o f = refl

@@ -17,7 +17,8 @@ use Rattle.model.specs.Journal.{days, noVolume}
 use Rattle.model.specs.Read.{image, readNumber}
 use Rattle.restorer.specs.declared.image.After.{After}
 use Rattle.restorer.specs.declared.read.Kept.the-variants as kept-is
-use Rattle.restorer.specs.After.{AfterIs, keptFrom, kept-from}
+use Rattle.restorer.specs.After.{AfterIs, keptFrom}
+use Rattle.restorer.proofs.AfterLaws.{kept-from}
 use Rattle.restorer.specs.Befores.{imageFrom}
 use Rattle.restorer.specs.Reading.{keptNumber, KeptIs, mappedNumber, soughtFrom, soughtIn}
 

@@ -1,0 +1,5 @@
+pub mod AfterLaws
+pub mod BeforeLaws
+pub mod ImageIn
+pub mod ReadingLaws
+pub mod ReadCalls
