@@ -1,4 +1,1 @@
 pub mod Contracts
-pub mod Passed
-pub mod HeaderExits
-pub mod VolumeExits

@@ -5,7 +5,7 @@ use denote.Ref.{now}
 use Rattle.book.specs.Form.{formNumber}
 use Rattle.book.proofs.InForm.{holds-form}
 use Rattle.book.specs.Layout.{Holds}
-use Rattle.figures.specs.HeaderExits.{sizes-refused, sizes-told}
+use Rattle.figures.proofs.HeaderExits.{sizes-refused, sizes-told}
 use Rattle.figures.proofs.header.sizes.Statement.{statement}
 use Rattle.figures.proofs.header.sizes.Tie as tie
 

@@ -5,7 +5,7 @@ use denote.Ref.{now}
 use Rattle.book.specs.Form.{formNumber}
 use Rattle.book.proofs.InForm.{holds-form}
 use Rattle.book.specs.Layout.{Holds}
-use Rattle.figures.specs.HeaderExits.{used-refused, used-told}
+use Rattle.figures.proofs.HeaderExits.{used-refused, used-told}
 use Rattle.figures.proofs.header.used.Statement.{statement}
 use Rattle.figures.proofs.header.used.Tie as tie
 

@@ -5,7 +5,7 @@ use native.Mathlib.Omega.{arith}
 use lib.ListN.{length}
 use denote.Ref.{now}
 use Rattle.book.specs.Layout.{bookOf}
-use Rattle.figures.specs.Passed.{Passed, passed-none, passed-own, passed-other, passed-all}
+use Rattle.figures.proofs.Passed.{Passed, passed-none, passed-own, passed-other, passed-all}
 use Rattle.figures.proofs.volume.count_backups.Statement.{statement}
 use Rattle.figures.proofs.volume.count_backups.Tie as tie
 

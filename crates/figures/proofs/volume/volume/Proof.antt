@@ -6,7 +6,7 @@ use Rattle.book.proofs.InForm.{holds-form}
 use Rattle.book.specs.Layout.{Holds}
 use Rattle.model.proofs.views.EnrolledNumber.{passed-enrolled}
 use Rattle.model.specs.Views.{enrolledNumber}
-use Rattle.figures.specs.VolumeExits.{volume-refused, volume-told}
+use Rattle.figures.proofs.VolumeExits.{volume-refused, volume-told}
 use Rattle.figures.proofs.volume.volume.Statement.{statement}
 use Rattle.figures.proofs.volume.volume.Tie as tie
 
