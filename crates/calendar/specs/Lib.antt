@@ -1,5 +1,3 @@
 pub mod Contracts
 pub mod Own
 pub mod Row
-pub mod Rows
-pub mod Told

@@ -10,7 +10,7 @@ use Rattle.book.specs.Layout.{bookOf}
 use Rattle.model.proofs.views.EnrolledNumber.{passed-enrolled}
 use Rattle.model.proofs.views.ViewLaws.{length-backupsOf}
 use Rattle.model.specs.Views.{enrolledNumber, backupsOf}
-use Rattle.calendar.specs.Told.{told-refused, told-short, told-whole}
+use Rattle.calendar.proofs.Told.{told-refused, told-short, told-whole}
 use borrow.Author.Needs.{needs}
 use Rattle.calendar.proofs.backups.backups.Statement.{statement}
 use Rattle.calendar.proofs.backups.backups.Tie as tie

@@ -4,7 +4,7 @@ use native.Mathlib.Omega.{arith}
 use denote.Ref.{now}
 use Rattle.book.proofs.Conditions.{slot-in}
 use Rattle.book.specs.Layout.{bookOf}
-use Rattle.calendar.specs.Row.{until-newest, until-replaced}
+use Rattle.calendar.proofs.RowLaws.{until-newest, until-replaced}
 use borrow.Author.Needs.{needs}
 use Rattle.calendar.proofs.backups.kept_until.Statement.{statement}
 use Rattle.calendar.proofs.backups.kept_until.Tie as tie

@@ -4,7 +4,7 @@ use mathlib.Core.Bool.{Bool}
 use denote.Ref.{now}
 use Rattle.words.specs.Lists.{bit}
 use Rattle.book.specs.Layout.{bookOf}
-use Rattle.calendar.specs.Row.{row-stored}
+use Rattle.calendar.proofs.RowLaws.{row-stored}
 use borrow.Author.Needs.{needs}
 use Rattle.calendar.proofs.backups.put_row.Statement.{statement}
 use Rattle.calendar.proofs.backups.put_row.Tie as tie

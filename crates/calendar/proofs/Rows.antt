@@ -13,7 +13,8 @@ use Rattle.model.specs.JournalAt.{backupsFrom}
 use Rattle.model.proofs.kept.JournalAtLaws.{from-start, from-own, from-end}
 use Rattle.model.specs.Views.{backupRows, backupsOf}
 use Rattle.calendar.specs.Own.{NextIs}
-use Rattle.calendar.specs.Row.{rowFrom, row-is}
+use Rattle.calendar.specs.Row.{rowFrom}
+use Rattle.calendar.proofs.RowLaws.{row-is}
 
 unfoldable pub rowsFrom : Book → ℕ → ℕ → List ℕ
 rowsFrom x v q = backupRows (retentionOf x v) (x .day) (backupsFrom x v q)
