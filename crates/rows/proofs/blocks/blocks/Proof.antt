@@ -11,7 +11,7 @@ use Rattle.book.proofs.InForm.{holds-form}
 use Rattle.book.specs.Layout.{Holds, bookOf}
 use Rattle.model.proofs.views.RowLaws.{blocks-length}
 use Rattle.model.specs.Views.{blocksOf}
-use Rattle.rows.specs.Exits.{blocks-misformed, blocks-short, blocks-done}
+use Rattle.rows.proofs.Exits.{blocks-misformed, blocks-short, blocks-done}
 use Rattle.rows.proofs.blocks.blocks.Statement.{statement}
 use Rattle.rows.proofs.blocks.blocks.Tie as tie
 

@@ -7,7 +7,7 @@ use Rattle.words.specs.Blocks.{printSize}
 use Rattle.words.specs.Lists.{bit}
 use Rattle.book.specs.Book.{entryAt}
 use Rattle.book.specs.Layout.{bookOf}
-use Rattle.rows.specs.Rows.{row-stored}
+use Rattle.rows.proofs.Rows.{row-stored}
 use Rattle.rows.proofs.blocks.put_block.Statement.{statement}
 use Rattle.rows.proofs.blocks.put_block.Tie as tie
 

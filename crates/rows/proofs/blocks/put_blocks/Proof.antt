@@ -3,7 +3,7 @@ use Prim.Native.Nat.{_-_}
 use native.Mathlib.Omega.{arith}
 use borrow.Author.Needs.{needs}
 use Rattle.book.specs.Layout.{bookOf}
-use Rattle.rows.specs.Rows.{Rows, rows-all, rows-room, rows-more, rows-done}
+use Rattle.rows.proofs.Rows.{Rows, rows-all, rows-room, rows-more, rows-done}
 use Rattle.rows.proofs.blocks.put_blocks.Statement.{statement}
 use Rattle.rows.proofs.blocks.put_blocks.Tie as tie
 

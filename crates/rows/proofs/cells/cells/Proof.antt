@@ -6,7 +6,7 @@ use borrow.Author.Needs.{needs}
 use Rattle.book.proofs.InForm.{holds-form}
 use Rattle.model.proofs.views.EnrolledNumber.{passed-enrolled}
 use Rattle.model.specs.Views.{enrolledNumber, cellsOf}
-use Rattle.rows.specs.Exits.{cells-refused, cells-short, cells-done}
+use Rattle.rows.proofs.Exits.{cells-refused, cells-short, cells-done}
 use Rattle.rows.proofs.cells.cells.Statement.{statement}
 use Rattle.rows.proofs.cells.cells.Tie as tie
 
