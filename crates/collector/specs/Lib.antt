@@ -1,4 +1,1 @@
 pub mod Contracts
-pub mod Passing
-pub mod Sweep
-pub mod CollectExits

@@ -2,7 +2,7 @@
 use mathlib.Core.Path.{sym}
 use borrow.Author.Needs.{needs}
 use Rattle.words.proofs.ChoiceLaws.{failed, passed}
-use Rattle.collector.specs.Sweep.{free-kept, free-freed}
+use Rattle.collector.proofs.Sweep.{free-kept, free-freed}
 use Rattle.collector.proofs.collect.free_over.Statement.{statement}
 use Rattle.collector.proofs.collect.free_over.Tie as tie
 

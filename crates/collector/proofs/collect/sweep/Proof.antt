@@ -5,7 +5,7 @@ use mathlib.Core.Logic.{⊎-elim}
 use native.Mathlib.Omega.{arith}
 use borrow.Author.Needs.{needs}
 use Rattle.words.specs.Lists.{bit}
-use Rattle.collector.specs.Sweep.{Sweeping, sweeping-start, sweeping-inside, sweeping-more, sweeping-end}
+use Rattle.collector.proofs.Sweep.{Sweeping, sweeping-start, sweeping-inside, sweeping-more, sweeping-end}
 use Rattle.collector.proofs.collect.sweep.Statement.{statement}
 use Rattle.collector.proofs.collect.sweep.Tie as tie
 

@@ -13,7 +13,7 @@ use Rattle.book.specs.Book.{Entry, Book, freeEntry, entryAt}
 use Rattle.book.specs.Layout.{bookOf, Holds, Is}
 use Rattle.book.specs.Next.{freed, withEntries, withEntry}
 use Rattle.model.specs.Collect.{isOver, entryAfter}
-use Rattle.collector.specs.Passing.{bit-le, mapTo, mapTo-at, mapTo-more, mapTo-all, count-more}
+use Rattle.collector.proofs.Passing.{bit-le, mapTo, mapTo-at, mapTo-more, mapTo-all, count-more}
 
 -- the blocks below p are swept, the others as they were
 unfoldable pub sweptTo : Book → ℕ → ℕ → Book

@@ -1,0 +1,3 @@
+pub mod Passing
+pub mod Sweep
+pub mod CollectExits
