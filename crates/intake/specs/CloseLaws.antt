@@ -12,8 +12,8 @@ use Rattle.book.specs.Book.{Book, entryAt}
 use Rattle.book.specs.Layout.{bookOf, Holds, Is}
 use Rattle.book.specs.Formed.{Formed}
 use Rattle.model.specs.Backup.{Work, runChanges, begun}
-use Rattle.mover.specs.MoveLaws.{is-same}
-use Rattle.mover.specs.PoolLaws.{start-now}
+use Rattle.mover.proofs.MoveLaws.{is-same}
+use Rattle.mover.proofs.PoolLaws.{start-now}
 use Rattle.mover.specs.Stepping.{RanBy}
 use Rattle.mover.specs.Working.{poolNow, workAt, workOf, Job, Standing, Storable}
 use Rattle.mover.specs.declared.placing.Tally.{Tally}

@@ -12,7 +12,7 @@ use Rattle.list.specs.Changes.{changeAt}
 use Rattle.book.specs.Book.{Entry, entryAt}
 use Rattle.model.specs.Pool.{poolSize, blockAt, withBlock}
 use Rattle.model.proofs.agreement.BlockLaws.{length-with}
-use Rattle.mover.specs.PoolLaws.{Known, block-with, is-now}
+use Rattle.mover.proofs.PoolLaws.{Known, block-with, is-now}
 use Rattle.mover.specs.Working.{heldBlock, blockNow, poolNow}
 
 -- the pool with block p written, where it was free and is held now

@@ -1,9 +1,3 @@
 pub mod Search
-pub mod Finding
 pub mod Working
 pub mod Stepping
-pub mod Indexing
-pub mod PoolLaws
-pub mod MoveLaws
-pub mod PlaceLaws
-pub mod ChangeLaws

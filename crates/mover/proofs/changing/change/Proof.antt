@@ -6,7 +6,7 @@ use Rattle.list.specs.Changes.{changeCount}
 use Rattle.list.proofs.Laws.{changes-within, change-below}
 use Rattle.book.specs.Book.{Sizes}
 use Rattle.book.specs.Layout.{bookOf}
-use Rattle.mover.specs.ChangeLaws.{change-unplaced, change-by, move-indexed}
+use Rattle.mover.proofs.ChangeLaws.{change-unplaced, change-by, move-indexed}
 use Rattle.mover.specs.Stepping.{PlacedBy, StillIndexed}
 use Rattle.mover.specs.declared.placing.Placed.the-variants.{At}
 use borrow.Author.Needs.{needs}

@@ -8,7 +8,7 @@ use Rattle.list.specs.Answers.{indexOf, Valid}
 use Rattle.book.specs.Layout.{bookOf, Holds}
 use Rattle.model.specs.Backup.{runChanges}
 use Rattle.index.specs.Indexed.{Indexed}
-use Rattle.mover.specs.ChangeLaws.{run-more, run-refused, run-done}
+use Rattle.mover.proofs.ChangeLaws.{run-more, run-refused, run-done}
 use Rattle.mover.specs.Stepping.{SteppedBy, StillIndexed}
 use Rattle.mover.specs.Working.{workOf, Standing}
 use Rattle.mover.specs.declared.moving.Step.the-variants.{Next}

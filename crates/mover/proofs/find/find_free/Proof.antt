@@ -6,7 +6,7 @@ use Rattle.book.specs.Book.{isFree}
 use Rattle.book.specs.Layout.{bookOf}
 use Rattle.index.specs.Answers.{foundOf}
 use Rattle.mover.specs.Search.{placeIn}
-use Rattle.mover.specs.Finding.{free-up, free-round}
+use Rattle.mover.proofs.Finding.{free-up, free-round}
 use borrow.Author.Needs.{needs}
 use Rattle.mover.proofs.find.find_free.Statement.{statement}
 use Rattle.mover.proofs.find.find_free.Tie as tie

@@ -14,7 +14,7 @@ use Rattle.book.specs.Layout.{bookOf, Is}
 use Rattle.book.specs.Next.{withEntries}
 use Rattle.model.specs.Backup.{lower, nameBlock}
 use Rattle.mover.specs.Stepping.{MovedBy}
-use Rattle.mover.specs.MoveLaws.{cell-ok, move-zero, move-full, move-goes, name-lowered, at-most-two}
+use Rattle.mover.proofs.MoveLaws.{cell-ok, move-zero, move-full, move-goes, name-lowered, at-most-two}
 use borrow.Author.Needs.{needs}
 use Rattle.mover.proofs.moving.move_to.Statement.{statement}
 use Rattle.mover.proofs.moving.move_to.Tie as tie

@@ -4,7 +4,7 @@ use native.Mathlib.Omega.{arith}
 use lib.ListN.{length}
 use Rattle.book.specs.Book.{Book}
 use Rattle.book.specs.Next.{withEntries, withMaps}
-use Rattle.mover.specs.MoveLaws.{named}
+use Rattle.mover.proofs.MoveLaws.{named}
 use borrow.Author.Needs.{needs}
 use Rattle.mover.proofs.moving.name_block.Statement.{statement}
 use Rattle.mover.proofs.moving.name_block.Tie as tie

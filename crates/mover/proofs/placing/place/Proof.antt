@@ -14,8 +14,8 @@ use Rattle.book.specs.Layout.{bookOf}
 use Rattle.model.specs.Backup.{findHeld}
 use Rattle.index.specs.Answers.{foundOf}
 use Rattle.index.proofs.AnswerLaws.{found-some, found-none}
-use Rattle.mover.specs.Finding.{found-held, found-free}
-use Rattle.mover.specs.PlaceLaws.{prints-size, twelve-by, eleven-by, found-by, taken-by}
+use Rattle.mover.proofs.Finding.{found-held, found-free}
+use Rattle.mover.proofs.PlaceLaws.{prints-size, twelve-by, eleven-by, found-by, taken-by}
 use borrow.Author.Needs.{needs}
 use Rattle.mover.proofs.placing.place.Statement.{statement}
 use Rattle.mover.proofs.placing.place.Tie as tie

@@ -7,7 +7,7 @@ use Rattle.words.specs.Blocks.{blockSize}
 use Rattle.words.specs.Lists.{same}
 use Rattle.words.proofs.Lending.{lent}
 use Rattle.book.specs.Layout.{bookOf}
-use Rattle.mover.specs.PoolLaws.{in-pool, in-list}
+use Rattle.mover.proofs.PoolLaws.{in-pool, in-list}
 use borrow.Author.Needs.{needs}
 use Rattle.mover.proofs.placing.same_block.Statement.{statement}
 use Rattle.mover.proofs.placing.same_block.Tie as tie

@@ -8,8 +8,8 @@ use Rattle.list.proofs.Laws.{length-print}
 use Rattle.book.specs.Book.{Book}
 use Rattle.book.specs.Layout.{bookOf, Is}
 use Rattle.book.specs.Next.{withEntries, withEntry, heldAs}
-use Rattle.mover.specs.Indexing.{cursor-indexed}
-use Rattle.mover.specs.PlaceLaws.{taken-is}
+use Rattle.mover.proofs.Indexing.{cursor-indexed}
+use Rattle.mover.proofs.PlaceLaws.{taken-is}
 use borrow.Author.Needs.{needs}
 use Rattle.mover.proofs.placing.take_block.Statement.{statement}
 use Rattle.mover.proofs.placing.take_block.Tie as tie

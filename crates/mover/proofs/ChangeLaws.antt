@@ -25,9 +25,9 @@ use Rattle.book.specs.Next.{withEntries, withMaps, withRecord}
 use Rattle.model.proofs.agreement.Moving.{moved-held}
 use Rattle.model.specs.Backup.{Work, Placed, lower, nameBlock, moveNumber, moved, moveTo, changeStep, runChanges}
 use Rattle.index.specs.Indexed.{Indexed}
-use Rattle.mover.specs.Indexing.{moved-indexed}
-use Rattle.mover.specs.MoveLaws.{at-most-two}
-use Rattle.mover.specs.PoolLaws.{same-now}
+use Rattle.mover.proofs.Indexing.{moved-indexed}
+use Rattle.mover.proofs.MoveLaws.{at-most-two}
+use Rattle.mover.proofs.PoolLaws.{same-now}
 use Rattle.mover.specs.Stepping.{PlacedBy, MovedBy, SteppedBy, StillIndexed, RanBy, placedNumber}
 use Rattle.mover.specs.Working.{poolNow, workAt, workOf, Standing}
 use Rattle.mover.specs.declared.placing.Tally.{Tally}

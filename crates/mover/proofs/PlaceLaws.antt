@@ -27,9 +27,9 @@ use Rattle.book.specs.Layout.{bookOf, Holds, Is}
 use Rattle.book.specs.Next.{withCursor, withEntries, withEntry, heldAs}
 use Rattle.model.specs.Pool.{blockAt, withBlock}
 use Rattle.model.specs.Backup.{Work, findHeld, findFree, takeBlock, placeFree, placeHeld, place}
-use Rattle.mover.specs.Finding.{found-held, found-free}
-use Rattle.mover.specs.MoveLaws.{is-then, is-same}
-use Rattle.mover.specs.PoolLaws.{Known, block-now, taken-now}
+use Rattle.mover.proofs.Finding.{found-held, found-free}
+use Rattle.mover.proofs.MoveLaws.{is-then, is-same}
+use Rattle.mover.proofs.PoolLaws.{Known, block-now, taken-now}
 use Rattle.mover.specs.Stepping.{takenBook, PlacedBy}
 use Rattle.mover.specs.Working.{heldBlock, blockNow, poolNow, workOf, Job, Standing}
 use Rattle.mover.specs.declared.placing.Tally.{Tally}

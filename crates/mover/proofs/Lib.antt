@@ -1,0 +1,7 @@
+pub mod SearchLaws
+pub mod Finding
+pub mod Indexing
+pub mod PoolLaws
+pub mod MoveLaws
+pub mod PlaceLaws
+pub mod ChangeLaws
