@@ -2,7 +2,4 @@ pub mod Contracts
 pub mod Backups
 pub mod Storing
 pub mod Allowing
-pub mod AllowLaws
 pub mod Closing
-pub mod CloseLaws
-pub mod BackupLaws

@@ -14,7 +14,7 @@ use Rattle.book.proofs.FormedLaws.{formed}
 use Rattle.model.specs.Backup.{backupNumber}
 use Rattle.model.proofs.form.BackupAllowed.{Allowed, number-zero}
 use Rattle.intake.specs.Allowing.{lentNumber, dayRefused, roomNumber, AllowedBy}
-use Rattle.intake.specs.AllowLaws.{lent-facts, lent-refused, number-refused, goes-on, five-above, five-none, seven, eight, by-room, days-bound}
+use Rattle.intake.proofs.AllowLaws.{lent-facts, lent-refused, number-refused, goes-on, five-above, five-none, seven, eight, by-room, days-bound}
 use borrow.Author.Needs.{needs}
 use Rattle.intake.proofs.allowing.allow.Statement.{statement}
 use Rattle.intake.proofs.allowing.allow.Tie as tie

@@ -4,7 +4,7 @@ use mathlib.Core.Path.{sym, ap, _∙_}
 use native.Mathlib.Omega.{arith}
 use lib.Dec.{leb}
 use Rattle.book.specs.Layout.{bookOf}
-use Rattle.intake.specs.AllowLaws.{day-late, day-early, day-first, day-next}
+use Rattle.intake.proofs.AllowLaws.{day-late, day-early, day-first, day-next}
 use borrow.Author.Needs.{needs}
 use Rattle.intake.proofs.allowing.bad_day.Statement.{statement}
 use Rattle.intake.proofs.allowing.bad_day.Tie as tie

@@ -2,7 +2,7 @@
 use mathlib.Core.Path.{_≡_, sym, _∙_}
 use borrow.Author.Needs.{needs}
 use Rattle.buffers.specs.Buffers.{buffersNumber}
-use Rattle.intake.specs.AllowLaws.{lent-first, lent-four, lent-none}
+use Rattle.intake.proofs.AllowLaws.{lent-first, lent-four, lent-none}
 use Rattle.intake.proofs.allowing.lent_number.Statement.{statement}
 use Rattle.intake.proofs.allowing.lent_number.Tie as tie
 

@@ -1,7 +1,7 @@
 -- Each way out by a law of numbers 9 and 10.
 use native.Mathlib.Omega.{arith}
 use Rattle.book.specs.Layout.{bookOf}
-use Rattle.intake.specs.AllowLaws.{room-nine, room-ten, room-none}
+use Rattle.intake.proofs.AllowLaws.{room-nine, room-ten, room-none}
 use borrow.Author.Needs.{needs}
 use Rattle.intake.proofs.allowing.room.Statement.{statement}
 use Rattle.intake.proofs.allowing.room.Tie as tie

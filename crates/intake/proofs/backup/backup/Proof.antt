@@ -4,7 +4,7 @@ use native.Mathlib.Omega.{arith}
 use lib.ListN.{length}
 use lib.Seq.{length-take-le}
 use Rattle.intake.specs.Allowing.{Ready, AllowedBy}
-use Rattle.intake.specs.BackupLaws.{not-allowed, changes-stopped, backed-up}
+use Rattle.intake.proofs.BackupLaws.{not-allowed, changes-stopped, backed-up}
 use borrow.Author.Needs.{needs}
 use Rattle.intake.proofs.backup.backup.Statement.{statement}
 use Rattle.intake.proofs.backup.backup.Tie as tie

@@ -7,7 +7,7 @@ use Rattle.book.specs.Book.{Sizes, Slot}
 use Rattle.book.specs.Layout.{bookOf}
 use Rattle.mover.specs.Stepping.{RanBy}
 use Rattle.mover.specs.declared.moving.Step.the-variants.{Next}
-use Rattle.intake.specs.CloseLaws.{noMarks, standing-start, worked-refused, ran-holds, ran-standing, storable, worked}
+use Rattle.intake.proofs.CloseLaws.{noMarks, standing-start, worked-refused, ran-holds, ran-standing, storable, worked}
 use borrow.Author.Needs.{needs}
 use Rattle.intake.proofs.backup.work_through.Statement.{statement}
 use Rattle.intake.proofs.backup.work_through.Tie as tie

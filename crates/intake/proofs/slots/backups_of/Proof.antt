@@ -5,7 +5,7 @@ use native.Mathlib.Omega.{arith}
 use lib.ListN.{length}
 use denote.Ref.{now}
 use Rattle.book.specs.Layout.{bookOf}
-use Rattle.intake.specs.Backups.{Passed, passed-none, passed-own, passed-other, passed-all}
+use Rattle.intake.proofs.BackupsPassed.{Passed, passed-none, passed-own, passed-other, passed-all}
 use Rattle.intake.proofs.slots.backups_of.Statement.{statement}
 use Rattle.intake.proofs.slots.backups_of.Tie as tie
 

@@ -8,7 +8,7 @@ use Rattle.list.proofs.Laws.{length-block}
 use Rattle.book.specs.Book.{Sizes}
 use Rattle.book.specs.Layout.{bookOf}
 use Rattle.mover.proofs.PoolLaws.{Known}
-use Rattle.intake.specs.Storing.{Stored, stored-none, stored-more, stored-all}
+use Rattle.intake.proofs.StoringLaws.{Stored, stored-none, stored-more, stored-all}
 use borrow.Author.Needs.{needs}
 use Rattle.intake.proofs.storing.store_all.Statement.{statement}
 use Rattle.intake.proofs.storing.store_all.Tie as tie

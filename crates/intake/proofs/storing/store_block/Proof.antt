@@ -13,7 +13,7 @@ use Rattle.list.proofs.Laws.{length-block}
 use Rattle.book.specs.Book.{entryAt}
 use Rattle.book.specs.Layout.{bookOf}
 use Rattle.model.specs.Pool.{withBlock}
-use Rattle.intake.specs.Storing.{stored-old, stored-free, stored-new}
+use Rattle.intake.proofs.StoringLaws.{stored-old, stored-free, stored-new}
 use borrow.Author.Needs.{needs}
 use Rattle.intake.proofs.storing.store_block.Statement.{statement}
 use Rattle.intake.proofs.storing.store_block.Tie as tie
