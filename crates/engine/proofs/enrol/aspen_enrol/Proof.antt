@@ -7,7 +7,7 @@ use Rattle.book.specs.Form.{formNumber}
 use Rattle.book.proofs.InForm.{holds-form}
 use Rattle.model.specs.Enrol.{enrolNumber}
 use Rattle.model.proofs.agreement.EnrolAgree.{enrol-volume}
-use Rattle.engine.specs.EnrolExits.{enrol-misformed, enrol-refused, enrol-done}
+use Rattle.engine.proofs.EnrolExits.{enrol-misformed, enrol-refused, enrol-done}
 use Rattle.engine.proofs.enrol.aspen_enrol.Statement.{statement}
 use Rattle.engine.proofs.enrol.aspen_enrol.Tie as tie
 

@@ -5,7 +5,7 @@ use borrow.Author.Needs.{needs}
 use denote.Ref.{now}
 use Rattle.book.specs.Book.{retentionOf}
 use Rattle.book.specs.Layout.{bookOf}
-use Rattle.engine.specs.EnrolExits.{number-above, number-enrolled, number-zero, number-long, number-none}
+use Rattle.engine.proofs.EnrolExits.{number-above, number-enrolled, number-zero, number-long, number-none}
 use Rattle.engine.proofs.enrol.enrol_number.Statement.{statement}
 use Rattle.engine.proofs.enrol.enrol_number.Tie as tie
 

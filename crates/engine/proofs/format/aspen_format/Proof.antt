@@ -10,7 +10,7 @@ use Rattle.book.specs.Book.{Sizes}
 use Rattle.book.specs.Layout.{bookSize}
 use Rattle.book.specs.Form.{sizesOk}
 use Rattle.book.proofs.Holding.{bounds-ok}
-use Rattle.engine.specs.FormatExits.{format-sizes, format-length, format-done}
+use Rattle.engine.proofs.FormatExits.{format-sizes, format-length, format-done}
 use Rattle.engine.proofs.format.aspen_format.Statement.{statement}
 use Rattle.engine.proofs.format.aspen_format.Tie as tie
 

@@ -1,0 +1,2 @@
+pub mod FormatExits
+pub mod EnrolExits
