@@ -8,8 +8,12 @@ use Rattle.words.specs.Blocks.{unmapped}
 use Rattle.words.specs.Numbers.{two}
 use Rattle.words.proofs.SectionLaws.{start, getD-joined, length-sect, getD-sect, length-fit, inside}
 use Rattle.words.specs.Sections.{flat, fit}
-use Rattle.book.specs.Book.{volumes, Entry, Slot, Rec, Book, freeEntry, noSlot, noRec, entryAt, cellAt, slotAt, recAt, retentionOf}
+use Rattle.book.specs.Book.{volumes, Sizes, Entry, Slot, Rec, Book, freeEntry, noSlot, noRec, entryAt, cellAt, slotAt, recAt, retentionOf}
 use Rattle.book.specs.Layout.{headerSize, entrySize, slotSize, recSize, retentionPlace, entriesFrom, entryPlace, mapsFrom, cellPlace, slotsFrom, slotPlace, recordsFrom, recPlace, bookSize, entryBytes, mapBytes, slotBytes, recBytes, headerWords, sections, bytes}
+
+-- "length: 36 + 20N + 16L + 8S + 6J"
+pub size-of : (z : Sizes) → bookSize z ≡ 36 + 20 * z .n + 16 * z .l + 8 * z .s + 6 * z .j
+size-of z = omega arith
 
 -- ---- the size of each element
 

@@ -9,7 +9,7 @@ pub mod Store
 pub mod Entries
 pub mod Sizing
 pub mod Write
-pub mod Fresh
+pub mod FreshBook
 pub mod Shaped
 pub mod FormNumber
 pub mod FormParts

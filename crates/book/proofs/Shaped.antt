@@ -10,7 +10,7 @@ use Rattle.book.specs.Layout.{slotSize, recSize, entryPlace, slotsFrom, 
 use Rattle.book.proofs.Bytes.{length-bytes, get-entry, get-slot, get-rec}
 use Rattle.book.proofs.Laws.{num-layout, num-n, num-l, num-s, num-j, num-b, num-u, num-zero}
 use Rattle.book.proofs.Shape.{Shape}
-use Rattle.book.proofs.Fresh.{slot-zero, rec-zero}
+use Rattle.book.proofs.FreshBook.{slot-zero, rec-zero}
 
 state-small : (h : Bool) → stateByte h ≤ 1
 state-small true = omega arith

@@ -1,4 +1,20 @@
--- When bytes are a book in form (document 01, "A book is in form when"; numbers 1 and 2).
+-- When bytes are a book in form (document 01, "A book is in form when"; numbers 1 and 2). Its clauses, in its order:
+--   header numbers are in range: layout number and sizes        layoutOk (number 1; the others are number 2)
+--   B ≤ S, U ≤ J                                                rawOk
+--   day ≤ 60,000, cursor < N                                    bookOk
+--   retentions are in range                                     bookOk: retentionOk
+--   expiries ≤ 65,000                                           bookOk: entryOk
+--   states are 0 or 1                                           rawOk: stateOk
+--   a free entry has count 0 and a zero fingerprint             bookOk: entryOk
+--   PBNs in maps and records are below N or 65,535              bookOk: pbnOk, and recOk for a record's before
+--   an after is below N; record LBNs are below L                bookOk: recOk
+--   used slots name enrolled volumes                            bookOk: slotOk
+--   their days never fall, rise strictly within a volume        bookOk: daysOk
+--   and don't pass the header's day                             bookOk: slotOk
+--   pairs: the first at 0, each next, the last ends at U        bookOk: pairsOk
+--   unused slots and records are zero                           rawOk
+--   a slot's second byte, the spare header field are zero       rawOk: secondOk, and zeroPlace
+-- rawOk has what only the bytes show, bookOk what the book that they say shows.
 use Prim.Native.Nat.{ℕ, _+_, _-_, _*_}
 use mathlib.Core.Bool.{Bool, true, not, _&&_, _||_}
 use mathlib.Core.List.{List, [], _∷_}

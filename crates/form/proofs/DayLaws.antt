@@ -1,6 +1,5 @@
 -- Laws of specs/Days.antt.
--- The rule of days in one pass: with each volume's last day + 1 (0 for none) and the last slot's day, no slot is looked at twice. Assumes
--- nothing.
+-- The rule of days in one pass: with each volume's last day + 1 (0 for none) and the last slot's day, no slot is looked at twice.
 use Prim.Native.Nat.{ℕ, _+_, _≤_, _<_}
 use mathlib.Core.Path.{_≡_, refl, sym, _∙_}
 use mathlib.Core.Bool.{Bool, true, false, not, _&&_, _||_}

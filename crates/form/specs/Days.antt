@@ -1,5 +1,4 @@
--- The rule of days in one pass: with each volume's last day + 1 (0 for none) and the last slot's day, no slot is looked at twice. Assumes
--- nothing.
+-- The rule of days in one pass: with each volume's last day + 1 (0 for none) and the last slot's day, no slot is looked at twice.
 use Prim.Native.Nat.{ℕ, _+_}
 use mathlib.Core.Bool.{Bool, true, _&&_}
 use mathlib.Core.List.{List, [], _∷_}

@@ -2,9 +2,9 @@ pub mod AnswerLaws
 pub mod FirstLaws
 pub mod BucketLaws
 pub mod Without
-pub mod Linking
+pub mod LinkLaws
 pub mod FindingLaws
 pub mod Joining
-pub mod Inserting
+pub mod InsertLaws
 pub mod Keeping
 pub mod Holding

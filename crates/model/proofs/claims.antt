@@ -1,3 +1,4 @@
+-- The claims of specs/Claims.antt, proved.
 pub mod FoundBlocks
 pub mod BackupCounts
 pub mod CollectLaws
@@ -6,3 +7,4 @@ pub mod CollectTwice
 pub mod BackupBounds
 pub mod Proved
 pub mod PowerCut
+pub mod ReadPlaces

@@ -1,3 +1,4 @@
+-- Form: every accepted call leaves a book in form (well-formed), and the calls on bytes are the calls on the book.
 pub mod Bounds
 pub mod BackupAllowed
 pub mod FitParts

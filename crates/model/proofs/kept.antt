@@ -1,3 +1,4 @@
+-- Days, journals and what is kept: which blocks the kept backups name, and what a read's rule gives.
 pub mod DayLaws
 pub mod Sound
 pub mod JournalLaws

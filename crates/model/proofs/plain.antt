@@ -1,3 +1,4 @@
+-- The plain store by itself: what its volumes sent is what it reads.
 pub mod HistoryLaws
 pub mod PlainShows
 pub mod PlainPlacing

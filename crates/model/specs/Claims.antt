@@ -1,33 +1,30 @@
--- What is claimed of every list of calls on every fresh book (document 01, "The plain store", last two paragraphs). Statements only.
-use Prim.Native.Nat.{ℕ, _*_, _≤_, _<_, _+_, _-_}
+-- What is claimed: of every list of calls on every fresh book (document 01, "The plain store", last two paragraphs), of power cuts, and of what
+-- backup's numbers count, backup finds and audit says. Statements only; the proofs are in proofs/claims.
+use Prim.Native.Nat.{ℕ, _+_, _-_, _*_, _≤_, _<_}
 use mathlib.Core.Path.{_≡_}
+use mathlib.Core.Logic.{_≢_}
 use mathlib.Core.Bool.{Bool, true, false, not, _&&_, _||_}
 use mathlib.Core.List.{List, [], _∷_, _++_}
-use lib.ListN.{length, getD, drop, set}
-use lib.Dec.{eqb, leb}
+use lib.ListN.{length, getD, set, drop}
+use lib.Dec.{leb, eqb}
 use Rattle.words.specs.Blocks.{unmapped}
+use Rattle.words.specs.Choice.{if_then_else_}
 use Rattle.words.specs.Lists.{all, someOf, countOf, joined}
 use Rattle.words.specs.Outcome.{accepted}
-use Rattle.list.specs.Changes.{lbns, changeCount, changes}
-use Rattle.book.specs.Book.{Sizes, Entry, entryAt, isFree, Book, Rec, cellAt, retentionOf, volumes}
+use Rattle.list.specs.Changes.{lbns, changeCount}
+use Rattle.book.specs.Book.{volumes, Sizes, Entry, Rec, Book, entryAt, isFree, cellAt, retentionOf}
 use Rattle.book.specs.Layout.{bookSize, bookOf}
 use Rattle.model.specs.Pool.{poolSize, blockAt}
+use Rattle.model.specs.Days
+use Rattle.model.specs.Journal.{Backup, journal, days}
+use Rattle.model.specs.Backup.{Backed}
+use Rattle.model.specs.Read.{image}
+use Rattle.model.specs.Audit.{applied, replayed, noMaps, untilIn}
 use Rattle.model.specs.OnBytes.{formatBytes}
-use Rattle.model.specs.Plain.{Plain, start, volumeAt, current, marked, free, held}
+use Rattle.model.specs.Plain.{Plain, start, volumeAt, current, marked}
 use Rattle.model.specs.Calls.{Call, backup, collect, read, audit, Answer, number, backed, freed, block, sound, isBacked}
 use Rattle.model.specs.Runs.{answersOf, endOf, Ours, ours, plain, oursShown, plainShown}
 use Rattle.model.specs.History.{historyOf, dayOf, historyRead}
-use Rattle.words.specs.Choice.{if_then_else_}
-use Rattle.model.specs.Backup.{Backed, backup}
-use Rattle.model.proofs.agreement.BackupAgree.{backed}
-use mathlib.Core.Logic.{_≢_}
-use Rattle.book.specs.Next.{freed}
-use Rattle.model.specs.Collect.{entryAfter}
-use Rattle.model.specs.Journal.{Backup, journal, days}
-use Rattle.model.specs.Read.{image}
-use Rattle.model.specs.Audit.{applied, replayed, befores, noMaps, untilIn, audit}
-use Rattle.model.specs.Backup
-use Rattle.model.specs.Days
 
 -- "one fresh book (as an accepted format of any sizes leaves it) and its pool (any bytes at first) with a spare long enough"
 pub record Fresh : Type 0 where
@@ -150,8 +147,9 @@ pub record PowerCut (f : Fresh) (cs : List Call) (o : Ours) : Type 0 where
   -- all goes on as in the plain store that was given these calls
   pub answers : (ds : List Call) → answersOf (ours (f .spare)) o ds ≡ answersOf plain (plainEnd f cs) ds
 
--- ---- what the numbers in a backup's answer count
+-- ---- what the numbers in the answer of every accepted backup count, of every book, in form or not (`backup-counted`)
 
+-- how many blocks are held
 abbrev pub heldIn : List Entry → ℕ
 heldIn es = countOf (λ (e : Entry). e .held) es
 
@@ -169,7 +167,7 @@ pub record Answered (x : Book) (n : ℕ) (d : Backed) : Type 0 where
   pub changes : length (addedTo x (d .book)) ≡ n
   pub touched : d .touched ≡ n + countOf hadBefore (addedTo x (d .book))
 
--- ---- what steps 1 and 2 of a change find
+-- ---- what steps 1 and 2 of a change find, for any number of blocks (`held-lowest` and `held-none`, `free-next` and `free-none`)
 
 -- "the lowest-numbered held block with this fingerprint"
 pub record IsLowest (es : List Entry) (f : List ℕ) (p : ℕ) : Type 0 where
@@ -188,7 +186,7 @@ pub record IsNext (es : List Entry) (c p : ℕ) : Type 0 where
   pub free : entryAt es p .held ≡ false
   pub first : (q : ℕ) → q < length es → entryAt es q .held ≡ false → passed (length es) c p ≤ passed (length es) c q
 
--- ---- what audit's yes says, clause by clause (document 01, "Audit says yes exactly when")
+-- ---- what audit's yes says, clause by clause, in facts (document 01, "Audit says yes exactly when"; `audit-means`)
 
 -- "each before being the cell that it replaces"
 abbrev pub BeforesIn : List ℕ → List Rec → Type 0

@@ -11,7 +11,8 @@ abbrev pub keptBefore : List ℕ → ℕ → ℕ → Bool
 keptBefore [] r d = true
 keptBefore (t ∷ ts) r d = leb d (t + r)
 
--- "Backup k is kept at day D", by the days of the volume's backups and its retention
+-- "Backup k is kept at day D", by the days of the volume's backups and its retention. Said of k from 1 to the newest: any other number is
+-- refused by 15 first, so that what this says of it counts nowhere
 unfoldable pub kept : List ℕ → ℕ → ℕ → ℕ → Bool
 kept ds r d k = keptBefore (drop k ds) r d
 

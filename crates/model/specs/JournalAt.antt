@@ -1,4 +1,5 @@
--- The journal slot by slot: the backup that a slot holds, and a volume's backups in the slots from one on.
+-- The journal as contracts of functions over it say it: the backup that a slot holds, a volume's backups in the slots from one on, and what
+-- an LBN's first record says.
 use Prim.Native.Nat.{ℕ, _+_}
 use mathlib.Core.Bool.{Bool, not, _||_}
 use mathlib.Core.List.{List, [], _∷_}

@@ -1,4 +1,4 @@
--- What a call that writes an output leaves, for all inputs, and its ways out.
+-- What a call that writes an output leaves, for all inputs.
 use Prim.Native.Nat.{ℕ}
 use mathlib.Core.Path.{_≡_}
 use mathlib.Core.List.{List}

@@ -1,5 +1,4 @@
--- Laws of specs/Choice.antt.
--- A choice by a test, and the laws of tests that proofs use.
+-- Laws of tests, and of a choice by a test (specs/Choice.antt).
 use Prim.Native.Nat.{ℕ, max}
 use mathlib.Core.Path.{_≡_, refl, sym, _∙_}
 use mathlib.Core.Logic.{_⊎_, inl, inr}

@@ -1,4 +1,4 @@
--- A choice by a test, and the laws of tests that proofs use.
+-- A choice by a test.
 use mathlib.Core.Bool.{Bool, true, false}
 
 module _ {ℓ} {A : Type ℓ} where

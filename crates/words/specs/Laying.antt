@@ -1,4 +1,4 @@
--- Runs of stores one after the other, and what they leave.
+-- What the store of a section leaves.
 use Prim.Native.Nat.{ℕ, _+_}
 use mathlib.Core.Path.{_≡_}
 use mathlib.Core.List.{List}

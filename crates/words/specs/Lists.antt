@@ -75,6 +75,7 @@ allZero b = all (λ x. eqb x 0) b
 unfoldable pub each : (ℕ → Bool) → ℕ → ℕ → Bool
 each f i n = all f (upFrom i (n - i))
 
+-- a test as a number
 abbrev pub bit : Bool → ℕ
 bit true = 1
 bit false = 0

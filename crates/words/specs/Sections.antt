@@ -1,5 +1,5 @@
--- Lists made of sections, and sections made of elements of one size: where a byte stands, and what a store does. No law here knows a
--- layout: the size of an element and its encoder are parameters.
+-- Lists made of sections, and sections made of elements of one size. No layout is known here: the size of an element and its encoder are
+-- parameters.
 use mathlib.Core.List.{List, [], _∷_, map}
 use Prim.Native.Nat.{ℕ, zero, suc}
 use lib.ListN.{take, drop}
@@ -19,13 +19,12 @@ module _ {A : Type 0} where
   fit d (suc n) [] = d ∷ fit d n []
   fit d (suc n) (x ∷ l) = x ∷ fit d n l
 
-  -- ---- a list by its elements
+  -- a list by its elements
   abbrev pub tab : ℕ → (ℕ → A) → List A
   tab zero f = []
   tab (suc n) f = f zero ∷ tab n (λ k. f (suc k))
 
--- ---- a section: n places of one size, of which the list fills the first, and d the rest
-
 -- ---- m elements from o
+
 abbrev pub part : List ℕ → ℕ → ℕ → List ℕ
 part b o m = take m (drop o b)

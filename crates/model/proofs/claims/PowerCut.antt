@@ -1,6 +1,4 @@
--- What is claimed where the power fails. A host writes the pool blocks that a call took, syncs them, and then replaces the book. Cut off, it has the
--- new book and the new pool, or the old book and a pool in which only blocks were written that this book has free: from there it goes on as if
--- the call had not been.
+-- The claim about power cuts (`PowerCut` of specs/Claims.antt), proved for every fresh book, every list of calls and all cuts.
 use Prim.Native.Nat.{ℕ, zero, suc, _+_, _*_, _≤_, _<_}
 use mathlib.Core.Path.{_≡_, refl, sym, ap, ap₂, _∙_}
 use mathlib.Core.Bool.{Bool, true, false}

@@ -1,5 +1,4 @@
--- Laws of specs/Written.antt.
--- What a call that writes an output leaves, for all inputs, and its ways out.
+-- The ways out of a call that writes an output (specs/Written.antt).
 use Prim.Native.Nat.{ℕ, zero, suc, _≤_, _<_}
 use mathlib.Core.Path.{_≡_, refl, _∙_}
 use mathlib.Core.List.{List}

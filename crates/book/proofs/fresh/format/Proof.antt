@@ -1,5 +1,5 @@
 -- `book::fresh::format`: what the two steps left, by `is-fresh`.
-use Rattle.book.proofs.Fresh.{is-fresh}
+use Rattle.book.proofs.FreshBook.{is-fresh}
 use borrow.Author.Needs.{needs}
 use Rattle.book.proofs.fresh.format.Statement.{statement}
 use Rattle.book.proofs.fresh.format.Tie as tie

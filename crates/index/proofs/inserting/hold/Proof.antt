@@ -14,7 +14,7 @@ use Rattle.index.specs.Indexed.{Indexed}
 use Rattle.index.proofs.Without.{without}
 use Rattle.index.proofs.Joining.{Joins, homeOf}
 use Rattle.index.proofs.Holding.{held-joins, held-home, held-without}
-use Rattle.index.proofs.Inserting.{Before, walk-start, walk-up, walk-more, insert-first, insert-after}
+use Rattle.index.proofs.InsertLaws.{Before, walk-start, walk-up, walk-more, insert-first, insert-after}
 use Rattle.index.proofs.inserting.hold.Statement.{statement}
 use Rattle.index.proofs.inserting.hold.Tie as tie
 

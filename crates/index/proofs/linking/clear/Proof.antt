@@ -1,5 +1,5 @@
 -- N as the first of each bucket says that there is none.
-use Rattle.index.proofs.Linking.{linked-none}
+use Rattle.index.proofs.LinkLaws.{linked-none}
 use borrow.Author.Needs.{needs}
 use Rattle.index.proofs.linking.clear.Statement.{statement}
 use Rattle.index.proofs.linking.clear.Tie as tie

@@ -6,7 +6,7 @@ use lib.ListN.{length}
 use Rattle.words.proofs.ChoiceLaws.{failed, passed}
 use Rattle.book.specs.Layout.{bookOf}
 use Rattle.index.specs.Bucket.{bucketOf}
-use Rattle.index.proofs.Linking.{linked-free, linked-held}
+use Rattle.index.proofs.LinkLaws.{linked-free, linked-held}
 use borrow.Author.Needs.{needs}
 use Rattle.index.proofs.linking.link.Statement.{statement}
 use Rattle.index.proofs.linking.link.Tie as tie

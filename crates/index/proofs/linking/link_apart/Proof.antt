@@ -10,7 +10,7 @@ use Rattle.book.specs.Layout.{bookOf}
 use Rattle.index.specs.Bucket.{bucketOf}
 use Rattle.index.proofs.BucketLaws.{apart-free, apart-held}
 use Rattle.index.proofs.FindingLaws.{chain-start, search-start}
-use Rattle.index.proofs.Linking.{linked-free, linked-held}
+use Rattle.index.proofs.LinkLaws.{linked-free, linked-held}
 use borrow.Author.Needs.{needs}
 use Rattle.index.proofs.linking.link_apart.Statement.{statement}
 use Rattle.index.proofs.linking.link_apart.Tie as tie
