@@ -23,7 +23,7 @@
  * to have one writer at a time is the caller's duty.
  *
  * Stack. On x86-64 aspen_audit takes 49,440 bytes of it and aspen_backup 24,928, nearly all for
- * tables that live for one call; every other function takes 208 at most.
+ * tables that live for one call; every other function takes 256 at most.
  */
 #ifndef ASPEN_H
 #define ASPEN_H
