@@ -1,4 +1,4 @@
--- Two rows of numbers agree, place by place: the test, and its laws for a loop that gathers it.
+-- Two rows of numbers agree, place by place.
 use Prim.Native.Nat.{ℕ}
 use mathlib.Core.Bool.{Bool}
 use lib.Dec.{eqb}
