@@ -1,0 +1,85 @@
+-- Calls in bytes: a head of 14 bytes and its data, one after the other to the end (docs/CALLS.md). Assumes nothing.
+use Prim.Native.Nat.{ℕ, zero, suc, _+_, _*_, _/_, _%_}
+use mathlib.Core.Bool.{Bool, true, false, _&&_}
+use mathlib.Core.List.{List, [], _∷_, _++_}
+use lib.Dec.{leb, eqb}
+use lib.ListN.{length, getD}
+use Rattle.words.specs.Choice.{if_then_else_}
+use Rattle.words.specs.Numbers.{two, num}
+use Rattle.words.specs.Outcome.{Outcome, refused, accepted, andThen}
+use Rattle.words.specs.Sections.{part}
+use Rattle.model.specs.Calls.{Call, enrol, backup, collect, read, audit}
+
+-- ---- a head: "kind u8, a zero byte, four u16 arguments a b c d, u32 length of the data"
+
+abbrev pub headSize : ℕ
+headSize = 14
+
+-- how many bytes of data the call at a place has; how many it has with its head
+unfoldable pub dataSize : List ℕ → ℕ → ℕ
+dataSize b at = num b (at + 10) + num b (at + 12) * 65536
+
+unfoldable pub callSize : List ℕ → ℕ → ℕ
+callSize b at = headSize + dataSize b at
+
+-- "What a kind doesn't use is zero, and only a backup has data"; an unknown kind is no call
+unfoldable pub unusedZero : ℕ → ℕ → ℕ → ℕ → ℕ → ℕ → Bool
+unusedZero kind a b c d size =
+    if eqb kind 0 then eqb c 0 && eqb d 0 && eqb size 0 else
+    if eqb kind 1 then eqb c 0 && eqb d 0 else
+    if eqb kind 2 then eqb b 0 && eqb c 0 && eqb d 0 && eqb size 0 else
+    if eqb kind 3 then eqb d 0 && eqb size 0 else
+    if eqb kind 4 then eqb a 0 && eqb b 0 && eqb c 0 && eqb d 0 && eqb size 0 else
+    false
+
+-- "0 enrol (a volume, b retention), 1 backup (a volume, b day; the data is the change list), 2 collect (a day), 3 read (a volume, b number,
+-- c LBN), 4 audit"
+unfoldable pub callOf : ℕ → ℕ → ℕ → ℕ → List ℕ → Call
+callOf kind a b c list =
+    if eqb kind 0 then enrol a b else
+    if eqb kind 1 then backup a b list else
+    if eqb kind 2 then collect a else
+    if eqb kind 3 then read a b c else
+    audit
+
+-- ---- the call at a place
+
+unfoldable pub unusedZeroAt : List ℕ → ℕ → Bool
+unusedZeroAt b at = unusedZero (getD b at 0) (num b (at + 2)) (num b (at + 4)) (num b (at + 6)) (num b (at + 8)) (dataSize b at)
+
+-- neither head nor data end early, and what isn't used is zero
+unfoldable pub isCall : List ℕ → ℕ → Bool
+isCall b at = leb (at + headSize) (length b) && eqb (getD b (at + 1) 0) 0 && unusedZeroAt b at && leb (at + callSize b at) (length b)
+
+unfoldable pub callAt : List ℕ → ℕ → Call
+callAt b at = callOf (getD b at 0) (num b (at + 2)) (num b (at + 4)) (num b (at + 6)) (part b (at + headSize) (dataSize b at))
+
+-- ---- a list of calls; 19: the bytes are none
+
+abbrev pub before : Call → List Call → Outcome (List Call)
+before c cs = accepted (c ∷ cs)
+
+-- the calls from a place to the end, n at most
+abbrev pub callsFrom : ℕ → List ℕ → ℕ → Outcome (List Call)
+callsFrom zero b at = if leb (length b) at then accepted [] else refused 19
+callsFrom (suc n) b at =
+    if leb (length b) at then accepted [] else
+    if isCall b at then andThen (callsFrom n b (at + callSize b at)) (before (callAt b at)) else
+    refused 19
+
+-- no list has more calls than bytes
+unfoldable pub callsOf : List ℕ → Outcome (List Call)
+callsOf b = callsFrom (length b) b 0
+
+-- ---- the bytes of a call
+
+abbrev pub rowBytes : ℕ → ℕ → ℕ → ℕ → List ℕ → List ℕ
+rowBytes kind a b c list =
+    kind ∷ 0 ∷ two a ++ (two b ++ (two c ++ (two 0 ++ (two (length list % 65536) ++ (two (length list / 65536) ++ list)))))
+
+abbrev pub callBytes : Call → List ℕ
+callBytes (enrol v r) = rowBytes 0 v r 0 []
+callBytes (backup v t list) = rowBytes 1 v t 0 list
+callBytes (collect t) = rowBytes 2 t 0 0 []
+callBytes (read v k lbn) = rowBytes 3 v k lbn []
+callBytes audit = rowBytes 4 0 0 0 []

@@ -1,0 +1,92 @@
+-- No call is refused by 0. Assumes nothing.
+use Prim.Native.Nat.{ℕ, zero, suc, _+_}
+use mathlib.Core.Path.{_≡_, refl}
+use mathlib.Core.Bool.{Bool, true, false}
+use mathlib.Core.List.{List, [], _∷_}
+use mathlib.Core.Option.{Option, none, some}
+use native.Mathlib.Omega.{arith}
+use Rattle.words.specs.Accepted.{refused-not}
+use Rattle.words.specs.Choice.{if_then_else_}
+use Rattle.words.specs.Lists.{same}
+use Rattle.words.specs.Outcome.{Outcome, refused, accepted, andThen, unless}
+use Rattle.list.specs.Changes.{Change, changes}
+use Rattle.book.specs.Book.{retentionOf}
+use Rattle.book.specs.Form.{formNumber}
+use Rattle.book.specs.Layout.{bookOf}
+use Rattle.model.specs.Backup
+use Rattle.model.specs.Backup.{Work, Placed, findHeld, findFree, placeFree, placeHeld, place, moveTo, moveNumber, changeStep, runChanges, begun, backupNumber}
+use Rattle.model.specs.Collect
+use Rattle.model.specs.Collect.{collectNumber}
+use Rattle.model.specs.Pool.{blockAt}
+use Rattle.model.specs.OnBytes.{numberOf, poolNumber, spareNumber, backupBytes, collectBytes, collectedBytes, auditBytes}
+
+abbrev pub Proper : {A : Type 0} → Outcome A → Type 0
+Proper {A} o = (numberOf o ≡ 0) → (a : A) × (o ≡ accepted a)
+
+module _ {A : Type 0} where
+  pub proper-accepted : (a : A) → Proper (accepted a)
+  proper-accepted a e = (a, refl)
+
+  pub proper-refused : (k : ℕ) → Proper {A = A} (refused (suc k))
+  proper-refused k e = absurd (omega arith)
+
+  pub proper-unless : (k : ℕ) (o : Outcome A) → Proper o → Proper (unless k o)
+  proper-unless zero o p e = p e
+  proper-unless (suc k) o p e = absurd (omega arith)
+
+  pub not-refused : (k : ℕ) → Proper {A = A} (refused k) → k ≡ 0 → ⊥
+  not-refused k p e = let a = p e in refused-not k (a .0) (a .1)
+
+  pub proper-then : {B : Type 0} (o : Outcome A) (f : A → Outcome B) → Proper o → ((a : A) → Proper (f a)) → Proper (andThen o f)
+  proper-then (refused k) f p q e = absurd (not-refused k p e)
+  proper-then (accepted a) f p q e = q a e
+
+  pub number-unless : (k : ℕ) (o : Outcome A) → numberOf (unless k o) ≡ 0 → (k ≡ 0) × (numberOf o ≡ 0)
+  number-unless zero o e = (refl, e)
+  number-unless (suc k) o e = absurd (omega arith)
+
+pub collect-proper : (b : List ℕ) (t : ℕ) → Proper (collectBytes b t)
+unfolding collectBytes Collect.collect
+collect-proper b t =
+    proper-unless (formNumber b) _
+    (proper-then (Collect.collect (bookOf b) t) (λ d. accepted (collectedBytes d))
+    (proper-unless (collectNumber (bookOf b) t) _ (proper-accepted _)) (λ d. proper-accepted _))
+
+pub audit-proper : (b : List ℕ) → Proper (auditBytes b)
+unfolding auditBytes
+audit-proper b = proper-unless (formNumber b) _ (proper-accepted _)
+
+place-proper : (c : Change) (w : Work) → Proper (place c w)
+unfolding place placeHeld placeFree
+place-proper c w = held (findHeld (w .book .entries) (c .print))
+  where
+    free : (o : Option ℕ) → Proper (placeFree c w o)
+    free none = proper-refused 11
+    free (some p) = proper-accepted _
+
+    check : (t : Bool) (d : Placed) → Proper (if t then accepted d else refused 11)
+    check true d = proper-accepted d
+    check false d = proper-refused 10
+
+    held : (o : Option ℕ) → Proper (placeHeld c w o)
+    held none = free (findFree (w .book .entries) (w .book .cursor))
+    held (some p) = check (same (blockAt (w .pool) p) (c .block)) _
+
+step-proper : (v until : ℕ) (c : Change) (w : Work) → Proper (changeStep v until c w)
+unfolding changeStep moveTo
+step-proper v until c w = proper-then (place c w) _ (place-proper c w) (λ d. proper-unless (moveNumber until _ (d .pbn) (d .work .book .entries)) _ (proper-accepted _))
+
+changes-proper : (v until : ℕ) (cs : List Change) (w : Work) → Proper (runChanges v until cs w)
+changes-proper v until [] w = proper-accepted w
+changes-proper v until (c ∷ cs) w = proper-then (changeStep v until c w) _ (step-proper v until c w) (λ w′. changes-proper v until cs w′)
+
+pub backup-proper : (b pool : List ℕ) (spare v t : ℕ) (list : List ℕ) → Proper (backupBytes b pool spare v t list)
+unfolding backupBytes Backup.backup
+backup-proper b pool spare v t list =
+    proper-unless (formNumber b) _
+    (proper-unless (poolNumber b pool) _
+    (proper-unless (spareNumber b spare) _
+    (proper-then (Backup.backup (bookOf b) pool v t list) _
+    (proper-unless (backupNumber (bookOf b) v t list) _
+    (proper-then (runChanges v (t + retentionOf (bookOf b) v) (changes list) (begun (bookOf b) pool)) _ (changes-proper v _ (changes list) _) (λ w. proper-accepted _)))
+    (λ d. proper-accepted _))))

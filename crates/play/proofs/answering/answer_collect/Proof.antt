@@ -1,0 +1,50 @@
+-- `play::answering::answer_collect` meets its contract.
+use borrow.Author.Needs.{needs}
+use Rattle.play.specs.Doing.{collect-refused, collect-done}
+use Rattle.play.proofs.answering.answer_collect.Statement.{statement}
+use Rattle.play.proofs.answering.answer_collect.Tie as tie
+
+aspen-collect-requires : tie.Need-aspen-collect-requires
+aspen-collect-requires c κs = search needs
+
+tell-requires : tie.Need-tell-requires
+tell-requires c κs = search needs
+
+same-length : tie.Need-same-length
+same-length c = search needs
+
+same-length-2 : tie.Need-same-length-2
+same-length-2 c = search needs
+
+returns : tie.Need-returns
+returns c = λ spare pool.
+    let a = c .before .before .before .before .before .before .before .before .before .before .before .before .args in
+    collect-refused spare (a .book .now) pool (a .answers .now) (a .to) (a .day) _ _ _ (c .before .before .before .before .before .before .before .aspen-collect .ensures) (c .before .before .before .before .if1 .taken) (c .before .before .tell .ensures)
+
+tell-requires-2 : tie.Need-tell-requires-2
+tell-requires-2 c κs = search needs
+
+same-length-3 : tie.Need-same-length-3
+same-length-3 c = search needs
+
+same-length-4 : tie.Need-same-length-4
+same-length-4 c = search needs
+
+returns-2 : tie.Need-returns-2
+returns-2 c = λ spare pool.
+    let a = c .before .before .before .before .before .before .before .before .before .before .before .before .args in
+    collect-done spare (a .book .now) pool (a .answers .now) (a .to) (a .day) _ _ _ (c .before .before .before .before .before .before .before .aspen-collect .ensures) (c .before .before .before .before .if1 .left) (c .before .before .tell2 .ensures)
+
+pub answer-collect-spec : {M : Type 1} → statement M
+answer-collect-spec =
+    tie.close
+    (tie.spec
+    aspen-collect-requires
+    tell-requires
+    same-length
+    same-length-2
+    returns
+    tell-requires-2
+    same-length-3
+    same-length-4
+    returns-2)

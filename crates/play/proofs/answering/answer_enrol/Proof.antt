@@ -1,0 +1,26 @@
+-- `play::answering::answer_enrol` meets its contract.
+use borrow.Author.Needs.{needs}
+use Rattle.play.specs.Doing.{enrol-did}
+use Rattle.play.proofs.answering.answer_enrol.Statement.{statement}
+use Rattle.play.proofs.answering.answer_enrol.Tie as tie
+
+aspen-enrol-requires : tie.Need-aspen-enrol-requires
+aspen-enrol-requires c κs = search needs
+
+tell-requires : tie.Need-tell-requires
+tell-requires c κs = search needs
+
+same-length : tie.Need-same-length
+same-length c = search needs
+
+same-length-2 : tie.Need-same-length-2
+same-length-2 c = search needs
+
+returns : tie.Need-returns
+returns c = λ spare pool.
+    let a = c .before .before .before .before .before .before .before .before .before .before .args in
+    enrol-did spare (a .book .now) pool (a .answers .now) (a .to) (a .v) (a .retention) _ (c .before .before .before .before .before .before .aspen-enrol .ensures) (c .before .before .tell .ensures)
+
+pub answer-enrol-spec : {M : Type 1} → statement M
+answer-enrol-spec =
+    tie.close (tie.spec aspen-enrol-requires tell-requires same-length same-length-2 returns)

@@ -1,0 +1,85 @@
+-- `play::answering::answer_read` meets its contract.
+use mathlib.Core.Path.{_∙_}
+use native.Mathlib.Omega.{arith}
+use lib.ListN.{length-set}
+use borrow.Author.Needs.{needs}
+use Rattle.play.specs.Blocks.{located-inside}
+use Rattle.play.specs.Doing.{read-refused, read-done}
+use Rattle.play.specs.Storing.{lent-length}
+use Rattle.play.proofs.answering.answer_read.Statement.{statement}
+use Rattle.play.proofs.answering.answer_read.Tie as tie
+
+aspen-read-requires : tie.Need-aspen-read-requires
+aspen-read-requires c κs = search needs
+
+tell-requires : tie.Need-tell-requires
+tell-requires c κs = search needs
+
+same-length : tie.Need-same-length
+same-length c = search needs
+
+returns : tie.Need-returns
+returns c = λ spare.
+    let a = c .before .before .before .before .before .before .before .before .before .before .args in
+    read-refused spare (a .book .now) (a .pool .now) (a .answers .now) (a .to) (a .v) (a .number) (a .lbn) _ _ _ (c .before .before .before .before .before .aspen-read .ensures) (c .before .before .before .before .if1 .taken) (c .before .before .tell .ensures)
+
+slice-write-answers : tie.Need-slice-write-answers
+slice-write-answers c = search needs
+
+add-put-bytes : tie.Need-add-put-bytes
+add-put-bytes c = search needs
+
+add-put-bytes-2 : tie.Need-add-put-bytes-2
+add-put-bytes-2 c = search needs
+
+sub-put-bytes : tie.Need-sub-put-bytes
+sub-put-bytes c = search needs
+
+part-put-bytes-start : tie.Need-part-put-bytes-start
+part-put-bytes-start c = search needs
+
+part-put-bytes-end : tie.Need-part-put-bytes-end
+part-put-bytes-end c =
+    let a = c .before .before .before .before .before .before .before .before .args in
+    let in-pool = located-inside (a .book .now) (a .pool .now) (a .v) (a .number) (a .lbn) _ _ _ (c .before .before .before .aspen-read .ensures) (c .before .before .if1 .left) in
+    omega arith
+
+put-bytes-requires : tie.Need-put-bytes-requires
+put-bytes-requires c κs =
+    let a = c .before .before .before .before .before .before .before .before .before .args in
+    let in-pool = located-inside (a .book .now) (a .pool .now) (a .v) (a .number) (a .lbn) _ _ _ (c .before .before .before .before .aspen-read .ensures) (c .before .before .before .if1 .left) in
+    omega (arith, length-set (a .answers .now) (a .to) 3, lent-length (a .pool .now) _ in-pool)
+
+add-result : tie.Need-add-result
+add-result c = search needs
+
+add-result-2 : tie.Need-add-result-2
+add-result-2 c = search needs
+
+same-length-2 : tie.Need-same-length-2
+same-length-2 c = c .before .before .put-bytes .kept .0 ∙ simp length-set
+
+returns-2 : tie.Need-returns-2
+returns-2 c = λ spare.
+    let a = c .before .before .before .before .before .before .before .before .before .before .before .before .args in
+    read-done spare (a .book .now) (a .pool .now) (a .answers .now) (a .to) (a .v) (a .number) (a .lbn) _ _ _ (c .before .before .before .before .before .before .before .aspen-read .ensures) (c .before .before .before .before .before .before .if1 .left) (c .before .before .put-bytes .ensures)
+
+pub answer-read-spec : {M : Type 1} → statement M
+answer-read-spec =
+    tie.close
+    (tie.spec
+    aspen-read-requires
+    tell-requires
+    same-length
+    returns
+    slice-write-answers
+    add-put-bytes
+    add-put-bytes-2
+    sub-put-bytes
+    part-put-bytes-start
+    part-put-bytes-end
+    put-bytes-requires
+    add-result
+    add-result-2
+    same-length-2
+    returns-2)

@@ -1,0 +1,98 @@
+-- `play::checking::check`: what is left, with the longest answers so far, is refused as the whole is.
+use Prim.Native.Nat.{ℕ, _+_, _-_, _≤_}
+use mathlib.Core.Path.{_≡_, sym, ap, _∙_}
+use native.Mathlib.Omega.{arith}
+use lib.ListN.{length}
+use borrow.Author.Needs.{needs}
+use Rattle.words.specs.Choice.{failed, passed}
+use Rattle.model.specs.OnBytes.{numberOf}
+use Rattle.calls.specs.Coding.{callSize, callAt}
+use Rattle.calls.specs.Answers.{longest}
+use Rattle.calls.specs.Bound.{addedTo, numberFrom, number-begin, number-broken, number-more, number-end, room-passed, room-enough}
+use Rattle.calls.specs.Contracts.{playable}
+use Rattle.calls.specs.Reading.{call-past, call-inside}
+use Rattle.calls.specs.Short.{longest-at}
+use Rattle.play.proofs.checking.check.Statement.{statement}
+use Rattle.play.proofs.checking.check.Tie as tie
+
+abbrev Inv-loop : tie.InvT-loop
+Inv-loop calls room at₀ most₀ at most = (at ≤ length calls) × (numberOf (playable calls room) ≡ numberFrom room calls at most)
+
+abbrev μ-loop : tie.MeasureT-loop
+μ-loop calls room at₀ most₀ at most = length calls - at
+
+loop-holds : tie.Need-loop-holds Inv-loop μ-loop
+loop-holds c = (omega arith, number-begin (c .before .args .room) (c .before .args .calls .now))
+
+is-call-requires : tie.Need-is-call-requires Inv-loop μ-loop
+is-call-requires c κs = omega arith
+
+returns : tie.Need-returns Inv-loop μ-loop
+returns c = let l = c .before .before .before .loop in
+    sym (l .inv .1 ∙ number-broken (c .before .before .before .before .before .args .room) (c .before .before .before .before .before .args .calls .now) (l .at) (l .most) (c .before .before .loop-test .taken) (failed (c .before .is-call .ensures) (c .if1 .taken)))
+
+shared-slice-read-longest : tie.Need-shared-slice-read-longest Inv-loop μ-loop
+shared-slice-read-longest c = omega arith
+
+longest-requires : tie.Need-longest-requires Inv-loop μ-loop
+longest-requires c κs = search needs
+
+added-requires : tie.Need-added-requires Inv-loop μ-loop
+added-requires c κs = (omega arith, c .longest .ensures .1)
+
+add-at : tie.Need-add-at Inv-loop μ-loop
+add-at c = let i = call-inside (c .before .before .before .before .before .before .before .before .args .calls .now) (c .before .before .before .before .before .before .loop .at) (passed (c .before .before .before .before .is-call .ensures) (c .before .before .before .if1 .left)) in omega arith
+
+data-size-requires : tie.Need-data-size-requires Inv-loop μ-loop
+data-size-requires c κs = call-inside (c .before .before .before .before .before .before .before .before .args .calls .now) (c .before .before .before .before .before .before .loop .at) (passed (c .before .before .before .before .is-call .ensures) (c .before .before .before .if1 .left)) .0
+
+add-at-2 : tie.Need-add-at-2 Inv-loop μ-loop
+add-at-2 c = let i = call-inside (c .before .before .before .before .before .before .before .before .before .args .calls .now) (c .before .before .before .before .before .before .before .loop .at) (passed (c .before .before .before .before .before .is-call .ensures) (c .before .before .before .before .if1 .left)) in omega (arith, c .data-size .ensures .0)
+
+loop-less : tie.Need-loop-less Inv-loop μ-loop
+loop-less c = let i = call-inside (c .before .before .before .before .before .before .before .before .before .args .calls .now) (c .before .before .before .before .before .before .before .loop .at) (passed (c .before .before .before .before .before .is-call .ensures) (c .before .before .before .before .if1 .left)) in omega (arith, c .data-size .ensures .0)
+
+loop-again : tie.Need-loop-again Inv-loop μ-loop
+loop-again c =
+    let a = c .before .before .before .before .before .before .before .before .before .args in
+    let l = c .before .before .before .before .before .before .before .loop in
+    let is = passed (c .before .before .before .before .before .is-call .ensures) (c .before .before .before .before .if1 .left) in
+    let i = call-inside (a .calls .now) (l .at) is in
+    let past : l .at + 14 + c .data-size .result ≡ l .at + callSize (a .calls .now) (l .at) =
+    ap (λ (k : ℕ). l .at + 14 + k) (c .data-size .ensures .0) ∙ call-past (a .calls .now) (l .at)
+    in
+    let kind = longest-at (a .calls .now) (l .at) in
+    let sum : c .before .added .result ≡ addedTo (a .room) (l .most) (longest (callAt (a .calls .now) (l .at))) =
+    c .before .added .ensures ∙ ap (λ (k : ℕ). addedTo (a .room) (l .most) k) (c .before .before .longest .ensures .0 ∙ sym kind)
+    in
+    (omega (arith, c .data-size .ensures .0), rw (past, sum) (l .inv .1 ∙ number-more (a .room) (a .calls .now) (l .at) (l .most) (c .before .before .before .before .before .before .loop-test .taken) is))
+
+returns-2 : tie.Need-returns-2 Inv-loop μ-loop
+returns-2 c = let l = c .before .before .loop in
+    let a = c .before .before .before .before .args in
+    sym (l .inv .1 ∙ number-end (a .room) (a .calls .now) (l .at) (l .most) (c .before .loop-test .left) ∙ room-passed (a .room) (l .most) (c .if2 .taken))
+
+returns-3 : tie.Need-returns-3 Inv-loop μ-loop
+returns-3 c = let l = c .before .before .loop in
+    let a = c .before .before .before .before .args in
+    sym (l .inv .1 ∙ number-end (a .room) (a .calls .now) (l .at) (l .most) (c .before .loop-test .left) ∙ room-enough (a .room) (l .most) (c .if2 .left))
+
+pub check-spec : {M : Type 1} → statement M
+check-spec =
+    tie.close
+    (tie.spec
+    Inv-loop
+    μ-loop
+    loop-holds
+    is-call-requires
+    returns
+    shared-slice-read-longest
+    longest-requires
+    added-requires
+    add-at
+    data-size-requires
+    add-at-2
+    loop-less
+    loop-again
+    returns-2
+    returns-3)

@@ -1,0 +1,61 @@
+-- `play::playing::aspen_play`: a list that nothing refuses is played.
+use mathlib.Core.Path.{sym, _∙_}
+use native.Mathlib.Omega.{arith}
+use borrow.Author.Needs.{needs}
+use Rattle.calls.specs.Bound.{playable-good, played-refused, played-all, played-short}
+use Rattle.play.proofs.playing.aspen_play.Statement.{statement}
+use Rattle.play.proofs.playing.aspen_play.Tie as tie
+
+room-of-requires : tie.Need-room-of-requires
+room-of-requires c κs = search needs
+
+check-requires : tie.Need-check-requires
+check-requires c κs = search needs
+
+returns : tie.Need-returns
+returns c =
+    let a = c .before .before .before .before .before .before .before .before .args in
+    played-refused (a .calls .now) (a .answers .now) _ (c .before .before .room-of .ensures .0) (c .before .check .ensures) (c .if1 .taken)
+
+play-list-requires : tie.Need-play-list-requires
+play-list-requires c κs =
+    let a = c .before .before .before .before .before .before .before .before .before .before .before .before .args in
+    let g = playable-good _ (a .calls .now) (sym (c .before .before .before .before .before .check .ensures) ∙ c .before .before .before .before .if1 .left) in
+    (g .0, omega (arith, g .1, c .before .before .before .before .before .before .room-of .ensures .1))
+
+cast-written : tie.Need-cast-written
+cast-written c =
+    let a = c .before .before .before .before .before .before .before .before .before .before .before .before .before .before .before .before .before .before .before .before .before .args in
+    omega (arith, c .before .before .before .before .before .before .before .before .before .before .before .before .before .before .before .room-of .ensures .2, played-short (a .calls .now) (a .answers .now) _ (c .before .before .before .before .before .before .before .before .before .before .before .before .before .before .before .room-of .ensures .0) (sym (c .before .before .before .before .before .before .before .before .before .before .before .before .before .before .check .ensures) ∙ c .before .before .before .before .before .before .before .before .before .before .before .before .before .if1 .left) (c .before .before .before .before .before .before .before .before .play-list .ensures))
+
+same-length : tie.Need-same-length
+same-length c = search needs
+
+same-length-2 : tie.Need-same-length-2
+same-length-2 c = search needs
+
+same-length-3 : tie.Need-same-length-3
+same-length-3 c = search needs
+
+same-length-4 : tie.Need-same-length-4
+same-length-4 c = search needs
+
+returns-2 : tie.Need-returns-2
+returns-2 c =
+    let a = c .before .before .before .before .before .before .before .before .before .before .before .before .before .before .before .before .before .before .before .before .before .args in
+    played-all (a .calls .now) (a .answers .now) _ (c .before .before .before .before .before .before .before .before .before .before .before .before .before .before .before .room-of .ensures .0) (sym (c .before .before .before .before .before .before .before .before .before .before .before .before .before .before .check .ensures) ∙ c .before .before .before .before .before .before .before .before .before .before .before .before .before .if1 .left) (c .before .before .before .before .before .before .before .before .play-list .ensures)
+
+pub aspen-play-spec : {M : Type 1} → statement M
+aspen-play-spec =
+    tie.close
+    (tie.spec
+    room-of-requires
+    check-requires
+    returns
+    play-list-requires
+    cast-written
+    same-length
+    same-length-2
+    same-length-3
+    same-length-4
+    returns-2)

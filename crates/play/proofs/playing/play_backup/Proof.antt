@@ -1,0 +1,90 @@
+-- `play::playing::play_backup`: the data of the call is the change list.
+use Prim.Native.Nat.{ℕ, _+_, _-_, _≤_}
+use mathlib.Core.Path.{_≡_, ap, _∙_}
+use native.Mathlib.Omega.{arith}
+use lib.ListN.{length, take, drop}
+use borrow.Author.Needs.{needs}
+use Rattle.words.specs.Lending.{lent}
+use Rattle.words.specs.Sections.{part}
+use Rattle.calls.specs.Coding.{dataSize}
+use Rattle.calls.specs.Reading.{call-inside}
+use Rattle.play.proofs.playing.play_backup.Statement.{statement}
+use Rattle.play.proofs.playing.play_backup.Tie as tie
+
+inside : (c : tie.After-slice-known4) → (c .before .before .before .before .before .args .at + 14 ≤ length (c .before .before .before .before .before .args .calls .now)) × (c .before .before .before .before .before .args .at + 14 + dataSize (c .before .before .before .before .before .args .calls .now) (c .before .before .before .before .before .args .at) ≤ length (c .before .before .before .before .before .args .calls .now))
+inside c = call-inside (c .before .before .before .before .before .args .calls .now) (c .before .before .before .before .before .args .at) (c .before .before .before .before .before .pre .0)
+
+add-from : tie.Need-add-from
+add-from c = let i = inside (c) in omega (arith)
+
+data-size-requires : tie.Need-data-size-requires
+data-size-requires c κs = inside (c) .0
+
+add-end : tie.Need-add-end
+add-end c = let i = inside (c .before) in omega (arith, c .data-size .ensures .0)
+
+add-u16-at : tie.Need-add-u16-at
+add-u16-at c = let i = inside (c .before) in omega (arith)
+
+u16-at-requires : tie.Need-u16-at-requires
+u16-at-requires c κs = let i = inside (c .before) in omega (arith)
+
+add-u16-at-2 : tie.Need-add-u16-at-2
+add-u16-at-2 c = let i = inside (c .before .before) in omega (arith)
+
+u16-at-requires-2 : tie.Need-u16-at-requires-2
+u16-at-requires-2 c κs = let i = inside (c .before .before) in omega (arith)
+
+sub-answer-backup : tie.Need-sub-answer-backup
+sub-answer-backup c = search needs
+
+part-answer-backup-start : tie.Need-part-answer-backup-start
+part-answer-backup-start c = search needs
+
+part-answer-backup-end : tie.Need-part-answer-backup-end
+part-answer-backup-end c = let i = inside (c .before .before .before .before .before .before) in omega (arith, c .before .before .before .before .before .data-size .ensures .0)
+
+answer-backup-requires : tie.Need-answer-backup-requires
+answer-backup-requires c κs = search needs
+
+same-length : tie.Need-same-length
+same-length c = search needs
+
+same-length-2 : tie.Need-same-length-2
+same-length-2 c = search needs
+
+same-length-3 : tie.Need-same-length-3
+same-length-3 c = search needs
+
+same-length-4 : tie.Need-same-length-4
+same-length-4 c = search needs
+
+returns : tie.Need-returns
+returns c =
+    let a = c .before .before .before .before .before .before .before .before .before .before .before .before .before .before .before .before .before .before .before .before .before .before .args in
+    let k = c .before .before .before .before .before .before .before .before .before .before .before .before .before .before .before .before .data-size in
+    let list : take (a .at + 14 + k .result - (a .at + 14)) (drop (a .at + 14) (a .calls .now)) ≡ part (a .calls .now) (a .at + 14) (dataSize (a .calls .now) (a .at)) =
+    lent (a .calls .now) (a .at + 14) (k .result) ∙ ap (λ (n : ℕ). part (a .calls .now) (a .at + 14) n) (k .ensures .0)
+    in
+    rw (← c .before .before .before .before .before .before .before .before .before .before .before .before .before .before .before .u16-at .ensures, ← c .before .before .before .before .before .before .before .before .before .before .before .before .before .before .u16-at2 .ensures, ← list) (c .before .before .before .before .before .before .before .before .answer-backup .ensures)
+
+pub play-backup-spec : {M : Type 1} → statement M
+play-backup-spec =
+    tie.close
+    (tie.spec
+    add-from
+    data-size-requires
+    add-end
+    add-u16-at
+    u16-at-requires
+    add-u16-at-2
+    u16-at-requires-2
+    sub-answer-backup
+    part-answer-backup-start
+    part-answer-backup-end
+    answer-backup-requires
+    same-length
+    same-length-2
+    same-length-3
+    same-length-4
+    returns)

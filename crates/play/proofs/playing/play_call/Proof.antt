@@ -1,0 +1,159 @@
+-- `play::playing::play_call`: the kind decides which call it is, and that call was made.
+use mathlib.Core.Path.{ap}
+use native.Mathlib.Omega.{arith}
+use lib.ListN.{length}
+use borrow.Author.Needs.{needs}
+use Rattle.calls.specs.Answers.{longest}
+use Rattle.calls.specs.Reading.{call-inside, call-enrol, call-backup, call-collect, call-read, call-audit}
+use Rattle.play.proofs.playing.play_call.Statement.{statement}
+use Rattle.play.proofs.playing.play_call.Tie as tie
+
+shared-slice-read-kind : tie.Need-shared-slice-read-kind
+shared-slice-read-kind c = let i = call-inside (c .before .before .before .before .before .before .args .calls .now) (c .before .before .before .before .before .before .args .at) (c .before .before .before .before .before .before .pre .0) in omega arith
+
+add-u16-at : tie.Need-add-u16-at
+add-u16-at c = let i = call-inside (c .before .before .before .before .before .before .args .calls .now) (c .before .before .before .before .before .before .args .at) (c .before .before .before .before .before .before .pre .0) in omega arith
+
+u16-at-requires : tie.Need-u16-at-requires
+u16-at-requires c κs = let i = call-inside (c .before .before .before .before .before .before .args .calls .now) (c .before .before .before .before .before .before .args .at) (c .before .before .before .before .before .before .pre .0) in omega arith
+
+add-u16-at-2 : tie.Need-add-u16-at-2
+add-u16-at-2 c = let i = call-inside (c .before .before .before .before .before .before .before .args .calls .now) (c .before .before .before .before .before .before .before .args .at) (c .before .before .before .before .before .before .before .pre .0) in omega arith
+
+u16-at-requires-2 : tie.Need-u16-at-requires-2
+u16-at-requires-2 c κs = let i = call-inside (c .before .before .before .before .before .before .before .args .calls .now) (c .before .before .before .before .before .before .before .args .at) (c .before .before .before .before .before .before .before .pre .0) in omega arith
+
+add-u16-at-3 : tie.Need-add-u16-at-3
+add-u16-at-3 c = let i = call-inside (c .before .before .before .before .before .before .before .before .args .calls .now) (c .before .before .before .before .before .before .before .before .args .at) (c .before .before .before .before .before .before .before .before .pre .0) in omega arith
+
+u16-at-requires-3 : tie.Need-u16-at-requires-3
+u16-at-requires-3 c κs = let i = call-inside (c .before .before .before .before .before .before .before .before .args .calls .now) (c .before .before .before .before .before .before .before .before .args .at) (c .before .before .before .before .before .before .before .before .pre .0) in omega arith
+
+answer-enrol-requires : tie.Need-answer-enrol-requires
+answer-enrol-requires c κs =
+    let a = c .before .before .before .before .before .before .before .before .before .before .before .before .args in
+    let e = ap longest (call-enrol (a .calls .now) (a .at) (c .before .before .if1 .taken)) in
+    omega (arith, c .before .before .before .before .before .before .before .before .before .before .before .before .pre .1)
+
+same-length : tie.Need-same-length
+same-length c = search needs
+
+same-length-2 : tie.Need-same-length-2
+same-length-2 c = search needs
+
+returns : tie.Need-returns
+returns c =
+    let a = c .before .before .before .before .before .before .before .before .before .before .before .before .before .before .before .before .before .args in
+    rw (call-enrol (a .calls .now) (a .at) (c .before .before .before .before .before .before .before .if1 .taken), ← c .before .before .before .before .before .before .before .before .before .before .u16-at .ensures, ← c .before .before .before .before .before .before .before .before .before .u16-at2 .ensures) (c .before .before .before .before .answer-enrol .ensures (length (a .spare .now)) (a .pool .now))
+
+play-backup-requires : tie.Need-play-backup-requires
+play-backup-requires c κs =
+    let a = c .before .before .before .before .before .before .before .before .before .before .before .before .before .before .before .args in
+    let e = ap longest (call-backup (a .calls .now) (a .at) (c .before .before .before .before .before .if1 .left) (c .before .before .before .before .if2 .taken)) in
+    (c .before .before .before .before .before .before .before .before .before .before .before .before .before .before .before .pre .0, omega (arith, c .before .before .before .before .before .before .before .before .before .before .before .before .before .before .before .pre .1))
+
+same-length-3 : tie.Need-same-length-3
+same-length-3 c = search needs
+
+same-length-4 : tie.Need-same-length-4
+same-length-4 c = search needs
+
+same-length-5 : tie.Need-same-length-5
+same-length-5 c = search needs
+
+same-length-6 : tie.Need-same-length-6
+same-length-6 c = search needs
+
+returns-2 : tie.Need-returns-2
+returns-2 c =
+    let a = c .before .before .before .before .before .before .before .before .before .before .before .before .before .before .before .before .before .before .before .before .before .before .before .before .args in
+    rw (call-backup (a .calls .now) (a .at) (c .before .before .before .before .before .before .before .before .before .before .before .before .before .before .if1 .left) (c .before .before .before .before .before .before .before .before .before .before .before .before .before .if2 .taken)) (c .before .before .before .before .before .before .before .before .play-backup .ensures)
+
+answer-collect-requires : tie.Need-answer-collect-requires
+answer-collect-requires c κs =
+    let a = c .before .before .before .before .before .before .before .before .before .before .before .before .before .before .args in
+    let e = ap longest (call-collect (a .calls .now) (a .at) (c .before .before .before .before .if1 .left) (c .before .before .before .if2 .left) (c .before .before .if3 .taken)) in
+    omega (arith, c .before .before .before .before .before .before .before .before .before .before .before .before .before .before .pre .1)
+
+same-length-7 : tie.Need-same-length-7
+same-length-7 c = search needs
+
+same-length-8 : tie.Need-same-length-8
+same-length-8 c = search needs
+
+returns-3 : tie.Need-returns-3
+returns-3 c =
+    let a = c .before .before .before .before .before .before .before .before .before .before .before .before .before .before .before .before .before .before .before .args in
+    rw (call-collect (a .calls .now) (a .at) (c .before .before .before .before .before .before .before .before .before .if1 .left) (c .before .before .before .before .before .before .before .before .if2 .left) (c .before .before .before .before .before .before .before .if3 .taken), ← c .before .before .before .before .before .before .before .before .before .before .before .before .u16-at .ensures) (c .before .before .before .before .answer-collect .ensures (length (a .spare .now)) (a .pool .now))
+
+answer-read-requires : tie.Need-answer-read-requires
+answer-read-requires c κs =
+    let a = c .before .before .before .before .before .before .before .before .before .before .before .before .before .before .before .before .args in
+    let e = ap longest (call-read (a .calls .now) (a .at) (c .before .before .before .before .before .before .if1 .left) (c .before .before .before .before .before .if2 .left) (c .before .before .before .before .if3 .left) (c .before .before .before .if4 .taken)) in
+    omega (arith, c .before .before .before .before .before .before .before .before .before .before .before .before .before .before .before .before .pre .1)
+
+same-length-9 : tie.Need-same-length-9
+same-length-9 c = search needs
+
+same-length-10 : tie.Need-same-length-10
+same-length-10 c = search needs
+
+same-length-11 : tie.Need-same-length-11
+same-length-11 c = search needs
+
+returns-4 : tie.Need-returns-4
+returns-4 c =
+    let a = c .before .before .before .before .before .before .before .before .before .before .before .before .before .before .before .before .before .before .before .args in
+    rw (call-read (a .calls .now) (a .at) (c .before .before .before .before .before .before .before .before .before .if1 .left) (c .before .before .before .before .before .before .before .before .if2 .left) (c .before .before .before .before .before .before .before .if3 .left) (c .before .before .before .before .before .before .if4 .taken), ← c .before .before .before .before .before .before .before .before .before .before .before .before .u16-at .ensures, ← c .before .before .before .before .before .before .before .before .before .before .before .u16-at2 .ensures, ← c .before .before .before .before .before .before .before .before .before .before .u16-at3 .ensures) (c .before .before .answer-read .ensures (length (a .spare .now)))
+
+answer-audit-requires : tie.Need-answer-audit-requires
+answer-audit-requires c κs =
+    let a = c .before .before .before .before .before .before .before .before .before .before .before .before .before .before .before .args in
+    let e = ap longest (call-audit (a .calls .now) (a .at) (c .before .before .before .before .before .if1 .left) (c .before .before .before .before .if2 .left) (c .before .before .before .if3 .left) (c .before .before .if4 .left)) in
+    omega (arith, c .before .before .before .before .before .before .before .before .before .before .before .before .before .before .before .pre .1)
+
+same-length-12 : tie.Need-same-length-12
+same-length-12 c = search needs
+
+same-length-13 : tie.Need-same-length-13
+same-length-13 c = search needs
+
+returns-5 : tie.Need-returns-5
+returns-5 c =
+    let a = c .before .before .before .before .before .before .before .before .before .before .before .before .before .before .before .before .before .before .args in
+    rw (call-audit (a .calls .now) (a .at) (c .before .before .before .before .before .before .before .before .if1 .left) (c .before .before .before .before .before .before .before .if2 .left) (c .before .before .before .before .before .before .if3 .left) (c .before .before .before .before .before .if4 .left)) (c .before .before .answer-audit .ensures (length (a .spare .now)) (a .pool .now))
+
+pub play-call-spec : {M : Type 1} → statement M
+play-call-spec =
+    tie.close
+    (tie.spec
+    shared-slice-read-kind
+    add-u16-at
+    u16-at-requires
+    add-u16-at-2
+    u16-at-requires-2
+    add-u16-at-3
+    u16-at-requires-3
+    answer-enrol-requires
+    same-length
+    same-length-2
+    returns
+    play-backup-requires
+    same-length-3
+    same-length-4
+    same-length-5
+    same-length-6
+    returns-2
+    answer-collect-requires
+    same-length-7
+    same-length-8
+    returns-3
+    answer-read-requires
+    same-length-9
+    same-length-10
+    same-length-11
+    returns-4
+    answer-audit-requires
+    same-length-12
+    same-length-13
+    returns-5)

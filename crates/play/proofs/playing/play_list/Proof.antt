@@ -1,0 +1,110 @@
+-- `play::playing::play_list`: what is left of the list, from where the loop stands, ends and answers as the whole does.
+use Prim.Native.Nat.{ℕ, _+_, _-_, _≤_}
+use mathlib.Core.Path.{_≡_, refl, ap, _∙_}
+use native.Mathlib.Nat.{zero-add}
+use native.Mathlib.Omega.{arith}
+use lib.ListN.{length}
+use Rattle.calls.specs.Coding.{callSize, callAt}
+use Rattle.calls.specs.Answers.{mostOf}
+use Rattle.calls.specs.Contracts.{at}
+use Rattle.calls.specs.Playing.{Playing, playing-all, playing-more, playing-none}
+use Rattle.calls.specs.Reading.{call-past, call-inside, restOf, rest-end, Good, next-good}
+use Rattle.calls.specs.Short.{answer-short}
+use Rattle.play.proofs.playing.play_list.Statement.{statement}
+use Rattle.play.proofs.playing.play_list.Tie as tie
+
+abbrev Inv-loop : tie.InvT-loop
+Inv-loop book₀ pool₀ spare₀ calls answers₀ at₀ to₀ book pool spare answers at to =
+    Playing (length spare₀) book₀ pool₀ (restOf calls 0) answers₀ book pool answers to (restOf calls at)
+    × Good calls at
+    × (to + mostOf (restOf calls at) ≤ length answers₀)
+    × (at ≤ length calls)
+    × (length book ≡ length book₀)
+    × (length pool ≡ length pool₀)
+    × (length spare ≡ length spare₀)
+    × (length answers ≡ length answers₀)
+
+abbrev μ-loop : tie.MeasureT-loop
+μ-loop book₀ pool₀ spare₀ calls answers₀ at₀ to₀ book pool spare answers at to = length calls - at
+
+loop-holds : tie.Need-loop-holds Inv-loop μ-loop
+loop-holds c = let p = c .before .before .before .before .before .pre in (playing-all, p .0, rw zero-add (p .1), omega arith, refl, refl, refl, refl)
+
+play-call-requires : tie.Need-play-call-requires Inv-loop μ-loop
+play-call-requires c κs =
+    let l = c .before .before .before .before .before .loop in
+    let n = next-good (c .before .before .before .before .before .before .before .before .before .before .before .args .calls .now) (c .before .before .before .before .before .loop .at) (c .before .before .before .before .loop-test .taken) (c .before .before .before .before .before .loop .inv .1) in
+    let most = ap mostOf (n .split) in
+    (n .is, omega (arith, l .inv .2, l .inv .7))
+
+add-at : tie.Need-add-at Inv-loop μ-loop
+add-at c = let i = call-inside (c .before .before .before .before .before .before .before .before .before .before .before .before .before .before .before .before .before .before .before .before .args .calls .now) (c .before .before .before .before .before .before .before .before .before .before .before .before .before .before .loop .at) ((next-good (c .before .before .before .before .before .before .before .before .before .before .before .before .before .before .before .before .before .before .before .before .args .calls .now) (c .before .before .before .before .before .before .before .before .before .before .before .before .before .before .loop .at) (c .before .before .before .before .before .before .before .before .before .before .before .before .before .loop-test .taken) (c .before .before .before .before .before .before .before .before .before .before .before .before .before .before .loop .inv .1)) .is) in omega arith
+
+data-size-requires : tie.Need-data-size-requires Inv-loop μ-loop
+data-size-requires c κs = call-inside (c .before .before .before .before .before .before .before .before .before .before .before .before .before .before .before .before .before .before .before .before .args .calls .now) (c .before .before .before .before .before .before .before .before .before .before .before .before .before .before .loop .at) ((next-good (c .before .before .before .before .before .before .before .before .before .before .before .before .before .before .before .before .before .before .before .before .args .calls .now) (c .before .before .before .before .before .before .before .before .before .before .before .before .before .before .loop .at) (c .before .before .before .before .before .before .before .before .before .before .before .before .before .loop-test .taken) (c .before .before .before .before .before .before .before .before .before .before .before .before .before .before .loop .inv .1)) .is) .0
+
+add-at-2 : tie.Need-add-at-2 Inv-loop μ-loop
+add-at-2 c = let i = call-inside (c .before .before .before .before .before .before .before .before .before .before .before .before .before .before .before .before .before .before .before .before .before .args .calls .now) (c .before .before .before .before .before .before .before .before .before .before .before .before .before .before .before .loop .at) ((next-good (c .before .before .before .before .before .before .before .before .before .before .before .before .before .before .before .before .before .before .before .before .before .args .calls .now) (c .before .before .before .before .before .before .before .before .before .before .before .before .before .before .before .loop .at) (c .before .before .before .before .before .before .before .before .before .before .before .before .before .before .loop-test .taken) (c .before .before .before .before .before .before .before .before .before .before .before .before .before .before .before .loop .inv .1)) .is) in omega (arith, c .data-size .ensures .0)
+
+loop-less : tie.Need-loop-less Inv-loop μ-loop
+loop-less c = let i = call-inside (c .before .before .before .before .before .before .before .before .before .before .before .before .before .before .before .before .before .before .before .before .before .args .calls .now) (c .before .before .before .before .before .before .before .before .before .before .before .before .before .before .before .loop .at) ((next-good (c .before .before .before .before .before .before .before .before .before .before .before .before .before .before .before .before .before .before .before .before .before .args .calls .now) (c .before .before .before .before .before .before .before .before .before .before .before .before .before .before .before .loop .at) (c .before .before .before .before .before .before .before .before .before .before .before .before .before .before .loop-test .taken) (c .before .before .before .before .before .before .before .before .before .before .before .before .before .before .before .loop .inv .1)) .is) in omega (arith, c .data-size .ensures .0)
+
+loop-again : tie.Need-loop-again Inv-loop μ-loop
+loop-again c =
+    let a = c .before .before .before .before .before .before .before .before .before .before .before .before .before .before .before .before .before .before .before .before .before .args in
+    let l = c .before .before .before .before .before .before .before .before .before .before .before .before .before .before .before .loop in
+    let k = c .before .before .before .before .before .before .before .before .before .play-call in
+    let n = next-good (c .before .before .before .before .before .before .before .before .before .before .before .before .before .before .before .before .before .before .before .before .before .args .calls .now) (c .before .before .before .before .before .before .before .before .before .before .before .before .before .before .before .loop .at) (c .before .before .before .before .before .before .before .before .before .before .before .before .before .before .loop-test .taken) (c .before .before .before .before .before .before .before .before .before .before .before .before .before .before .before .loop .inv .1) in
+    let i = call-inside (a .calls .now) (l .at) (n .is) in
+    let past : l .at + 14 + c .data-size .result ≡ l .at + callSize (a .calls .now) (l .at) =
+    ap (λ (s : ℕ). l .at + 14 + s) (c .data-size .ensures .0) ∙ call-past (a .calls .now) (l .at)
+    in
+    let did = rw (l .inv .6) at (k .ensures) in
+    let short = answer-short (length (a .spare .now)) (at (l .book) (l .pool)) (callAt (a .calls .now) (l .at)) in
+    let most = ap mostOf (n .split) in (
+      rw past (playing-more (callAt (a .calls .now) (l .at)) _ (rw (n .split) at (l .inv .0)) did),
+      rw past (n .good),
+      rw past (omega (arith, did .answer .place, short, l .inv .2)),
+      omega (arith, c .data-size .ensures .0),
+      k .kept .0 ∙ l .inv .4,
+      k .kept .1 .0 ∙ l .inv .5,
+      k .kept .1 .1 .0 ∙ l .inv .6,
+      k .kept .1 .1 .1 .1 .1 .0 ∙ l .inv .7,
+    )
+
+same-length : tie.Need-same-length Inv-loop μ-loop
+same-length c = c .before .loop .inv .4
+
+same-length-2 : tie.Need-same-length-2 Inv-loop μ-loop
+same-length-2 c = c .before .loop .inv .5
+
+same-length-3 : tie.Need-same-length-3 Inv-loop μ-loop
+same-length-3 c = c .before .loop .inv .6
+
+same-length-4 : tie.Need-same-length-4 Inv-loop μ-loop
+same-length-4 c = c .before .loop .inv .7
+
+returns : tie.Need-returns Inv-loop μ-loop
+returns c =
+    let a = c .before .before .before .before .before .before .before .args in
+    let l = c .before .loop in
+    playing-none (rw (rest-end (a .calls .now) (l .at) (c .loop-test .left)) at (l .inv .0)) (c .before .before .before .before .before .before .before .pre .1)
+
+pub play-list-spec : {M : Type 1} → statement M
+play-list-spec =
+    tie.close
+    (tie.spec
+    Inv-loop
+    μ-loop
+    loop-holds
+    play-call-requires
+    add-at
+    data-size-requires
+    add-at-2
+    loop-less
+    loop-again
+    same-length
+    same-length-2
+    same-length-3
+    same-length-4
+    returns)

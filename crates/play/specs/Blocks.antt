@@ -1,0 +1,113 @@
+-- An accepted read's block: where it stands in the pool, and that it is whole. Assumes nothing.
+use Prim.Native.Nat.{ℕ, zero, suc, _+_, _*_, _≤_}
+use mathlib.Core.Path.{_≡_, refl, sym, ap, _∙_}
+use mathlib.Core.Bool.{Bool, true}
+use mathlib.Core.List.{List, [], _∷_}
+use mathlib.Core.Logic.{⊎-elim}
+use native.Mathlib.Omega.{arith}
+use lib.Dec.{eqb}
+use lib.ListN.{length}
+use borrow.Author.Tests.{eq-eqb}
+use Rattle.words.specs.Blocks.{blockSize}
+use Rattle.words.specs.Choice.{true-and}
+use Rattle.words.specs.Lists.{all}
+use Rattle.words.specs.Outcome.{Outcome, refused, accepted, unless}
+use Rattle.words.specs.Parts.{length-part}
+use Rattle.book.specs.Form.{formNumber}
+use Rattle.book.specs.FormParts.{book-parts}
+use Rattle.book.specs.InForm.{book-form}
+use Rattle.book.specs.Layout.{bookOf}
+use Rattle.model.specs.Calls.{Call, enrol, backup, collect, read, audit}
+use Rattle.model.specs.OnBytes.{BackedBytes, CollectedBytes, numberOf, after, poolNumber, enrolBytes, backupBytes, collectBytes, readBytes, readNumberBytes, readPlaceBytes, auditBytes}
+use Rattle.model.specs.Pool.{blockAt}
+use Rattle.model.specs.Read
+use Rattle.model.specs.Read.{image, readNumber}
+use Rattle.model.specs.Runs.{answersOf, Ours, ours, oursEnrolled, oursBacked, oursCollected, readAnswer, auditAnswer}
+use Rattle.buffers.specs.BuffersLaws.{pool-size}
+use Rattle.calls.specs.Answers.{isWhole}
+use Rattle.calls.specs.Proper.{number-unless}
+use Rattle.restorer.specs.Contracts.{Located}
+use Rattle.restorer.specs.ImageIn.{image-in}
+use Rattle.restorer.specs.ReadingLaws.{number-mapped}
+
+-- the three numbers of a read that is accepted
+pub record Readable (b pool : List ℕ) (v k lbn : ℕ) : Type 0 where
+  pub form : formNumber b ≡ 0
+  pub pooled : poolNumber b pool ≡ 0
+  pub there : readNumber (bookOf b) v k lbn ≡ 0
+
+module _ (b pool : List ℕ) (v k lbn : ℕ) where
+  pub readable : numberOf (readBytes b pool v k lbn) ≡ 0 → Readable b pool v k lbn
+  unfolding readBytes Read.read
+  readable z =
+      let a = number-unless (formNumber b) (unless (poolNumber b pool) (Read.read (bookOf b) pool v k lbn)) z in
+      let d = number-unless (poolNumber b pool) (Read.read (bookOf b) pool v k lbn) (a .1) in
+      let f = number-unless (readNumber (bookOf b) v k lbn) (accepted (blockAt pool (image (bookOf b) v k lbn))) (d .1) in
+      record { form = a .0; pooled = d .0; there = f .0 }
+
+  -- the block lies within the pool
+  pub block-inside : Readable b pool v k lbn → image (bookOf b) v k lbn * 512 + 512 ≤ length pool
+  block-inside r =
+      let size = pool-size b pool (r .pooled) in
+      let mapped = number-mapped (bookOf b) v k lbn (r .there) in
+      ⊎-elim (λ l. omega arith) (λ n. absurd (mapped n)) (image-in (bookOf b) (book-parts (bookOf b) (book-form b (r .form) .1)) v k lbn)
+
+  module _ (p p′ n : ℕ) (e : Located b pool v k lbn p n p′) (z : n ≡ 0) where
+    pub located-readable : Readable b pool v k lbn
+    unfolding readNumberBytes
+    located-readable = readable (sym (e .number) ∙ z)
+
+    pub located-place : p′ ≡ image (bookOf b) v k lbn * 512
+    unfolding readPlaceBytes
+    located-place = e .answer ∙ ap (λ (j : ℕ). after (λ q. q) (unless j (accepted (image (bookOf b) v k lbn * blockSize))) p) (sym (e .number) ∙ z)
+
+    pub located-inside : p′ + 512 ≤ length pool
+    located-inside = let at = located-place in omega (arith, block-inside located-readable)
+
+  pub read-is : Readable b pool v k lbn → readBytes b pool v k lbn ≡ accepted (blockAt pool (image (bookOf b) v k lbn))
+  unfolding readBytes Read.read
+  read-is r = rw (r .form, r .pooled, r .there)
+
+  read-whole : isWhole (readAnswer (readBytes b pool v k lbn)) ≡ true
+  unfolding readBytes Read.read readAnswer
+  read-whole = go (formNumber b) (poolNumber b pool) (readNumber (bookOf b) v k lbn) refl refl refl
+    where
+      go : (f p n : ℕ) → formNumber b ≡ f → poolNumber b pool ≡ p → readNumber (bookOf b) v k lbn ≡ n
+          → isWhole (readAnswer (unless f (unless p (unless n (accepted (blockAt pool (image (bookOf b) v k lbn))))))) ≡ true
+      go zero zero zero x y w =
+          eq-eqb _ _ (length-part pool (image (bookOf b) v k lbn * 512) 512 (block-inside (record { form = x; pooled = y; there = w })))
+      go zero zero (suc n) x y w = refl
+      go zero (suc p) n x y w = refl
+      go (suc f) p n x y w = refl
+
+-- ---- so every block among the answers is whole
+
+answer-whole : (spare : ℕ) (o : Ours) (c : Call) → isWhole (ours spare o c .answer) ≡ true
+unfolding ours oursEnrolled oursBacked oursCollected auditAnswer
+answer-whole spare o (enrol v r) = go (enrolBytes (o .book) v r)
+  where
+    go : (x : Outcome (List ℕ)) → isWhole (oursEnrolled o x .answer) ≡ true
+    go (refused k) = refl
+    go (accepted d) = refl
+answer-whole spare o (backup v t list) = go (backupBytes (o .book) (o .pool) spare v t list)
+  where
+    go : (x : Outcome BackedBytes) → isWhole (oursBacked o x .answer) ≡ true
+    go (refused k) = refl
+    go (accepted d) = refl
+answer-whole spare o (collect t) = go (collectBytes (o .book) t)
+  where
+    go : (x : Outcome CollectedBytes) → isWhole (oursCollected o x .answer) ≡ true
+    go (refused k) = refl
+    go (accepted d) = refl
+answer-whole spare o (read v k lbn) = read-whole (o .book) (o .pool) v k lbn
+answer-whole spare o audit = go (auditBytes (o .book))
+  where
+    go : (x : Outcome Bool) → isWhole (auditAnswer x) ≡ true
+    go (refused k) = refl
+    go (accepted d) = refl
+
+pub answers-whole : (spare : ℕ) (o : Ours) (cs : List Call) → all isWhole (answersOf (ours spare) o cs) ≡ true
+answers-whole spare o [] = refl
+answers-whole spare o (c ∷ cs) =
+    true-and (isWhole (ours spare o c .answer)) (all isWhole (answersOf (ours spare) (ours spare o c .next) cs)) (answer-whole spare o c)
+    (answers-whole spare (ours spare o c .next) cs)

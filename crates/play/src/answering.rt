@@ -1,0 +1,127 @@
+// Each call through its exported function, and its answer in bytes to `to`. Each answers the place past it.
+ghost use Prim.Native.Nat.{ℕ, _+_, _≤_};
+ghost use mathlib.Core.List.{List, _∷_};
+ghost use lib.ListN.{length};
+ghost use Rattle.words.specs.Numbers.{two};
+ghost use Rattle.words.specs.Laying.{Stored};
+ghost use Rattle.model.specs.Calls.{enrol, backup, collect, read, audit};
+ghost use Rattle.calls.specs.Contracts.{Did};
+use engine::audit::aspen_audit;
+use engine::backup::aspen_backup;
+use engine::collect::aspen_collect;
+use engine::enrol::aspen_enrol;
+use engine::read::aspen_read;
+use words::BLOCK_SIZE;
+use words::put_bytes;
+use words::put_three;
+use words::put_u16;
+
+const NUMBER: u8 = 0;
+
+const BACKED: u8 = 1;
+
+const FREED: u8 = 2;
+
+const BLOCK: u8 = 3;
+
+const SOUND: u8 = 4;
+
+// A tag and a number.
+fn tell(answers: &mut [u8], to: usize, tag: u8, v: u16) -> usize
+    requires { ⌜ to + 3 ≤ length (now answers) ⌝ }
+    ensures { λ r. ⌜ Stored (now (answers .entry)) to (tag ∷ two v) (now (answers .exit)) r ⌝ }
+{
+    answers[to] = tag;
+    put_u16(answers, to + 1, v);
+    to + 3
+}
+
+pub fn answer_enrol(book: &mut [u8], v: u16, retention: u16, answers: &mut [u8], to: usize) -> usize
+    requires { ⌜ to + 3 ≤ length (now answers) ⌝ }
+    ensures { λ r. ⌜ ((spare : ℕ) (pool : List ℕ) → Did spare (now (book .entry)) pool (enrol v retention) (now (answers .entry)) to (now (book .exit)) pool (now (answers .exit)) r) ⌝ }
+{
+    let refusal = aspen_enrol(book, v, retention);
+    tell(answers, to, NUMBER, refusal)
+}
+
+pub fn answer_collect(book: &mut [u8], day: u16, answers: &mut [u8], to: usize) -> usize
+    requires { ⌜ to + 3 ≤ length (now answers) ⌝ }
+    ensures { λ r. ⌜ ((spare : ℕ) (pool : List ℕ) → Did spare (now (book .entry)) pool (collect day) (now (answers .entry)) to (now (book .exit)) pool (now (answers .exit)) r) ⌝ }
+{
+    let mut freed = 0u16;
+    let refusal = aspen_collect(book, day, &mut freed);
+    if refusal != 0 {
+        return tell(answers, to, NUMBER, refusal);
+    }
+    tell(answers, to, FREED, freed)
+}
+
+pub fn answer_read(
+    book: &[u8],
+    pool: &[u8],
+    v: u16,
+    number: u16,
+    lbn: u16,
+    answers: &mut [u8],
+    to: usize,
+) -> usize
+    requires { ⌜ to + 513 ≤ length (now answers) ⌝ }
+    ensures { λ r. ⌜ ((spare : ℕ) → Did spare (now (book .entry)) (now (pool .entry)) (read v number lbn) (now (answers .entry)) to (now (book .entry)) (now (pool .entry)) (now (answers .exit)) r) ⌝ }
+{
+    let mut at = 0u32;
+    let refusal = aspen_read(book, pool, v, number, lbn, &mut at);
+    if refusal != 0 {
+        return tell(answers, to, NUMBER, refusal);
+    }
+    let from = at as usize;
+    answers[to] = BLOCK;
+    put_bytes(answers, to + 1, &pool[from..from + BLOCK_SIZE]);
+    to + 1 + BLOCK_SIZE
+}
+
+pub fn answer_audit(book: &[u8], answers: &mut [u8], to: usize) -> usize
+    requires { ⌜ to + 3 ≤ length (now answers) ⌝ }
+    ensures { λ r. ⌜ ((spare : ℕ) (pool : List ℕ) → Did spare (now (book .entry)) pool audit (now (answers .entry)) to (now (book .entry)) pool (now (answers .exit)) r) ⌝ }
+{
+    let mut sound = 0u16;
+    let refusal = aspen_audit(book, &mut sound);
+    if refusal != 0 {
+        return tell(answers, to, NUMBER, refusal);
+    }
+    tell(answers, to, SOUND, sound)
+}
+
+pub fn answer_backup(
+    book: &mut [u8],
+    pool: &mut [u8],
+    spare: &mut [u8],
+    v: u16,
+    day: u16,
+    list: &[u8],
+    answers: &mut [u8],
+    to: usize,
+) -> usize
+    requires { ⌜ to + 7 ≤ length (now answers) ⌝ }
+    ensures { λ r. ⌜ Did (length (now (spare .entry))) (now (book .entry)) (now (pool .entry)) (backup v day (now (list .entry))) (now (answers .entry)) to (now (book .exit)) (now (pool .exit)) (now (answers .exit)) r ⌝ }
+{
+    let mut number = 0u16;
+    let mut taken = 0u16;
+    let mut touched = 0u16;
+    let refusal = aspen_backup(
+        book,
+        pool,
+        spare,
+        v,
+        day,
+        list,
+        &mut number,
+        &mut taken,
+        &mut touched,
+    );
+    if refusal != 0 {
+        return tell(answers, to, NUMBER, refusal);
+    }
+    answers[to] = BACKED;
+    put_three(answers, to + 1, number, taken, touched);
+    to + 7
+}

@@ -1,0 +1,127 @@
+// A list of calls, played one call after the other.
+ghost use mathlib.Core.Path.{_≡_};
+ghost use mathlib.Core.Bool.{true};
+ghost use Prim.Native.Nat.{_+_, _≤_};
+ghost use lib.ListN.{length};
+ghost use Rattle.words.specs.Numbers.{num};
+ghost use Rattle.words.specs.Sections.{part};
+ghost use Rattle.model.specs.Calls.{backup};
+ghost use Rattle.calls.specs.Coding.{headSize, dataSize, isCall, callAt};
+ghost use Rattle.calls.specs.Answers.{longest, mostOf};
+ghost use Rattle.calls.specs.Contracts.{Did, DidAll, Played};
+ghost use Rattle.calls.specs.Reading.{restOf, Good};
+use super::answering::answer_audit;
+use super::answering::answer_backup;
+use super::answering::answer_collect;
+use super::answering::answer_enrol;
+use super::answering::answer_read;
+use super::checking::check;
+use super::checking::room_of;
+use super::heads::BACKUP;
+use super::heads::COLLECT;
+use super::heads::ENROL;
+use super::heads::HEAD_SIZE;
+use super::heads::READ;
+use super::heads::data_size;
+use words::u16_at;
+
+// The backup at `at`, whose change list is its data.
+fn play_backup(
+    book: &mut [u8],
+    pool: &mut [u8],
+    spare: &mut [u8],
+    calls: &[u8],
+    at: usize,
+    answers: &mut [u8],
+    to: usize,
+) -> usize
+    requires { ⌜ (isCall (now calls) at ≡ true) × (to + 7 ≤ length (now answers)) ⌝ }
+    ensures { λ r. ⌜ Did (length (now (spare .entry))) (now (book .entry)) (now (pool .entry)) (backup (num (now (calls .entry)) (at + 2)) (num (now (calls .entry)) (at + 4)) (part (now (calls .entry)) (at + headSize) (dataSize (now (calls .entry)) at))) (now (answers .entry)) to (now (book .exit)) (now (pool .exit)) (now (answers .exit)) r ⌝ }
+{
+    let from = at + HEAD_SIZE;
+    let end = from + data_size(calls, at);
+    let volume = u16_at(calls, at + 2);
+    let day = u16_at(calls, at + 4);
+    answer_backup(
+        book,
+        pool,
+        spare,
+        volume,
+        day,
+        &calls[from..end],
+        answers,
+        to,
+    )
+}
+
+// The call at `at`, and its answer to `to`. It answers the place past that.
+fn play_call(
+    book: &mut [u8],
+    pool: &mut [u8],
+    spare: &mut [u8],
+    calls: &[u8],
+    at: usize,
+    answers: &mut [u8],
+    to: usize,
+) -> usize
+    requires { ⌜ (isCall (now calls) at ≡ true) × (to + longest (callAt (now calls) at) ≤ length (now answers)) ⌝ }
+    ensures { λ r. ⌜ Did (length (now (spare .entry))) (now (book .entry)) (now (pool .entry)) (callAt (now (calls .entry)) at) (now (answers .entry)) to (now (book .exit)) (now (pool .exit)) (now (answers .exit)) r ⌝ }
+{
+    let kind = calls[at];
+    let a = u16_at(calls, at + 2);
+    let b = u16_at(calls, at + 4);
+    let c = u16_at(calls, at + 6);
+    if kind == ENROL {
+        return answer_enrol(book, a, b, answers, to);
+    }
+    if kind == BACKUP {
+        return play_backup(book, pool, spare, calls, at, answers, to);
+    }
+    if kind == COLLECT {
+        return answer_collect(book, a, answers, to);
+    }
+    if kind == READ {
+        return answer_read(book, pool, a, b, c, answers, to);
+    }
+    answer_audit(book, answers, to)
+}
+
+// All calls of a list. It answers how many bytes their answers have.
+fn play_list(
+    book: &mut [u8],
+    pool: &mut [u8],
+    spare: &mut [u8],
+    calls: &[u8],
+    answers: &mut [u8],
+) -> usize
+    requires { ⌜ Good (now calls) 0 × (mostOf (restOf (now calls) 0) ≤ length (now answers)) ⌝ }
+    ensures { λ r. ⌜ DidAll (length (now (spare .entry))) (now (book .entry)) (now (pool .entry)) (restOf (now (calls .entry)) 0) (now (answers .entry)) (now (book .exit)) (now (pool .exit)) (now (answers .exit)) r ⌝ }
+{
+    let mut at = 0;
+    let mut to = 0;
+    while at < calls.len() {
+        to = play_call(book, pool, spare, calls, at, answers, to);
+        at = at + HEAD_SIZE + data_size(calls, at);
+    }
+    to
+}
+
+// A list of calls on book, pool and spare; its answers go to the front of `answers`, and `written` is their length.
+#[no_mangle]
+pub extern "C" fn aspen_play(
+    book: &mut [u8],
+    pool: &mut [u8],
+    spare: &mut [u8],
+    calls: &[u8],
+    answers: &mut [u8],
+    written: &mut u32,
+) -> u16
+    ensures { λ r. ⌜ Played (length (now (spare .entry))) (now (book .entry)) (now (pool .entry)) (now (calls .entry)) (now (answers .entry)) (now (written .entry)) r (now (book .exit)) (now (pool .exit)) (now (answers .exit)) (now (written .exit)) ⌝ }
+{
+    let number = check(calls, room_of(answers.len()));
+    if number != 0 {
+        return number;
+    }
+    *written = play_list(book, pool, spare, calls, answers) as u32;
+    0
+}
