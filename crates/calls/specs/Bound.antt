@@ -121,3 +121,8 @@ module _ (calls out : List ℕ) (room : ℕ) (e : room ≡ roomOf (length out)) 
         let g = playable-good room calls n in
         let s = answers-short spare (at b pool) (restOf calls 0) in
         omega (arith, d .written, g .1)
+
+-- what was played, where the calls are known
+pub played-did : {spare w r w′ : ℕ} {b pool calls out b′ pool′ out′ : List ℕ} (cs : List Call) → playable calls (roomOf (length out)) ≡ accepted cs
+    → Played spare b pool calls out w r b′ pool′ out′ w′ → DidAll spare b pool cs out b′ pool′ out′ w′
+played-did cs e p = record { end = rw e at (p .end); answers = rw e at (p .answers); written = rw e at (p .written) }

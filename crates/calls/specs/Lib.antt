@@ -8,3 +8,4 @@ pub mod Short
 pub mod Playing
 pub mod Bound
 pub mod Proper
+pub mod Chain

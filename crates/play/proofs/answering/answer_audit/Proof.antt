@@ -14,9 +14,14 @@ same-length : tie.Need-same-length
 same-length c = search needs
 
 returns : tie.Need-returns
-returns c = λ spare pool.
-    let a = c .before .before .before .before .before .before .before .before .before .args in
-    audit-refused spare (a .book .now) pool (a .answers .now) (a .to) _ _ _ (c .before .before .before .before .before .aspen-audit .ensures) (c .before .before .before .before .if1 .taken) (c .before .before .tell .ensures)
+returns c spare pool =
+    let tell = c .before .before in
+    let if1 = tell .before .before in
+    let aspen-audit = if1 .before in
+    let start = aspen-audit .before .before .before .before in
+    let a = start .args in
+    audit-refused spare (a .book .now) pool (a .answers .now) (a .to) _ _ _ (aspen-audit .aspen-audit .ensures) (if1 .if1 .taken)
+    (tell .tell .ensures)
 
 tell-requires-2 : tie.Need-tell-requires-2
 tell-requires-2 c κs = search needs
@@ -25,9 +30,14 @@ same-length-2 : tie.Need-same-length-2
 same-length-2 c = search needs
 
 returns-2 : tie.Need-returns-2
-returns-2 c = λ spare pool.
-    let a = c .before .before .before .before .before .before .before .before .before .args in
-    audit-done spare (a .book .now) pool (a .answers .now) (a .to) _ _ _ (c .before .before .before .before .before .aspen-audit .ensures) (c .before .before .before .before .if1 .left) (c .before .before .tell2 .ensures)
+returns-2 c spare pool =
+    let tell2 = c .before .before in
+    let if1 = tell2 .before .before in
+    let aspen-audit = if1 .before in
+    let start = aspen-audit .before .before .before .before in
+    let a = start .args in
+    audit-done spare (a .book .now) pool (a .answers .now) (a .to) _ _ _ (aspen-audit .aspen-audit .ensures) (if1 .if1 .left)
+    (tell2 .tell2 .ensures)
 
 pub answer-audit-spec : {M : Type 1} → statement M
 answer-audit-spec =

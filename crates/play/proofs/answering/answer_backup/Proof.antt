@@ -28,8 +28,13 @@ same-length-4 c = search needs
 
 returns : tie.Need-returns
 returns c =
-    let a = c .before .before .before .before .before .before .before .before .before .before .before .before .before .before .before .before .before .before .before .before .before .before .before .args in
-    backup-refused _ (a .book .now) (a .pool .now) (a .answers .now) (a .to) (a .spare .now) (a .v) (a .day) (a .list .now) _ _ _ refl (c .before .before .before .before .before .before .before .before .before .before .before .aspen-backup .ensures) (c .before .before .before .before .if1 .taken) (c .before .before .tell .ensures)
+    let tell = c .before .before in
+    let if1 = tell .before .before in
+    let aspen-backup = if1 .before .before .before .before .before .before .before in
+    let start = aspen-backup .before .before .before .before .before .before .before .before .before .before .before .before in
+    let a = start .args in
+    backup-refused _ (a .book .now) (a .pool .now) (a .answers .now) (a .to) (a .spare .now) (a .v) (a .day) (a .list .now) _ _ _ refl
+    (aspen-backup .aspen-backup .ensures) (if1 .if1 .taken) (tell .tell .ensures)
 
 slice-write-answers : tie.Need-slice-write-answers
 slice-write-answers c = search needs
@@ -57,9 +62,14 @@ same-length-8 c = c .before .before .put-three .kept .0 ∙ simp length-set
 
 returns-2 : tie.Need-returns-2
 returns-2 c =
-    let a = c .before .before .before .before .before .before .before .before .before .before .before .before .before .before .before .before .before .before .before .before .before .before .before .args in
-    backup-done _ (a .book .now) (a .pool .now) (a .answers .now) (a .to) (a .spare .now) (a .v) (a .day) (a .list .now) _ _ _ refl (c .before .before .before .before .before .before .before .before .before .before .before .aspen-backup .ensures) (c .before .before .before .before .if1 .left)
-    (told-three (a .answers .now) (a .to) 1 _ _ _ (c .before .before .put-three .ensures))
+    let put-three = c .before .before in
+    let if1 = put-three .before .before in
+    let aspen-backup = if1 .before .before .before .before .before .before .before in
+    let start = aspen-backup .before .before .before .before .before .before .before .before .before .before .before .before in
+    let a = start .args in
+    backup-done _ (a .book .now) (a .pool .now) (a .answers .now) (a .to) (a .spare .now) (a .v) (a .day) (a .list .now) _ _ _ refl
+    (aspen-backup .aspen-backup .ensures) (if1 .if1 .left)
+    (told-three (a .answers .now) (a .to) 1 _ _ _ (put-three .put-three .ensures))
 
 pub answer-backup-spec : {M : Type 1} → statement M
 answer-backup-spec =

@@ -17,9 +17,14 @@ same-length-2 : tie.Need-same-length-2
 same-length-2 c = search needs
 
 returns : tie.Need-returns
-returns c = λ spare pool.
-    let a = c .before .before .before .before .before .before .before .before .before .before .before .before .args in
-    collect-refused spare (a .book .now) pool (a .answers .now) (a .to) (a .day) _ _ _ (c .before .before .before .before .before .before .before .aspen-collect .ensures) (c .before .before .before .before .if1 .taken) (c .before .before .tell .ensures)
+returns c spare pool =
+    let tell = c .before .before in
+    let if1 = tell .before .before in
+    let aspen-collect = if1 .before .before .before in
+    let start = aspen-collect .before .before .before .before .before in
+    let a = start .args in
+    collect-refused spare (a .book .now) pool (a .answers .now) (a .to) (a .day) _ _ _ (aspen-collect .aspen-collect .ensures)
+    (if1 .if1 .taken) (tell .tell .ensures)
 
 tell-requires-2 : tie.Need-tell-requires-2
 tell-requires-2 c κs = search needs
@@ -31,9 +36,14 @@ same-length-4 : tie.Need-same-length-4
 same-length-4 c = search needs
 
 returns-2 : tie.Need-returns-2
-returns-2 c = λ spare pool.
-    let a = c .before .before .before .before .before .before .before .before .before .before .before .before .args in
-    collect-done spare (a .book .now) pool (a .answers .now) (a .to) (a .day) _ _ _ (c .before .before .before .before .before .before .before .aspen-collect .ensures) (c .before .before .before .before .if1 .left) (c .before .before .tell2 .ensures)
+returns-2 c spare pool =
+    let tell2 = c .before .before in
+    let if1 = tell2 .before .before in
+    let aspen-collect = if1 .before .before .before in
+    let start = aspen-collect .before .before .before .before .before in
+    let a = start .args in
+    collect-done spare (a .book .now) pool (a .answers .now) (a .to) (a .day) _ _ _ (aspen-collect .aspen-collect .ensures)
+    (if1 .if1 .left) (tell2 .tell2 .ensures)
 
 pub answer-collect-spec : {M : Type 1} → statement M
 answer-collect-spec =

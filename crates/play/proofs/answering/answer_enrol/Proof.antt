@@ -17,9 +17,13 @@ same-length-2 : tie.Need-same-length-2
 same-length-2 c = search needs
 
 returns : tie.Need-returns
-returns c = λ spare pool.
-    let a = c .before .before .before .before .before .before .before .before .before .before .args in
-    enrol-did spare (a .book .now) pool (a .answers .now) (a .to) (a .v) (a .retention) _ (c .before .before .before .before .before .before .aspen-enrol .ensures) (c .before .before .tell .ensures)
+returns c spare pool =
+    let tell = c .before .before in
+    let aspen-enrol = tell .before .before .before .before in
+    let start = aspen-enrol .before .before .before .before in
+    let a = start .args in
+    enrol-did spare (a .book .now) pool (a .answers .now) (a .to) (a .v) (a .retention) _ (aspen-enrol .aspen-enrol .ensures)
+    (tell .tell .ensures)
 
 pub answer-enrol-spec : {M : Type 1} → statement M
 answer-enrol-spec =

@@ -19,9 +19,14 @@ same-length : tie.Need-same-length
 same-length c = search needs
 
 returns : tie.Need-returns
-returns c = λ spare.
-    let a = c .before .before .before .before .before .before .before .before .before .before .args in
-    read-refused spare (a .book .now) (a .pool .now) (a .answers .now) (a .to) (a .v) (a .number) (a .lbn) _ _ _ (c .before .before .before .before .before .aspen-read .ensures) (c .before .before .before .before .if1 .taken) (c .before .before .tell .ensures)
+returns c spare =
+    let tell = c .before .before in
+    let if1 = tell .before .before in
+    let aspen-read = if1 .before in
+    let start = aspen-read .before .before .before .before .before in
+    let a = start .args in
+    read-refused spare (a .book .now) (a .pool .now) (a .answers .now) (a .to) (a .v) (a .number) (a .lbn) _ _ _
+    (aspen-read .aspen-read .ensures) (if1 .if1 .taken) (tell .tell .ensures)
 
 slice-write-answers : tie.Need-slice-write-answers
 slice-write-answers c = search needs
@@ -40,14 +45,22 @@ part-put-bytes-start c = search needs
 
 part-put-bytes-end : tie.Need-part-put-bytes-end
 part-put-bytes-end c =
-    let a = c .before .before .before .before .before .before .before .before .args in
-    let in-pool = located-inside (a .book .now) (a .pool .now) (a .v) (a .number) (a .lbn) _ _ _ (c .before .before .before .aspen-read .ensures) (c .before .before .if1 .left) in
+    let if1 = c .before .before in
+    let aspen-read = if1 .before in
+    let start = aspen-read .before .before .before .before .before in
+    let a = start .args in
+    let in-pool = located-inside (a .book .now) (a .pool .now) (a .v) (a .number) (a .lbn) _ _ _ (aspen-read .aspen-read .ensures)
+    (if1 .if1 .left) in
     omega arith
 
 put-bytes-requires : tie.Need-put-bytes-requires
 put-bytes-requires c κs =
-    let a = c .before .before .before .before .before .before .before .before .before .args in
-    let in-pool = located-inside (a .book .now) (a .pool .now) (a .v) (a .number) (a .lbn) _ _ _ (c .before .before .before .before .aspen-read .ensures) (c .before .before .before .if1 .left) in
+    let if1 = c .before .before .before in
+    let aspen-read = if1 .before in
+    let start = aspen-read .before .before .before .before .before in
+    let a = start .args in
+    let in-pool = located-inside (a .book .now) (a .pool .now) (a .v) (a .number) (a .lbn) _ _ _ (aspen-read .aspen-read .ensures)
+    (if1 .if1 .left) in
     omega (arith, length-set (a .answers .now) (a .to) 3, lent-length (a .pool .now) _ in-pool)
 
 add-result : tie.Need-add-result
@@ -60,9 +73,14 @@ same-length-2 : tie.Need-same-length-2
 same-length-2 c = c .before .before .put-bytes .kept .0 ∙ simp length-set
 
 returns-2 : tie.Need-returns-2
-returns-2 c = λ spare.
-    let a = c .before .before .before .before .before .before .before .before .before .before .before .before .args in
-    read-done spare (a .book .now) (a .pool .now) (a .answers .now) (a .to) (a .v) (a .number) (a .lbn) _ _ _ (c .before .before .before .before .before .before .before .aspen-read .ensures) (c .before .before .before .before .before .before .if1 .left) (c .before .before .put-bytes .ensures)
+returns-2 c spare =
+    let put-bytes = c .before .before in
+    let if1 = put-bytes .before .before .before .before in
+    let aspen-read = if1 .before in
+    let start = aspen-read .before .before .before .before .before in
+    let a = start .args in
+    read-done spare (a .book .now) (a .pool .now) (a .answers .now) (a .to) (a .v) (a .number) (a .lbn) _ _ _
+    (aspen-read .aspen-read .ensures) (if1 .if1 .left) (put-bytes .put-bytes .ensures)
 
 pub answer-read-spec : {M : Type 1} → statement M
 answer-read-spec =

@@ -23,7 +23,10 @@ same-length : tie.Need-same-length
 same-length c = c .before .before .put-u16 .kept .0 ∙ simp length-set
 
 returns : tie.Need-returns
-returns c = let a = c .before .before .before .before .before .args in told (a .answers .now) (a .to) (a .tag) (a .v) (c .before .before .put-u16 .ensures)
+returns c =
+    let put-u16 = c .before .before in
+    let start = put-u16 .before .before .before in
+    let a = start .args in told (a .answers .now) (a .to) (a .tag) (a .v) (put-u16 .put-u16 .ensures)
 
 pub tell-spec : {M : Type 1} → statement M
 tell-spec =

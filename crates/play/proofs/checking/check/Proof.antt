@@ -28,8 +28,14 @@ is-call-requires : tie.Need-is-call-requires Inv-loop μ-loop
 is-call-requires c κs = omega arith
 
 returns : tie.Need-returns Inv-loop μ-loop
-returns c = let l = c .before .before .before .loop in
-    sym (l .inv .1 ∙ number-broken (c .before .before .before .before .before .args .room) (c .before .before .before .before .before .args .calls .now) (l .at) (l .most) (c .before .before .loop-test .taken) (failed (c .before .is-call .ensures) (c .if1 .taken)))
+returns c =
+    let is-call = c .before in
+    let turn = is-call .before in
+    let top = turn .before in
+    let start = top .before .before in
+    let l = top .loop in
+    sym (l .inv .1 ∙ number-broken (start .args .room) (start .args .calls .now) (l .at) (l .most) (turn .loop-test .taken)
+    (failed (is-call .is-call .ensures) (c .if1 .taken)))
 
 shared-slice-read-longest : tie.Need-shared-slice-read-longest Inv-loop μ-loop
 shared-slice-read-longest c = omega arith
@@ -41,41 +47,84 @@ added-requires : tie.Need-added-requires Inv-loop μ-loop
 added-requires c κs = (omega arith, c .longest .ensures .1)
 
 add-at : tie.Need-add-at Inv-loop μ-loop
-add-at c = let i = call-inside (c .before .before .before .before .before .before .before .before .args .calls .now) (c .before .before .before .before .before .before .loop .at) (passed (c .before .before .before .before .is-call .ensures) (c .before .before .before .if1 .left)) in omega arith
+add-at c =
+    let if1 = c .before .before .before in
+    let is-call = if1 .before in
+    let top = is-call .before .before in
+    let start = top .before .before in
+    let i = call-inside (start .args .calls .now) (top .loop .at) (passed (is-call .is-call .ensures) (if1 .if1 .left)) in
+    omega arith
 
 data-size-requires : tie.Need-data-size-requires Inv-loop μ-loop
-data-size-requires c κs = call-inside (c .before .before .before .before .before .before .before .before .args .calls .now) (c .before .before .before .before .before .before .loop .at) (passed (c .before .before .before .before .is-call .ensures) (c .before .before .before .if1 .left)) .0
+data-size-requires c κs =
+    let if1 = c .before .before .before in
+    let is-call = if1 .before in
+    let top = is-call .before .before in
+    let start = top .before .before in
+    call-inside (start .args .calls .now) (top .loop .at) (passed (is-call .is-call .ensures) (if1 .if1 .left)) .0
 
 add-at-2 : tie.Need-add-at-2 Inv-loop μ-loop
-add-at-2 c = let i = call-inside (c .before .before .before .before .before .before .before .before .before .args .calls .now) (c .before .before .before .before .before .before .before .loop .at) (passed (c .before .before .before .before .before .is-call .ensures) (c .before .before .before .before .if1 .left)) in omega (arith, c .data-size .ensures .0)
+add-at-2 c =
+    let if1 = c .before .before .before .before in
+    let is-call = if1 .before in
+    let top = is-call .before .before in
+    let start = top .before .before in
+    let i = call-inside (start .args .calls .now) (top .loop .at) (passed (is-call .is-call .ensures) (if1 .if1 .left)) in
+    omega (arith, c .data-size .ensures .0)
 
 loop-less : tie.Need-loop-less Inv-loop μ-loop
-loop-less c = let i = call-inside (c .before .before .before .before .before .before .before .before .before .args .calls .now) (c .before .before .before .before .before .before .before .loop .at) (passed (c .before .before .before .before .before .is-call .ensures) (c .before .before .before .before .if1 .left)) in omega (arith, c .data-size .ensures .0)
+loop-less c =
+    let if1 = c .before .before .before .before in
+    let is-call = if1 .before in
+    let top = is-call .before .before in
+    let start = top .before .before in
+    let i = call-inside (start .args .calls .now) (top .loop .at) (passed (is-call .is-call .ensures) (if1 .if1 .left)) in
+    omega (arith, c .data-size .ensures .0)
 
 loop-again : tie.Need-loop-again Inv-loop μ-loop
 loop-again c =
-    let a = c .before .before .before .before .before .before .before .before .before .args in
-    let l = c .before .before .before .before .before .before .before .loop in
-    let is = passed (c .before .before .before .before .before .is-call .ensures) (c .before .before .before .before .if1 .left) in
+    let added = c .before in
+    let long = added .before in
+    let if1 = long .before .before in
+    let is-call = if1 .before in
+    let turn = is-call .before in
+    let top = turn .before in
+    let start = top .before .before in
+    let a = start .args in
+    let l = top .loop in
+    let is = passed (is-call .is-call .ensures) (if1 .if1 .left) in
     let i = call-inside (a .calls .now) (l .at) is in
     let past : l .at + 14 + c .data-size .result ≡ l .at + callSize (a .calls .now) (l .at) =
     ap (λ (k : ℕ). l .at + 14 + k) (c .data-size .ensures .0) ∙ call-past (a .calls .now) (l .at)
     in
     let kind = longest-at (a .calls .now) (l .at) in
-    let sum : c .before .added .result ≡ addedTo (a .room) (l .most) (longest (callAt (a .calls .now) (l .at))) =
-    c .before .added .ensures ∙ ap (λ (k : ℕ). addedTo (a .room) (l .most) k) (c .before .before .longest .ensures .0 ∙ sym kind)
-    in
-    (omega (arith, c .data-size .ensures .0), rw (past, sum) (l .inv .1 ∙ number-more (a .room) (a .calls .now) (l .at) (l .most) (c .before .before .before .before .before .before .loop-test .taken) is))
+    let sum : added .added .result ≡ addedTo (a .room) (l .most) (longest (callAt (a .calls .now) (l .at))) =
+    added .added .ensures ∙ ap (λ (k : ℕ). addedTo (a .room) (l .most) k) (long .longest .ensures .0 ∙ sym kind)
+    in (
+      omega (arith, c .data-size .ensures .0),
+      rw (past, sum)
+          (l .inv .1 ∙ number-more (a .room) (a .calls .now) (l .at) (l .most) (turn .loop-test .taken) is),
+    )
 
 returns-2 : tie.Need-returns-2 Inv-loop μ-loop
-returns-2 c = let l = c .before .before .loop in
-    let a = c .before .before .before .before .args in
-    sym (l .inv .1 ∙ number-end (a .room) (a .calls .now) (l .at) (l .most) (c .before .loop-test .left) ∙ room-passed (a .room) (l .most) (c .if2 .taken))
+returns-2 c =
+    let turn = c .before in
+    let top = turn .before in
+    let start = top .before .before in
+    let l = top .loop in
+    let a = start .args in
+    sym (l .inv .1 ∙ number-end (a .room) (a .calls .now) (l .at) (l .most) (turn .loop-test .left) ∙ room-passed (a .room) (l .most)
+    (c .if2 .taken))
 
 returns-3 : tie.Need-returns-3 Inv-loop μ-loop
-returns-3 c = let l = c .before .before .loop in
-    let a = c .before .before .before .before .args in
-    sym (l .inv .1 ∙ number-end (a .room) (a .calls .now) (l .at) (l .most) (c .before .loop-test .left) ∙ room-enough (a .room) (l .most) (c .if2 .left))
+returns-3 c =
+    let turn = c .before in
+    let top = turn .before in
+    let start = top .before .before in
+    let l = top .loop in
+    let a = start .args in
+    sym (l .inv .1 ∙ number-end (a .room) (a .calls .now) (l .at) (l .most) (turn .loop-test .left) ∙ room-enough (a .room) (l .most)
+    (c .if2 .left))
 
 pub check-spec : {M : Type 1} → statement M
 check-spec =

@@ -31,8 +31,12 @@ unused-zero-at-requires c κs = search needs
 
 returns-3 : tie.Need-returns-3
 returns-3 c =
-    let a = c .before .before .before .before .before .before .args in
-    sym (call-unused (a .calls .now) (a .at) (omega arith) (c .before .before .if2 .left) (failed (c .before .unused-zero-at .ensures) (c .if3 .taken)))
+    let unused-zero-at = c .before in
+    let if2 = unused-zero-at .before in
+    let start = if2 .before .before .before .before in
+    let a = start .args in
+    sym (call-unused (a .calls .now) (a .at) (omega arith) (if2 .if2 .left)
+    (failed (unused-zero-at .unused-zero-at .ensures) (c .if3 .taken)))
 
 data-size-requires : tie.Need-data-size-requires
 data-size-requires c κs = search needs
@@ -45,9 +49,14 @@ sub-result-2 c = search needs
 
 returns-4 : tie.Need-returns-4
 returns-4 c =
-    let a = c .before .before .before .before .before .before .before .args in
+    let if3 = c .before in
+    let unused-zero-at = if3 .before in
+    let if2 = unused-zero-at .before in
+    let start = if2 .before .before .before .before in
+    let a = start .args in
     rw (c .data-size .ensures .0)
-    (sym (call-ends (a .calls .now) (a .at) (omega arith) (c .before .before .before .if2 .left) (passed (c .before .before .unused-zero-at .ensures) (c .before .if3 .left))))
+    (sym (call-ends (a .calls .now) (a .at) (omega arith) (if2 .if2 .left)
+    (passed (unused-zero-at .unused-zero-at .ensures) (if3 .if3 .left))))
 
 pub is-call-spec : {M : Type 1} → statement M
 is-call-spec =

@@ -14,11 +14,21 @@ returns-2 c = rw (ne-eqb (c .before .before .args .kind) 0 (c .before .if1 .left
 
 returns-3 : tie.Need-returns-3
 unfolding unusedZero
-returns-3 c = let k = c .before .before .before .args .kind in rw (ne-eqb k 0 (c .before .before .if1 .left), ne-eqb k 1 (c .before .if2 .left), eq-eqb k 2 (c .if3 .taken))
+returns-3 c =
+    let if2 = c .before in
+    let if1 = if2 .before in
+    let start = if1 .before in
+    let k = start .args .kind in rw (ne-eqb k 0 (if1 .if1 .left), ne-eqb k 1 (if2 .if2 .left), eq-eqb k 2 (c .if3 .taken))
 
 returns-4 : tie.Need-returns-4
 unfolding unusedZero
-returns-4 c = let k = c .before .before .before .before .args .kind in rw (ne-eqb k 0 (c .before .before .before .if1 .left), ne-eqb k 1 (c .before .before .if2 .left), ne-eqb k 2 (c .before .if3 .left), eq-eqb k 3 (c .if4 .taken))
+returns-4 c =
+    let if3 = c .before in
+    let if2 = if3 .before in
+    let if1 = if2 .before in
+    let start = if1 .before in
+    let k = start .args .kind in
+    rw (ne-eqb k 0 (if1 .if1 .left), ne-eqb k 1 (if2 .if2 .left), ne-eqb k 2 (if3 .if3 .left), eq-eqb k 3 (c .if4 .taken))
 
 returns-5 : tie.Need-returns-5
 unfolding unusedZero

@@ -40,8 +40,20 @@ unused-zero-requires c κs = search needs
 
 returns : tie.Need-returns
 unfolding unusedZeroAt
-returns c = c .unused-zero .ensures
-    ∙ rw (c .before .before .before .before .before .before .u16-at .ensures, c .before .before .before .before .before .u16-at2 .ensures, c .before .before .before .before .u16-at3 .ensures, c .before .before .before .u16-at4 .ensures, c .before .before .data-size .ensures .0)
+returns c =
+    let data-size = c .before .before in
+    let u16-at4 = data-size .before in
+    let u16-at3 = u16-at4 .before in
+    let u16-at2 = u16-at3 .before in
+    let u16-at = u16-at2 .before in
+    c .unused-zero .ensures
+    ∙ rw (
+      u16-at .u16-at .ensures,
+      u16-at2 .u16-at2 .ensures,
+      u16-at3 .u16-at3 .ensures,
+      u16-at4 .u16-at4 .ensures,
+      data-size .data-size .ensures .0,
+    )
 
 pub unused-zero-at-spec : {M : Type 1} → statement M
 unused-zero-at-spec =

@@ -19,14 +19,28 @@ returns c =
 
 play-list-requires : tie.Need-play-list-requires
 play-list-requires c κs =
-    let a = c .before .before .before .before .before .before .before .before .before .before .before .before .args in
-    let g = playable-good _ (a .calls .now) (sym (c .before .before .before .before .before .check .ensures) ∙ c .before .before .before .before .if1 .left) in
-    (g .0, omega (arith, g .1, c .before .before .before .before .before .before .room-of .ensures .1))
+    let if1 = c .before .before .before .before in
+    let check = if1 .before in
+    let room-of = check .before in
+    let start = room-of .before .before .before .before .before .before in
+    let a = start .args in
+    let g = playable-good _ (a .calls .now) (sym (check .check .ensures) ∙ if1 .if1 .left) in
+    (g .0, omega (arith, g .1, room-of .room-of .ensures .1))
 
 cast-written : tie.Need-cast-written
 cast-written c =
-    let a = c .before .before .before .before .before .before .before .before .before .before .before .before .before .before .before .before .before .before .before .before .before .args in
-    omega (arith, c .before .before .before .before .before .before .before .before .before .before .before .before .before .before .before .room-of .ensures .2, played-short (a .calls .now) (a .answers .now) _ (c .before .before .before .before .before .before .before .before .before .before .before .before .before .before .before .room-of .ensures .0) (sym (c .before .before .before .before .before .before .before .before .before .before .before .before .before .before .check .ensures) ∙ c .before .before .before .before .before .before .before .before .before .before .before .before .before .if1 .left) (c .before .before .before .before .before .before .before .before .play-list .ensures))
+    let play-list = c .before .before .before .before .before .before .before .before in
+    let if1 = play-list .before .before .before .before .before in
+    let check = if1 .before in
+    let room-of = check .before in
+    let start = room-of .before .before .before .before .before .before in
+    let a = start .args in
+    omega (
+      arith,
+      room-of .room-of .ensures .2,
+      played-short (a .calls .now) (a .answers .now) _ (room-of .room-of .ensures .0)
+          (sym (check .check .ensures) ∙ if1 .if1 .left) (play-list .play-list .ensures),
+    )
 
 same-length : tie.Need-same-length
 same-length c = search needs
@@ -42,8 +56,14 @@ same-length-4 c = search needs
 
 returns-2 : tie.Need-returns-2
 returns-2 c =
-    let a = c .before .before .before .before .before .before .before .before .before .before .before .before .before .before .before .before .before .before .before .before .before .args in
-    played-all (a .calls .now) (a .answers .now) _ (c .before .before .before .before .before .before .before .before .before .before .before .before .before .before .before .room-of .ensures .0) (sym (c .before .before .before .before .before .before .before .before .before .before .before .before .before .before .check .ensures) ∙ c .before .before .before .before .before .before .before .before .before .before .before .before .before .if1 .left) (c .before .before .before .before .before .before .before .before .play-list .ensures)
+    let play-list = c .before .before .before .before .before .before .before .before in
+    let if1 = play-list .before .before .before .before .before in
+    let check = if1 .before in
+    let room-of = check .before in
+    let start = room-of .before .before .before .before .before .before in
+    let a = start .args in
+    played-all (a .calls .now) (a .answers .now) _ (room-of .room-of .ensures .0) (sym (check .check .ensures) ∙ if1 .if1 .left)
+    (play-list .play-list .ensures)
 
 pub aspen-play-spec : {M : Type 1} → statement M
 aspen-play-spec =

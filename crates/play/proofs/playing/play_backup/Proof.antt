@@ -1,6 +1,7 @@
 -- `play::playing::play_backup`: the data of the call is the change list.
 use Prim.Native.Nat.{ℕ, _+_, _-_, _≤_}
 use mathlib.Core.Path.{_≡_, ap, _∙_}
+use mathlib.Core.List.{List}
 use native.Mathlib.Omega.{arith}
 use lib.ListN.{length, take, drop}
 use borrow.Author.Needs.{needs}
@@ -11,8 +12,15 @@ use Rattle.calls.specs.Reading.{call-inside}
 use Rattle.play.proofs.playing.play_backup.Statement.{statement}
 use Rattle.play.proofs.playing.play_backup.Tie as tie
 
-inside : (c : tie.After-slice-known4) → (c .before .before .before .before .before .args .at + 14 ≤ length (c .before .before .before .before .before .args .calls .now)) × (c .before .before .before .before .before .args .at + 14 + dataSize (c .before .before .before .before .before .args .calls .now) (c .before .before .before .before .before .args .at) ≤ length (c .before .before .before .before .before .args .calls .now))
-inside c = call-inside (c .before .before .before .before .before .args .calls .now) (c .before .before .before .before .before .args .at) (c .before .before .before .before .before .pre .0)
+abbrev start : tie.After-slice-known4 → tie.Start
+start c = c .before .before .before .before .before
+
+abbrev calls : tie.After-slice-known4 → List ℕ
+calls c = start c .args .calls .now
+
+inside : (c : tie.After-slice-known4)
+    → (start c .args .at + 14 ≤ length (calls c)) × (start c .args .at + 14 + dataSize (calls c) (start c .args .at) ≤ length (calls c))
+inside c = call-inside (calls c) (start c .args .at) (start c .pre .0)
 
 add-from : tie.Need-add-from
 add-from c = let i = inside (c) in omega (arith)
@@ -42,7 +50,9 @@ part-answer-backup-start : tie.Need-part-answer-backup-start
 part-answer-backup-start c = search needs
 
 part-answer-backup-end : tie.Need-part-answer-backup-end
-part-answer-backup-end c = let i = inside (c .before .before .before .before .before .before) in omega (arith, c .before .before .before .before .before .data-size .ensures .0)
+part-answer-backup-end c =
+    let before = c .before .before .before .before .before in
+    let i = inside (before .before) in omega (arith, before .data-size .ensures .0)
 
 answer-backup-requires : tie.Need-answer-backup-requires
 answer-backup-requires c κs = search needs
@@ -61,12 +71,18 @@ same-length-4 c = search needs
 
 returns : tie.Need-returns
 returns c =
-    let a = c .before .before .before .before .before .before .before .before .before .before .before .before .before .before .before .before .before .before .before .before .before .before .args in
-    let k = c .before .before .before .before .before .before .before .before .before .before .before .before .before .before .before .before .data-size in
-    let list : take (a .at + 14 + k .result - (a .at + 14)) (drop (a .at + 14) (a .calls .now)) ≡ part (a .calls .now) (a .at + 14) (dataSize (a .calls .now) (a .at)) =
+    let answer-backup = c .before .before .before .before .before .before .before .before in
+    let u16-at2 = answer-backup .before .before .before .before .before .before in
+    let u16-at = u16-at2 .before in
+    let data-size = u16-at .before in
+    let start = data-size .before .before .before .before .before .before in
+    let a = start .args in
+    let k = data-size .data-size in
+    let list : take (a .at + 14 + k .result - (a .at + 14)) (drop (a .at + 14) (a .calls .now)) ≡ part (a .calls .now) (a .at + 14)
+    (dataSize (a .calls .now) (a .at)) =
     lent (a .calls .now) (a .at + 14) (k .result) ∙ ap (λ (n : ℕ). part (a .calls .now) (a .at + 14) n) (k .ensures .0)
     in
-    rw (← c .before .before .before .before .before .before .before .before .before .before .before .before .before .before .before .u16-at .ensures, ← c .before .before .before .before .before .before .before .before .before .before .before .before .before .before .u16-at2 .ensures, ← list) (c .before .before .before .before .before .before .before .before .answer-backup .ensures)
+    rw (← u16-at .u16-at .ensures, ← u16-at2 .u16-at2 .ensures, ← list) (answer-backup .answer-backup .ensures)
 
 pub play-backup-spec : {M : Type 1} → statement M
 play-backup-spec =

@@ -9,25 +9,39 @@ use Rattle.play.proofs.playing.play_call.Statement.{statement}
 use Rattle.play.proofs.playing.play_call.Tie as tie
 
 shared-slice-read-kind : tie.Need-shared-slice-read-kind
-shared-slice-read-kind c = let i = call-inside (c .before .before .before .before .before .before .args .calls .now) (c .before .before .before .before .before .before .args .at) (c .before .before .before .before .before .before .pre .0) in omega arith
+shared-slice-read-kind c =
+    let start = c .before .before .before .before .before .before in
+    let i = call-inside (start .args .calls .now) (start .args .at) (start .pre .0) in omega arith
 
 add-u16-at : tie.Need-add-u16-at
-add-u16-at c = let i = call-inside (c .before .before .before .before .before .before .args .calls .now) (c .before .before .before .before .before .before .args .at) (c .before .before .before .before .before .before .pre .0) in omega arith
+add-u16-at c =
+    let start = c .before .before .before .before .before .before in
+    let i = call-inside (start .args .calls .now) (start .args .at) (start .pre .0) in omega arith
 
 u16-at-requires : tie.Need-u16-at-requires
-u16-at-requires c κs = let i = call-inside (c .before .before .before .before .before .before .args .calls .now) (c .before .before .before .before .before .before .args .at) (c .before .before .before .before .before .before .pre .0) in omega arith
+u16-at-requires c κs =
+    let start = c .before .before .before .before .before .before in
+    let i = call-inside (start .args .calls .now) (start .args .at) (start .pre .0) in omega arith
 
 add-u16-at-2 : tie.Need-add-u16-at-2
-add-u16-at-2 c = let i = call-inside (c .before .before .before .before .before .before .before .args .calls .now) (c .before .before .before .before .before .before .before .args .at) (c .before .before .before .before .before .before .before .pre .0) in omega arith
+add-u16-at-2 c =
+    let start = c .before .before .before .before .before .before .before in
+    let i = call-inside (start .args .calls .now) (start .args .at) (start .pre .0) in omega arith
 
 u16-at-requires-2 : tie.Need-u16-at-requires-2
-u16-at-requires-2 c κs = let i = call-inside (c .before .before .before .before .before .before .before .args .calls .now) (c .before .before .before .before .before .before .before .args .at) (c .before .before .before .before .before .before .before .pre .0) in omega arith
+u16-at-requires-2 c κs =
+    let start = c .before .before .before .before .before .before .before in
+    let i = call-inside (start .args .calls .now) (start .args .at) (start .pre .0) in omega arith
 
 add-u16-at-3 : tie.Need-add-u16-at-3
-add-u16-at-3 c = let i = call-inside (c .before .before .before .before .before .before .before .before .args .calls .now) (c .before .before .before .before .before .before .before .before .args .at) (c .before .before .before .before .before .before .before .before .pre .0) in omega arith
+add-u16-at-3 c =
+    let start = c .before .before .before .before .before .before .before .before in
+    let i = call-inside (start .args .calls .now) (start .args .at) (start .pre .0) in omega arith
 
 u16-at-requires-3 : tie.Need-u16-at-requires-3
-u16-at-requires-3 c κs = let i = call-inside (c .before .before .before .before .before .before .before .before .args .calls .now) (c .before .before .before .before .before .before .before .before .args .at) (c .before .before .before .before .before .before .before .before .pre .0) in omega arith
+u16-at-requires-3 c κs =
+    let start = c .before .before .before .before .before .before .before .before in
+    let i = call-inside (start .args .calls .now) (start .args .at) (start .pre .0) in omega arith
 
 answer-enrol-requires : tie.Need-answer-enrol-requires
 answer-enrol-requires c κs =
@@ -43,14 +57,23 @@ same-length-2 c = search needs
 
 returns : tie.Need-returns
 returns c =
-    let a = c .before .before .before .before .before .before .before .before .before .before .before .before .before .before .before .before .before .args in
-    rw (call-enrol (a .calls .now) (a .at) (c .before .before .before .before .before .before .before .if1 .taken), ← c .before .before .before .before .before .before .before .before .before .before .u16-at .ensures, ← c .before .before .before .before .before .before .before .before .before .u16-at2 .ensures) (c .before .before .before .before .answer-enrol .ensures (length (a .spare .now)) (a .pool .now))
+    let answer-enrol = c .before .before .before .before in
+    let if1 = answer-enrol .before .before .before in
+    let u16-at2 = if1 .before .before in
+    let u16-at = u16-at2 .before in
+    let start = u16-at .before .before .before .before .before .before .before in
+    let a = start .args in
+    rw (call-enrol (a .calls .now) (a .at) (if1 .if1 .taken), ← u16-at .u16-at .ensures, ← u16-at2 .u16-at2 .ensures)
+    (answer-enrol .answer-enrol .ensures (length (a .spare .now)) (a .pool .now))
 
 play-backup-requires : tie.Need-play-backup-requires
 play-backup-requires c κs =
-    let a = c .before .before .before .before .before .before .before .before .before .before .before .before .before .before .before .args in
-    let e = ap longest (call-backup (a .calls .now) (a .at) (c .before .before .before .before .before .if1 .left) (c .before .before .before .before .if2 .taken)) in
-    (c .before .before .before .before .before .before .before .before .before .before .before .before .before .before .before .pre .0, omega (arith, c .before .before .before .before .before .before .before .before .before .before .before .before .before .before .before .pre .1))
+    let if2 = c .before .before .before .before in
+    let if1 = if2 .before in
+    let start = if1 .before .before .before .before .before .before .before .before .before .before in
+    let a = start .args in
+    let e = ap longest (call-backup (a .calls .now) (a .at) (if1 .if1 .left) (if2 .if2 .taken)) in
+    (start .pre .0, omega (arith, start .pre .1))
 
 same-length-3 : tie.Need-same-length-3
 same-length-3 c = search needs
@@ -66,14 +89,22 @@ same-length-6 c = search needs
 
 returns-2 : tie.Need-returns-2
 returns-2 c =
-    let a = c .before .before .before .before .before .before .before .before .before .before .before .before .before .before .before .before .before .before .before .before .before .before .before .before .args in
-    rw (call-backup (a .calls .now) (a .at) (c .before .before .before .before .before .before .before .before .before .before .before .before .before .before .if1 .left) (c .before .before .before .before .before .before .before .before .before .before .before .before .before .if2 .taken)) (c .before .before .before .before .before .before .before .before .play-backup .ensures)
+    let play-backup = c .before .before .before .before .before .before .before .before in
+    let if2 = play-backup .before .before .before .before .before in
+    let if1 = if2 .before in
+    let start = if1 .before .before .before .before .before .before .before .before .before .before in
+    let a = start .args in
+    rw (call-backup (a .calls .now) (a .at) (if1 .if1 .left) (if2 .if2 .taken)) (play-backup .play-backup .ensures)
 
 answer-collect-requires : tie.Need-answer-collect-requires
 answer-collect-requires c κs =
-    let a = c .before .before .before .before .before .before .before .before .before .before .before .before .before .before .args in
-    let e = ap longest (call-collect (a .calls .now) (a .at) (c .before .before .before .before .if1 .left) (c .before .before .before .if2 .left) (c .before .before .if3 .taken)) in
-    omega (arith, c .before .before .before .before .before .before .before .before .before .before .before .before .before .before .pre .1)
+    let if3 = c .before .before in
+    let if2 = if3 .before in
+    let if1 = if2 .before in
+    let start = if1 .before .before .before .before .before .before .before .before .before .before in
+    let a = start .args in
+    let e = ap longest (call-collect (a .calls .now) (a .at) (if1 .if1 .left) (if2 .if2 .left) (if3 .if3 .taken)) in
+    omega (arith, start .pre .1)
 
 same-length-7 : tie.Need-same-length-7
 same-length-7 c = search needs
@@ -83,14 +114,26 @@ same-length-8 c = search needs
 
 returns-3 : tie.Need-returns-3
 returns-3 c =
-    let a = c .before .before .before .before .before .before .before .before .before .before .before .before .before .before .before .before .before .before .before .args in
-    rw (call-collect (a .calls .now) (a .at) (c .before .before .before .before .before .before .before .before .before .if1 .left) (c .before .before .before .before .before .before .before .before .if2 .left) (c .before .before .before .before .before .before .before .if3 .taken), ← c .before .before .before .before .before .before .before .before .before .before .before .before .u16-at .ensures) (c .before .before .before .before .answer-collect .ensures (length (a .spare .now)) (a .pool .now))
+    let answer-collect = c .before .before .before .before in
+    let if3 = answer-collect .before .before .before in
+    let if2 = if3 .before in
+    let if1 = if2 .before in
+    let u16-at = if1 .before .before .before in
+    let start = u16-at .before .before .before .before .before .before .before in
+    let a = start .args in
+    rw (call-collect (a .calls .now) (a .at) (if1 .if1 .left) (if2 .if2 .left) (if3 .if3 .taken), ← u16-at .u16-at .ensures)
+    (answer-collect .answer-collect .ensures (length (a .spare .now)) (a .pool .now))
 
 answer-read-requires : tie.Need-answer-read-requires
 answer-read-requires c κs =
-    let a = c .before .before .before .before .before .before .before .before .before .before .before .before .before .before .before .before .args in
-    let e = ap longest (call-read (a .calls .now) (a .at) (c .before .before .before .before .before .before .if1 .left) (c .before .before .before .before .before .if2 .left) (c .before .before .before .before .if3 .left) (c .before .before .before .if4 .taken)) in
-    omega (arith, c .before .before .before .before .before .before .before .before .before .before .before .before .before .before .before .before .pre .1)
+    let if4 = c .before .before .before in
+    let if3 = if4 .before in
+    let if2 = if3 .before in
+    let if1 = if2 .before in
+    let start = if1 .before .before .before .before .before .before .before .before .before .before in
+    let a = start .args in
+    let e = ap longest (call-read (a .calls .now) (a .at) (if1 .if1 .left) (if2 .if2 .left) (if3 .if3 .left) (if4 .if4 .taken)) in
+    omega (arith, start .pre .1)
 
 same-length-9 : tie.Need-same-length-9
 same-length-9 c = search needs
@@ -103,14 +146,35 @@ same-length-11 c = search needs
 
 returns-4 : tie.Need-returns-4
 returns-4 c =
-    let a = c .before .before .before .before .before .before .before .before .before .before .before .before .before .before .before .before .before .before .before .args in
-    rw (call-read (a .calls .now) (a .at) (c .before .before .before .before .before .before .before .before .before .if1 .left) (c .before .before .before .before .before .before .before .before .if2 .left) (c .before .before .before .before .before .before .before .if3 .left) (c .before .before .before .before .before .before .if4 .taken), ← c .before .before .before .before .before .before .before .before .before .before .before .before .u16-at .ensures, ← c .before .before .before .before .before .before .before .before .before .before .before .u16-at2 .ensures, ← c .before .before .before .before .before .before .before .before .before .before .u16-at3 .ensures) (c .before .before .answer-read .ensures (length (a .spare .now)))
+    let answer-read = c .before .before in
+    let if4 = answer-read .before .before .before .before in
+    let if3 = if4 .before in
+    let if2 = if3 .before in
+    let if1 = if2 .before in
+    let u16-at3 = if1 .before in
+    let u16-at2 = u16-at3 .before in
+    let u16-at = u16-at2 .before in
+    let start = u16-at .before .before .before .before .before .before .before in
+    let a = start .args in
+    rw (
+      call-read (a .calls .now) (a .at) (if1 .if1 .left) (if2 .if2 .left) (if3 .if3 .left)
+          (if4 .if4 .taken),
+      ← u16-at .u16-at .ensures,
+      ← u16-at2 .u16-at2 .ensures,
+      ← u16-at3 .u16-at3 .ensures,
+    )
+    (answer-read .answer-read .ensures (length (a .spare .now)))
 
 answer-audit-requires : tie.Need-answer-audit-requires
 answer-audit-requires c κs =
-    let a = c .before .before .before .before .before .before .before .before .before .before .before .before .before .before .before .args in
-    let e = ap longest (call-audit (a .calls .now) (a .at) (c .before .before .before .before .before .if1 .left) (c .before .before .before .before .if2 .left) (c .before .before .before .if3 .left) (c .before .before .if4 .left)) in
-    omega (arith, c .before .before .before .before .before .before .before .before .before .before .before .before .before .before .before .pre .1)
+    let if4 = c .before .before in
+    let if3 = if4 .before in
+    let if2 = if3 .before in
+    let if1 = if2 .before in
+    let start = if1 .before .before .before .before .before .before .before .before .before .before in
+    let a = start .args in
+    let e = ap longest (call-audit (a .calls .now) (a .at) (if1 .if1 .left) (if2 .if2 .left) (if3 .if3 .left) (if4 .if4 .left)) in
+    omega (arith, start .pre .1)
 
 same-length-12 : tie.Need-same-length-12
 same-length-12 c = search needs
@@ -120,8 +184,15 @@ same-length-13 c = search needs
 
 returns-5 : tie.Need-returns-5
 returns-5 c =
-    let a = c .before .before .before .before .before .before .before .before .before .before .before .before .before .before .before .before .before .before .args in
-    rw (call-audit (a .calls .now) (a .at) (c .before .before .before .before .before .before .before .before .if1 .left) (c .before .before .before .before .before .before .before .if2 .left) (c .before .before .before .before .before .before .if3 .left) (c .before .before .before .before .before .if4 .left)) (c .before .before .answer-audit .ensures (length (a .spare .now)) (a .pool .now))
+    let answer-audit = c .before .before in
+    let if4 = answer-audit .before .before .before in
+    let if3 = if4 .before in
+    let if2 = if3 .before in
+    let if1 = if2 .before in
+    let start = if1 .before .before .before .before .before .before .before .before .before .before in
+    let a = start .args in
+    rw (call-audit (a .calls .now) (a .at) (if1 .if1 .left) (if2 .if2 .left) (if3 .if3 .left) (if4 .if4 .left))
+    (answer-audit .answer-audit .ensures (length (a .spare .now)) (a .pool .now))
 
 pub play-call-spec : {M : Type 1} → statement M
 play-call-spec =

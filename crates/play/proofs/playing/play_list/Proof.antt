@@ -28,33 +28,65 @@ abbrev μ-loop : tie.MeasureT-loop
 μ-loop book₀ pool₀ spare₀ calls answers₀ at₀ to₀ book pool spare answers at to = length calls - at
 
 loop-holds : tie.Need-loop-holds Inv-loop μ-loop
-loop-holds c = let p = c .before .before .before .before .before .pre in (playing-all, p .0, rw zero-add (p .1), omega arith, refl, refl, refl, refl)
+loop-holds c =
+    let start = c .before .before .before .before .before in
+    let p = start .pre in (playing-all, p .0, rw zero-add (p .1), omega arith, refl, refl, refl, refl)
 
 play-call-requires : tie.Need-play-call-requires Inv-loop μ-loop
 play-call-requires c κs =
-    let l = c .before .before .before .before .before .loop in
-    let n = next-good (c .before .before .before .before .before .before .before .before .before .before .before .args .calls .now) (c .before .before .before .before .before .loop .at) (c .before .before .before .before .loop-test .taken) (c .before .before .before .before .before .loop .inv .1) in
+    let turn = c .before .before .before .before in
+    let top = turn .before in
+    let start = top .before .before .before .before .before .before in
+    let l = top .loop in
+    let n = next-good (start .args .calls .now) (top .loop .at) (turn .loop-test .taken) (top .loop .inv .1) in
     let most = ap mostOf (n .split) in
     (n .is, omega (arith, l .inv .2, l .inv .7))
 
 add-at : tie.Need-add-at Inv-loop μ-loop
-add-at c = let i = call-inside (c .before .before .before .before .before .before .before .before .before .before .before .before .before .before .before .before .before .before .before .before .args .calls .now) (c .before .before .before .before .before .before .before .before .before .before .before .before .before .before .loop .at) ((next-good (c .before .before .before .before .before .before .before .before .before .before .before .before .before .before .before .before .before .before .before .before .args .calls .now) (c .before .before .before .before .before .before .before .before .before .before .before .before .before .before .loop .at) (c .before .before .before .before .before .before .before .before .before .before .before .before .before .loop-test .taken) (c .before .before .before .before .before .before .before .before .before .before .before .before .before .before .loop .inv .1)) .is) in omega arith
+add-at c =
+    let turn = c .before .before .before .before .before .before .before .before .before .before .before .before .before in
+    let top = turn .before in
+    let start = top .before .before .before .before .before .before in
+    let i = call-inside (start .args .calls .now) (top .loop .at)
+    ((next-good (start .args .calls .now) (top .loop .at) (turn .loop-test .taken) (top .loop .inv .1)) .is) in
+    omega arith
 
 data-size-requires : tie.Need-data-size-requires Inv-loop μ-loop
-data-size-requires c κs = call-inside (c .before .before .before .before .before .before .before .before .before .before .before .before .before .before .before .before .before .before .before .before .args .calls .now) (c .before .before .before .before .before .before .before .before .before .before .before .before .before .before .loop .at) ((next-good (c .before .before .before .before .before .before .before .before .before .before .before .before .before .before .before .before .before .before .before .before .args .calls .now) (c .before .before .before .before .before .before .before .before .before .before .before .before .before .before .loop .at) (c .before .before .before .before .before .before .before .before .before .before .before .before .before .loop-test .taken) (c .before .before .before .before .before .before .before .before .before .before .before .before .before .before .loop .inv .1)) .is) .0
+data-size-requires c κs =
+    let turn = c .before .before .before .before .before .before .before .before .before .before .before .before .before in
+    let top = turn .before in
+    let start = top .before .before .before .before .before .before in
+    call-inside (start .args .calls .now) (top .loop .at)
+    ((next-good (start .args .calls .now) (top .loop .at) (turn .loop-test .taken) (top .loop .inv .1)) .is) .0
 
 add-at-2 : tie.Need-add-at-2 Inv-loop μ-loop
-add-at-2 c = let i = call-inside (c .before .before .before .before .before .before .before .before .before .before .before .before .before .before .before .before .before .before .before .before .before .args .calls .now) (c .before .before .before .before .before .before .before .before .before .before .before .before .before .before .before .loop .at) ((next-good (c .before .before .before .before .before .before .before .before .before .before .before .before .before .before .before .before .before .before .before .before .before .args .calls .now) (c .before .before .before .before .before .before .before .before .before .before .before .before .before .before .before .loop .at) (c .before .before .before .before .before .before .before .before .before .before .before .before .before .before .loop-test .taken) (c .before .before .before .before .before .before .before .before .before .before .before .before .before .before .before .loop .inv .1)) .is) in omega (arith, c .data-size .ensures .0)
+add-at-2 c =
+    let turn = c .before .before .before .before .before .before .before .before .before .before .before .before .before .before in
+    let top = turn .before in
+    let start = top .before .before .before .before .before .before in
+    let i = call-inside (start .args .calls .now) (top .loop .at)
+    ((next-good (start .args .calls .now) (top .loop .at) (turn .loop-test .taken) (top .loop .inv .1)) .is) in
+    omega (arith, c .data-size .ensures .0)
 
 loop-less : tie.Need-loop-less Inv-loop μ-loop
-loop-less c = let i = call-inside (c .before .before .before .before .before .before .before .before .before .before .before .before .before .before .before .before .before .before .before .before .before .args .calls .now) (c .before .before .before .before .before .before .before .before .before .before .before .before .before .before .before .loop .at) ((next-good (c .before .before .before .before .before .before .before .before .before .before .before .before .before .before .before .before .before .before .before .before .before .args .calls .now) (c .before .before .before .before .before .before .before .before .before .before .before .before .before .before .before .loop .at) (c .before .before .before .before .before .before .before .before .before .before .before .before .before .before .loop-test .taken) (c .before .before .before .before .before .before .before .before .before .before .before .before .before .before .before .loop .inv .1)) .is) in omega (arith, c .data-size .ensures .0)
+loop-less c =
+    let turn = c .before .before .before .before .before .before .before .before .before .before .before .before .before .before in
+    let top = turn .before in
+    let start = top .before .before .before .before .before .before in
+    let i = call-inside (start .args .calls .now) (top .loop .at)
+    ((next-good (start .args .calls .now) (top .loop .at) (turn .loop-test .taken) (top .loop .inv .1)) .is) in
+    omega (arith, c .data-size .ensures .0)
 
 loop-again : tie.Need-loop-again Inv-loop μ-loop
 loop-again c =
-    let a = c .before .before .before .before .before .before .before .before .before .before .before .before .before .before .before .before .before .before .before .before .before .args in
-    let l = c .before .before .before .before .before .before .before .before .before .before .before .before .before .before .before .loop in
-    let k = c .before .before .before .before .before .before .before .before .before .play-call in
-    let n = next-good (c .before .before .before .before .before .before .before .before .before .before .before .before .before .before .before .before .before .before .before .before .before .args .calls .now) (c .before .before .before .before .before .before .before .before .before .before .before .before .before .before .before .loop .at) (c .before .before .before .before .before .before .before .before .before .before .before .before .before .before .loop-test .taken) (c .before .before .before .before .before .before .before .before .before .before .before .before .before .before .before .loop .inv .1) in
+    let play-call = c .before .before .before .before .before .before .before .before .before in
+    let turn = play-call .before .before .before .before .before in
+    let top = turn .before in
+    let start = top .before .before .before .before .before .before in
+    let a = start .args in
+    let l = top .loop in
+    let k = play-call .play-call in
+    let n = next-good (start .args .calls .now) (top .loop .at) (turn .loop-test .taken) (top .loop .inv .1) in
     let i = call-inside (a .calls .now) (l .at) (n .is) in
     let past : l .at + 14 + c .data-size .result ≡ l .at + callSize (a .calls .now) (l .at) =
     ap (λ (s : ℕ). l .at + 14 + s) (c .data-size .ensures .0) ∙ call-past (a .calls .now) (l .at)
@@ -86,9 +118,11 @@ same-length-4 c = c .before .loop .inv .7
 
 returns : tie.Need-returns Inv-loop μ-loop
 returns c =
-    let a = c .before .before .before .before .before .before .before .args in
-    let l = c .before .loop in
-    playing-none (rw (rest-end (a .calls .now) (l .at) (c .loop-test .left)) at (l .inv .0)) (c .before .before .before .before .before .before .before .pre .1)
+    let top = c .before in
+    let start = top .before .before .before .before .before .before in
+    let a = start .args in
+    let l = top .loop in
+    playing-none (rw (rest-end (a .calls .now) (l .at) (c .loop-test .left)) at (l .inv .0)) (start .pre .1)
 
 pub play-list-spec : {M : Type 1} → statement M
 play-list-spec =

@@ -1,0 +1,89 @@
+-- The chain: what is played on a fresh book answers as the plain store and shows what it shows, and the box goes on from there as the claims
+-- say. Assumes nothing.
+use Prim.Native.Nat.{ℕ, _*_, _≤_, _<_}
+use mathlib.Core.Path.{_≡_, refl, sym, ap, _∙_}
+use mathlib.Core.Bool.{true, false, not}
+use mathlib.Core.List.{List, [], _∷_, _++_}
+use lib.ListN.{length, drop}
+use Rattle.words.specs.Lists.{all}
+use Rattle.words.specs.Outcome.{Outcome, accepted, unless}
+use Rattle.words.specs.Sections.{flat}
+use Rattle.list.specs.Changes.{changeCount}
+use Rattle.book.specs.Book.{Sizes, isFree}
+use Rattle.book.specs.Layout.{bookSize}
+use Rattle.model.specs.Calls.{Call, backup, collect, read, audit, Answer, backed, freed, sound}
+use Rattle.model.specs.Claims.{Fresh, ourEnd, entryIn, changesName, saysDamage}
+use Rattle.model.specs.History.{historyOf, dayOf, historyRead}
+use Rattle.model.specs.OnBytes.{numberOf, formatNumber}
+use Rattle.model.specs.Plain.{Plain, start, marked}
+use Rattle.model.specs.Pool.{poolSize}
+use Rattle.model.specs.Proved.{lists, images, corollaries, end-append}
+use Rattle.model.specs.Runs.{answersOf, endOf, Ours, ours, plain, oursShown, plainShown}
+use Rattle.calls.specs.Answers.{answerBytes}
+use Rattle.calls.specs.Contracts.{at, DidAll, roomOf, playable}
+
+-- what the plain store of these sizes answers, and where it stands after the list
+abbrev pub plainAnswers : Sizes → List Call → List Answer
+plainAnswers z cs = answersOf plain (start z) cs
+
+abbrev pub plainAfter : Sizes → List Call → Plain
+plainAfter z cs = endOf plain (start z) cs
+
+abbrev pub plainBytes : Sizes → List Call → List ℕ
+plainBytes z cs = flat answerBytes (plainAnswers z cs)
+
+-- ---- the list was answered as the plain store answers it, and what is compared after it is the plain store's
+
+pub record AsPlain (z : Sizes) (cs : List Call) (out b′ pool′ out′ : List ℕ) (w′ : ℕ) : Type 0 where
+  pub answers : out′ ≡ plainBytes z cs ++ drop (length (plainBytes z cs)) out
+  pub written : w′ ≡ length (plainBytes z cs)
+  pub shown : oursShown (at b′ pool′) ≡ plainShown (plainAfter z cs)
+  -- "It gives no 1 to 4 and no 13"
+  pub undamaged : all (λ a. not (saysDamage a)) (plainAnswers z cs) ≡ true
+
+-- ---- what holds of the next call, whichever it is; o is where the list left book and pool
+
+pub record GoesOn (z : Sizes) (spare : ℕ) (cs : List Call) (o : Ours) : Type 0 where
+  pub freeing : (t k p : ℕ) → ours spare o (collect t) .answer ≡ freed k → p < z .n → entryIn o p .held ≡ true
+      → isFree (entryIn (ours spare o (collect t) .next) p) ≡ not (marked (plainAfter z cs) t p)
+  pub touching : (v t p : ℕ) (list : List ℕ) → p < z .n → changesName (plainAfter z cs) v t list p ≡ false
+      → entryIn (ours spare o (backup v t list) .next) p ≡ entryIn o p
+  pub reads : (v k lbn : ℕ)
+      → ours spare o (read v k lbn) .answer ≡ historyRead (z .l) (historyOf v cs (plainAnswers z cs)) (dayOf cs (plainAnswers z cs)) k lbn
+  pub audits : ours spare o audit .answer ≡ sound true
+  pub touches : (v t : ℕ) (list : List ℕ) (k taken touched : ℕ) → ours spare o (backup v t list) .answer ≡ backed k taken touched
+      → touched ≤ 2 * changeCount list
+  pub collects : (t k : ℕ) → ours spare o (collect t) .answer ≡ freed k → ours spare (ours spare o (collect t) .next) (collect t) .answer ≡ freed 0
+
+module _ (f : Fresh) (cs : List Call) where
+  pub as-plain : {out b′ pool′ out′ : List ℕ} {w′ : ℕ} → DidAll (f .spare) (f .book) (f .pool) cs out b′ pool′ out′ w′ → AsPlain (f .sizes) cs out b′ pool′ out′ w′
+  as-plain d = record {
+    answers = rw (← lists f cs .answers) (d .answers);
+    written = rw (← lists f cs .answers) (d .written);
+    shown = ap oursShown (d .end) ∙ lists f cs .shown;
+    undamaged = rw (← lists f cs .answers) (corollaries f cs .undamaged);
+  }
+
+  pub goes-on : GoesOn (f .sizes) (f .spare) cs (ourEnd f cs)
+  goes-on = record {
+    freeing = λ t k p a h held. lists f (cs ++ (collect t ∷ [])) .freeing cs [] t k p refl a h held;
+    touching = λ v t p list h n. lists f (cs ++ (backup v t list ∷ [])) .touching cs [] v t p list refl h n;
+    reads = λ v k lbn. rw (← lists f cs .answers) (images f cs .reads v k lbn);
+    audits = corollaries f cs .audits;
+    touches = corollaries f cs .touches;
+    collects = λ t k a.
+        ap (λ (o : Ours). ours (f .spare) o (collect t) .answer) (sym (end-append (ours (f .spare)) (record { book = f .book; pool = f .pool }) cs (collect t ∷ [])))
+        ∙ corollaries f cs .collects t k a;
+  }
+
+-- ---- a format, and then a list
+
+-- 1, then 19 and 20
+unfoldable pub freshPlayable : List ℕ → Sizes → List ℕ → ℕ → Outcome (List Call)
+freshPlayable b z calls room = unless (formatNumber b z) (playable calls room)
+
+-- "one fresh book .. and its pool (any bytes at first) with a spare long enough"; b is the book before the format
+pub record PlayedFresh (b pool spare : List ℕ) (z : Sizes) (calls out : List ℕ) (r : ℕ) (b′ pool′ out′ : List ℕ) (w′ : ℕ) : Type 0 where
+  pub number : r ≡ numberOf (freshPlayable b z calls (roomOf (length out)))
+  pub played : (cs : List Call) → freshPlayable b z calls (roomOf (length out)) ≡ accepted cs → length pool ≡ poolSize (z .n) → bookSize z ≤ length spare
+      → AsPlain z cs out b′ pool′ out′ w′ × GoesOn z (length spare) cs (at b′ pool′)

@@ -1,0 +1,27 @@
+// A list of calls on a fresh book.
+ghost use Rattle.calls.specs.Chain.{PlayedFresh};
+ghost use Rattle.book.specs.Book.{Sizes};
+use super::playing::aspen_play;
+use engine::format::aspen_format;
+
+// A book of N, L, S and J, and a list of calls on it: its answers are the plain store's, whatever the calls.
+pub fn play_fresh(
+    book: &mut [u8],
+    pool: &mut [u8],
+    spare: &mut [u8],
+    n: u16,
+    l: u16,
+    s: u16,
+    j: u16,
+    calls: &[u8],
+    answers: &mut [u8],
+    written: &mut u32,
+) -> u16
+    ensures { λ r. ⌜ PlayedFresh (now (book .entry)) (now (pool .entry)) (now (spare .entry)) (record { n = n; l = l; s = s; j = j }) (now (calls .entry)) (now (answers .entry)) r (now (book .exit)) (now (pool .exit)) (now (answers .exit)) (now (written .exit)) ⌝ }
+{
+    let refusal = aspen_format(book, n, l, s, j);
+    if refusal != 0 {
+        return refusal;
+    }
+    aspen_play(book, pool, spare, calls, answers, written)
+}
