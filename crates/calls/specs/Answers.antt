@@ -1,4 +1,4 @@
--- Answers in bytes: a tag, then numbers or a block; the longest answer that a call can have. Assumes nothing.
+-- Answers in bytes: a tag, then numbers or a block; the longest answer that a call can have.
 use Prim.Native.Nat.{ℕ, zero, suc, _+_}
 use mathlib.Core.Bool.{Bool, true}
 use mathlib.Core.List.{List, [], _∷_, _++_, map}

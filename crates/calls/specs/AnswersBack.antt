@@ -1,4 +1,4 @@
--- Answers in bytes are read back, where a block is whole; so no two lists of as many answers have the same bytes. Assumes nothing.
+-- Answers in bytes are read back, where a block is whole; so no two lists of as many answers have the same bytes.
 use Prim.Native.Nat.{ℕ, _+_}
 use mathlib.Core.Path.{_≡_, refl, sym, ap, ap₂, _∙_}
 use mathlib.Core.Bool.{Bool, true, false}
@@ -7,9 +7,9 @@ use lib.Dec.{eqb}
 use lib.ListN.{length, drop}
 use lib.Seq.{take-at, drop-at}
 use borrow.Author.Tests.{eqb-true}
-use Rattle.words.specs.Choice.{and-true}
+use Rattle.words.proofs.ChoiceLaws.{and-true}
 use Rattle.words.specs.Lists.{all}
-use Rattle.words.specs.Numbers.{two-back}
+use Rattle.words.proofs.NumberLaws.{two-back}
 use Rattle.words.specs.Sections.{flat}
 use Rattle.model.specs.Calls.{Answer, number, backed, freed, block, sound}
 use Rattle.calls.specs.Answers.{answerBytes, answerIn, answerSize, answersIn, isWhole}

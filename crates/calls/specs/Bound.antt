@@ -1,4 +1,4 @@
--- The check of a list in one pass: what is left of it, with the longest answers so far, is refused as the whole is. Assumes nothing.
+-- The check of a list in one pass: what is left of it, with the longest answers so far, is refused as the whole is.
 use Prim.Native.Nat.{ℕ, zero, suc, _+_, _≤_, _<_}
 use mathlib.Core.Path.{_≡_, refl, sym, ap, ap₂, _∙_}
 use mathlib.Core.Bool.{Bool, true, false}

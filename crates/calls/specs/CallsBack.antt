@@ -1,4 +1,4 @@
--- Every list of calls has bytes that say it, and they are read back. Assumes nothing.
+-- Every list of calls has bytes that say it, and they are read back.
 use Prim.Native.Nat.{ℕ, zero, suc, _+_, _*_, _/_, _%_, _≤_}
 use mathlib.Core.Path.{_≡_, refl, sym, ap, ap₂, _∙_}
 use mathlib.Core.Bool.{Bool, true, false, _&&_}
@@ -9,9 +9,10 @@ use lib.Dec.{leb, eqb}
 use lib.ListN.{length, getD, length-append}
 use lib.Seq.{getD-append-add, take-append-seam}
 use borrow.Author.Tests.{le-leb, lt-leb}
-use Rattle.words.specs.Numbers.{num, two-back}
+use Rattle.words.specs.Numbers.{num}
+use Rattle.words.proofs.NumberLaws.{two-back}
 use Rattle.words.specs.Outcome.{Outcome, accepted, andThen}
-use Rattle.words.specs.Pieces.{part-past}
+use Rattle.words.proofs.Pieces.{part-past}
 use Rattle.words.specs.Sections.{flat, part}
 use Rattle.model.specs.Calls.{Call, enrol, backup, collect, read, audit}
 use Rattle.calls.specs.Reading.{calls-end, calls-more}

@@ -1,5 +1,5 @@
 -- The chain: what is played on a fresh book answers as the plain store and shows what it shows, and the box goes on from there as the claims
--- say. Assumes nothing.
+-- say.
 use Prim.Native.Nat.{ℕ, _*_, _≤_, _<_}
 use mathlib.Core.Path.{_≡_, refl, sym, ap, _∙_}
 use mathlib.Core.Bool.{true, false, not}
@@ -17,7 +17,7 @@ use Rattle.model.specs.History.{historyOf, dayOf, historyRead}
 use Rattle.model.specs.OnBytes.{numberOf, formatNumber}
 use Rattle.model.specs.Plain.{Plain, start, marked}
 use Rattle.model.specs.Pool.{poolSize}
-use Rattle.model.specs.Proved.{lists, images, corollaries, end-append}
+use Rattle.model.proofs.claims.Proved.{lists, images, corollaries, end-append}
 use Rattle.model.specs.Runs.{answersOf, endOf, Ours, ours, plain, oursShown, plainShown}
 use Rattle.calls.specs.Answers.{answerBytes}
 use Rattle.calls.specs.Contracts.{at, DidAll, roomOf, playable}

@@ -1,4 +1,4 @@
--- What one call and a list of calls leave and answer, for all inputs, by the run of `model`. Assumes nothing.
+-- What one call and a list of calls leave and answer, for all inputs, by the run of `model`.
 use Prim.Native.Nat.{ℕ}
 use mathlib.Core.Path.{_≡_}
 use mathlib.Core.List.{List, _++_}

@@ -1,4 +1,4 @@
--- A list of calls that is being played: what is left of it, from where book and pool stand. Assumes nothing.
+-- A list of calls that is being played: what is left of it, from where book and pool stand.
 use Prim.Native.Nat.{ℕ, _+_, _≤_}
 use mathlib.Core.Path.{_≡_, refl, ap, ap₂, _∙_}
 use mathlib.Core.List.{List, [], _∷_, _++_}
@@ -6,7 +6,7 @@ use native.Mathlib.Nat.{zero-add}
 use native.Mathlib.Omega.{arith}
 use lib.ListN.{length, drop, length-append}
 use lib.Seq.{sets}
-use Rattle.words.specs.Laying.{sets-append, sets-front}
+use Rattle.words.proofs.LayingLaws.{sets-append, sets-front}
 use Rattle.model.specs.Calls.{Call}
 use Rattle.model.specs.Runs.{endOf, Ours, ours}
 use Rattle.calls.specs.Answers.{answerBytes, mostOf}

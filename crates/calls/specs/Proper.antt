@@ -1,11 +1,11 @@
--- No call is refused by 0. Assumes nothing.
+-- No call is refused by 0.
 use Prim.Native.Nat.{ℕ, zero, suc, _+_}
 use mathlib.Core.Path.{_≡_, refl}
 use mathlib.Core.Bool.{Bool, true, false}
 use mathlib.Core.List.{List, [], _∷_}
 use mathlib.Core.Option.{Option, none, some}
 use native.Mathlib.Omega.{arith}
-use Rattle.words.specs.Accepted.{refused-not}
+use Rattle.words.proofs.Accepted.{refused-not}
 use Rattle.words.specs.Choice.{if_then_else_}
 use Rattle.words.specs.Lists.{same}
 use Rattle.words.specs.Outcome.{Outcome, refused, accepted, andThen, unless}

@@ -1,4 +1,4 @@
--- Laws of a list of calls that is read from a place on: its end, its next call, and what a call in it is. Assumes nothing.
+-- Laws of a list of calls that is read from a place on: its end, its next call, and what a call in it is.
 use Prim.Native.Nat.{ℕ, zero, suc, _+_, _-_, _≤_, _<_}
 use mathlib.Core.Path.{_≡_, refl, sym, ap, _∙_}
 use mathlib.Core.Bool.{Bool, true, false, _&&_}
@@ -7,8 +7,9 @@ use native.Mathlib.Omega.{arith}
 use lib.Dec.{leb, eqb}
 use lib.ListN.{length, getD}
 use borrow.Author.Tests.{leb-true, le-leb, lt-leb, eq-eqb, ne-eqb}
-use Rattle.words.specs.Accepted.{refused-not, then-accepted}
-use Rattle.words.specs.Choice.{if_then_else_, and-true, same-test}
+use Rattle.words.proofs.Accepted.{refused-not, then-accepted}
+use Rattle.words.specs.Choice.{if_then_else_}
+use Rattle.words.proofs.ChoiceLaws.{and-true, same-test}
 use Rattle.words.specs.Numbers.{num}
 use Rattle.words.specs.Outcome.{Outcome, refused, accepted, andThen}
 use Rattle.words.specs.Sections.{part}

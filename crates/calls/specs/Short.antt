@@ -1,4 +1,4 @@
--- No answer is longer than the longest that its call can have. Assumes nothing.
+-- No answer is longer than the longest that its call can have.
 use Prim.Native.Nat.{ℕ, zero, suc, _+_, _*_, _≤_, suc-le-suc}
 use mathlib.Core.Path.{_≡_, refl, sym, _∙_}
 use mathlib.Core.Bool.{Bool, true, false}

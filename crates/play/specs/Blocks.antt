@@ -1,4 +1,4 @@
--- An accepted read's block: where it stands in the pool, and that it is whole. Assumes nothing.
+-- An accepted read's block: where it stands in the pool, and that it is whole.
 use Prim.Native.Nat.{ℕ, zero, suc, _+_, _*_, _≤_}
 use mathlib.Core.Path.{_≡_, refl, sym, ap, _∙_}
 use mathlib.Core.Bool.{Bool, true}
@@ -9,13 +9,13 @@ use lib.Dec.{eqb}
 use lib.ListN.{length}
 use borrow.Author.Tests.{eq-eqb}
 use Rattle.words.specs.Blocks.{blockSize}
-use Rattle.words.specs.Choice.{true-and}
+use Rattle.words.proofs.ChoiceLaws.{true-and}
 use Rattle.words.specs.Lists.{all}
 use Rattle.words.specs.Outcome.{Outcome, refused, accepted, unless}
-use Rattle.words.specs.Parts.{length-part}
+use Rattle.words.proofs.Parts.{length-part}
 use Rattle.book.specs.Form.{formNumber}
-use Rattle.book.specs.FormParts.{book-parts}
-use Rattle.book.specs.InForm.{book-form}
+use Rattle.book.proofs.FormParts.{book-parts}
+use Rattle.book.proofs.InForm.{book-form}
 use Rattle.book.specs.Layout.{bookOf}
 use Rattle.model.specs.Calls.{Call, enrol, backup, collect, read, audit}
 use Rattle.model.specs.OnBytes.{BackedBytes, CollectedBytes, numberOf, after, poolNumber, enrolBytes, backupBytes, collectBytes, readBytes, readNumberBytes, readPlaceBytes, auditBytes}
@@ -23,12 +23,12 @@ use Rattle.model.specs.Pool.{blockAt}
 use Rattle.model.specs.Read
 use Rattle.model.specs.Read.{image, readNumber}
 use Rattle.model.specs.Runs.{answersOf, Ours, ours, oursEnrolled, oursBacked, oursCollected, readAnswer, auditAnswer}
-use Rattle.buffers.specs.BuffersLaws.{pool-size}
+use Rattle.buffers.proofs.BuffersLaws.{pool-size}
 use Rattle.calls.specs.Answers.{isWhole}
 use Rattle.calls.specs.Proper.{number-unless}
 use Rattle.restorer.specs.Contracts.{Located}
-use Rattle.restorer.specs.ImageIn.{image-in}
-use Rattle.restorer.specs.ReadingLaws.{number-mapped}
+use Rattle.restorer.proofs.ImageIn.{image-in}
+use Rattle.restorer.proofs.ReadingLaws.{number-mapped}
 
 -- the three numbers of a read that is accepted
 pub record Readable (b pool : List ℕ) (v k lbn : ℕ) : Type 0 where

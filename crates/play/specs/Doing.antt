@@ -1,4 +1,4 @@
--- What each exported function leaves, with its answer stored, is one step of the run. Assumes nothing.
+-- What each exported function leaves, with its answer stored, is one step of the run.
 use Prim.Native.Nat.{ℕ, _+_, _-_}
 use mathlib.Core.Path.{_≡_, refl, sym, ap, ap₂, _∙_}
 use mathlib.Core.Bool.{Bool}
@@ -6,7 +6,7 @@ use mathlib.Core.List.{List, _∷_, _++_}
 use lib.ListN.{length, set, take, drop}
 use lib.Seq.{sets}
 use Rattle.words.specs.Laying.{Stored}
-use Rattle.words.specs.Lending.{lent}
+use Rattle.words.proofs.Lending.{lent}
 use Rattle.words.specs.Numbers.{two}
 use Rattle.words.specs.Outcome.{Outcome, refused, accepted}
 use Rattle.words.specs.Sections.{part}

@@ -1,9 +1,9 @@
--- A format and then a list, by what the two calls leave. Assumes nothing.
+-- A format and then a list, by what the two calls leave.
 use Prim.Native.Nat.{ℕ, zero, suc, _≤_}
 use mathlib.Core.Path.{_≡_, refl, sym, ap, _∙_}
 use mathlib.Core.List.{List}
 use lib.ListN.{length}
-use Rattle.words.specs.Accepted.{refused-not, unless-refused}
+use Rattle.words.proofs.Accepted.{refused-not, unless-refused}
 use Rattle.words.specs.Outcome.{accepted, unless}
 use Rattle.book.specs.Book.{Sizes}
 use Rattle.book.specs.Layout.{bookSize, bytes}

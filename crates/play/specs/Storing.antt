@@ -1,4 +1,4 @@
--- The stores of an answer: a tag, numbers, a block. Assumes nothing.
+-- The stores of an answer: a tag, numbers, a block.
 use Prim.Native.Nat.{ℕ, _+_, _-_, _≤_}
 use mathlib.Core.Path.{_≡_, refl, ap, _∙_}
 use mathlib.Core.List.{List, [], _∷_, _++_}
@@ -7,9 +7,9 @@ use native.Mathlib.Omega.{arith}
 use lib.ListN.{length, set, take, drop}
 use lib.Seq.{sets}
 use Rattle.words.specs.Laying.{Stored}
-use Rattle.words.specs.Lending.{lent}
+use Rattle.words.proofs.Lending.{lent}
 use Rattle.words.specs.Numbers.{two, put}
-use Rattle.words.specs.Parts.{length-part}
+use Rattle.words.proofs.Parts.{length-part}
 use Rattle.words.specs.Sections.{flat}
 
 pub told : (out : List ℕ) (to tag v : ℕ) {o₁ : List ℕ} → o₁ ≡ put (set out to tag) (to + 1) v → Stored out to (tag ∷ two v) o₁ (to + 3)

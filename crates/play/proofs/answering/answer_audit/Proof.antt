@@ -4,15 +4,6 @@ use Rattle.play.specs.Doing.{audit-refused, audit-done}
 use Rattle.play.proofs.answering.answer_audit.Statement.{statement}
 use Rattle.play.proofs.answering.answer_audit.Tie as tie
 
-aspen-audit-requires : tie.Need-aspen-audit-requires
-aspen-audit-requires c κs = search needs
-
-tell-requires : tie.Need-tell-requires
-tell-requires c κs = search needs
-
-same-length : tie.Need-same-length
-same-length c = search needs
-
 returns : tie.Need-returns
 returns c spare pool =
     let tell = c .before .before in
@@ -22,12 +13,6 @@ returns c spare pool =
     let a = start .args in
     audit-refused spare (a .book .now) pool (a .answers .now) (a .to) _ _ _ (aspen-audit .aspen-audit .ensures) (if1 .if1 .taken)
     (tell .tell .ensures)
-
-tell-requires-2 : tie.Need-tell-requires-2
-tell-requires-2 c κs = search needs
-
-same-length-2 : tie.Need-same-length-2
-same-length-2 c = search needs
 
 returns-2 : tie.Need-returns-2
 returns-2 c spare pool =
@@ -41,12 +26,5 @@ returns-2 c spare pool =
 
 pub answer-audit-spec : {M : Type 1} → statement M
 answer-audit-spec =
-    tie.close
-    (tie.spec
-    aspen-audit-requires
-    tell-requires
-    same-length
-    returns
-    tell-requires-2
-    same-length-2
-    returns-2)
+    tie.close (tie.spec (λ c κs. search needs) (λ c κs. search needs) (λ c. search needs) returns (λ c κs. search needs)
+    (λ c. search needs) returns-2)

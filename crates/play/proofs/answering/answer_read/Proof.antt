@@ -9,15 +9,6 @@ use Rattle.play.specs.Storing.{lent-length}
 use Rattle.play.proofs.answering.answer_read.Statement.{statement}
 use Rattle.play.proofs.answering.answer_read.Tie as tie
 
-aspen-read-requires : tie.Need-aspen-read-requires
-aspen-read-requires c κs = search needs
-
-tell-requires : tie.Need-tell-requires
-tell-requires c κs = search needs
-
-same-length : tie.Need-same-length
-same-length c = search needs
-
 returns : tie.Need-returns
 returns c spare =
     let tell = c .before .before in
@@ -27,21 +18,6 @@ returns c spare =
     let a = start .args in
     read-refused spare (a .book .now) (a .pool .now) (a .answers .now) (a .to) (a .v) (a .number) (a .lbn) _ _ _
     (aspen-read .aspen-read .ensures) (if1 .if1 .taken) (tell .tell .ensures)
-
-slice-write-answers : tie.Need-slice-write-answers
-slice-write-answers c = search needs
-
-add-put-bytes : tie.Need-add-put-bytes
-add-put-bytes c = search needs
-
-add-put-bytes-2 : tie.Need-add-put-bytes-2
-add-put-bytes-2 c = search needs
-
-sub-put-bytes : tie.Need-sub-put-bytes
-sub-put-bytes c = search needs
-
-part-put-bytes-start : tie.Need-part-put-bytes-start
-part-put-bytes-start c = search needs
 
 part-put-bytes-end : tie.Need-part-put-bytes-end
 part-put-bytes-end c =
@@ -63,12 +39,6 @@ put-bytes-requires c κs =
     (if1 .if1 .left) in
     omega (arith, length-set (a .answers .now) (a .to) 3, lent-length (a .pool .now) _ in-pool)
 
-add-result : tie.Need-add-result
-add-result c = search needs
-
-add-result-2 : tie.Need-add-result-2
-add-result-2 c = search needs
-
 same-length-2 : tie.Need-same-length-2
 same-length-2 c = c .before .before .put-bytes .kept .0 ∙ simp length-set
 
@@ -84,20 +54,6 @@ returns-2 c spare =
 
 pub answer-read-spec : {M : Type 1} → statement M
 answer-read-spec =
-    tie.close
-    (tie.spec
-    aspen-read-requires
-    tell-requires
-    same-length
-    returns
-    slice-write-answers
-    add-put-bytes
-    add-put-bytes-2
-    sub-put-bytes
-    part-put-bytes-start
-    part-put-bytes-end
-    put-bytes-requires
-    add-result
-    add-result-2
-    same-length-2
-    returns-2)
+    tie.close (tie.spec (λ c κs. search needs) (λ c κs. search needs) (λ c. search needs) returns (λ c. search needs)
+    (λ c. search needs) (λ c. search needs) (λ c. search needs) (λ c. search needs) part-put-bytes-end
+    put-bytes-requires (λ c. search needs) (λ c. search needs) same-length-2 returns-2)

@@ -5,9 +5,6 @@ use Rattle.calls.specs.Bound.{addedTo}
 use Rattle.play.proofs.checking.added.Statement.{statement}
 use Rattle.play.proofs.checking.added.Tie as tie
 
-add-result : tie.Need-add-result
-add-result c = search needs
-
 returns : tie.Need-returns
 unfolding addedTo
 returns c = rw (le-leb (c .before .args .most) (c .before .args .room) (c .if1 .taken))
@@ -17,4 +14,4 @@ unfolding addedTo
 returns-2 c = rw (lt-leb (c .before .args .most) (c .before .args .room) (c .if1 .left))
 
 pub added-spec : {M : Type 1} → statement M
-added-spec = tie.close (tie.spec add-result returns returns-2)
+added-spec = tie.close (tie.spec (λ c. search needs) returns returns-2)

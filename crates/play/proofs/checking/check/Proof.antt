@@ -4,7 +4,7 @@ use mathlib.Core.Path.{_≡_, sym, ap, _∙_}
 use native.Mathlib.Omega.{arith}
 use lib.ListN.{length}
 use borrow.Author.Needs.{needs}
-use Rattle.words.specs.Choice.{failed, passed}
+use Rattle.words.proofs.ChoiceLaws.{failed, passed}
 use Rattle.model.specs.OnBytes.{numberOf}
 use Rattle.calls.specs.Coding.{callSize, callAt}
 use Rattle.calls.specs.Answers.{longest}
@@ -24,9 +24,6 @@ abbrev μ-loop : tie.MeasureT-loop
 loop-holds : tie.Need-loop-holds Inv-loop μ-loop
 loop-holds c = (omega arith, number-begin (c .before .args .room) (c .before .args .calls .now))
 
-is-call-requires : tie.Need-is-call-requires Inv-loop μ-loop
-is-call-requires c κs = omega arith
-
 returns : tie.Need-returns Inv-loop μ-loop
 returns c =
     let is-call = c .before in
@@ -36,12 +33,6 @@ returns c =
     let l = top .loop in
     sym (l .inv .1 ∙ number-broken (start .args .room) (start .args .calls .now) (l .at) (l .most) (turn .loop-test .taken)
     (failed (is-call .is-call .ensures) (c .if1 .taken)))
-
-shared-slice-read-longest : tie.Need-shared-slice-read-longest Inv-loop μ-loop
-shared-slice-read-longest c = omega arith
-
-longest-requires : tie.Need-longest-requires Inv-loop μ-loop
-longest-requires c κs = search needs
 
 added-requires : tie.Need-added-requires Inv-loop μ-loop
 added-requires c κs = (omega arith, c .longest .ensures .1)
@@ -128,20 +119,5 @@ returns-3 c =
 
 pub check-spec : {M : Type 1} → statement M
 check-spec =
-    tie.close
-    (tie.spec
-    Inv-loop
-    μ-loop
-    loop-holds
-    is-call-requires
-    returns
-    shared-slice-read-longest
-    longest-requires
-    added-requires
-    add-at
-    data-size-requires
-    add-at-2
-    loop-less
-    loop-again
-    returns-2
-    returns-3)
+    tie.close (tie.spec Inv-loop μ-loop loop-holds (λ c κs. omega arith) returns (λ c. omega arith)
+    (λ c κs. search needs) added-requires add-at data-size-requires add-at-2 loop-less loop-again returns-2 returns-3)

@@ -2,32 +2,20 @@
 use mathlib.Core.Path.{sym}
 use native.Mathlib.Omega.{arith}
 use borrow.Author.Needs.{needs}
-use Rattle.words.specs.Choice.{failed, passed}
+use Rattle.words.proofs.ChoiceLaws.{failed, passed}
 use Rattle.calls.specs.Reading.{call-short, call-second, call-unused, call-ends}
 use Rattle.play.proofs.heads.is_call.Statement.{statement}
 use Rattle.play.proofs.heads.is_call.Tie as tie
-
-sub-if1 : tie.Need-sub-if1
-sub-if1 c = search needs
 
 returns : tie.Need-returns
 returns c =
     let a = c .before .before .args in
     sym (call-short (a .calls .now) (a .at) (omega arith))
 
-add-if2 : tie.Need-add-if2
-add-if2 c = search needs
-
-shared-slice-read-if2 : tie.Need-shared-slice-read-if2
-shared-slice-read-if2 c = search needs
-
 returns-2 : tie.Need-returns-2
 returns-2 c =
     let a = c .before .before .before .before .args in
     sym (call-second (a .calls .now) (a .at) (omega arith) (c .if2 .taken))
-
-unused-zero-at-requires : tie.Need-unused-zero-at-requires
-unused-zero-at-requires c κs = search needs
 
 returns-3 : tie.Need-returns-3
 returns-3 c =
@@ -37,15 +25,6 @@ returns-3 c =
     let a = start .args in
     sym (call-unused (a .calls .now) (a .at) (omega arith) (if2 .if2 .left)
     (failed (unused-zero-at .unused-zero-at .ensures) (c .if3 .taken)))
-
-data-size-requires : tie.Need-data-size-requires
-data-size-requires c κs = search needs
-
-sub-result : tie.Need-sub-result
-sub-result c = search needs
-
-sub-result-2 : tie.Need-sub-result-2
-sub-result-2 c = search needs
 
 returns-4 : tie.Need-returns-4
 returns-4 c =
@@ -60,16 +39,5 @@ returns-4 c =
 
 pub is-call-spec : {M : Type 1} → statement M
 is-call-spec =
-    tie.close
-    (tie.spec
-    sub-if1
-    returns
-    add-if2
-    shared-slice-read-if2
-    returns-2
-    unused-zero-at-requires
-    returns-3
-    data-size-requires
-    sub-result
-    sub-result-2
-    returns-4)
+    tie.close (tie.spec (λ c. search needs) returns (λ c. search needs) (λ c. search needs) returns-2
+    (λ c κs. search needs) returns-3 (λ c κs. search needs) (λ c. search needs) (λ c. search needs) returns-4)

@@ -6,12 +6,6 @@ use Rattle.calls.specs.Bound.{playable-good, played-refused, played-all, played
 use Rattle.play.proofs.playing.aspen_play.Statement.{statement}
 use Rattle.play.proofs.playing.aspen_play.Tie as tie
 
-room-of-requires : tie.Need-room-of-requires
-room-of-requires c κs = search needs
-
-check-requires : tie.Need-check-requires
-check-requires c κs = search needs
-
 returns : tie.Need-returns
 returns c =
     let a = c .before .before .before .before .before .before .before .before .args in
@@ -42,18 +36,6 @@ cast-written c =
           (sym (check .check .ensures) ∙ if1 .if1 .left) (play-list .play-list .ensures),
     )
 
-same-length : tie.Need-same-length
-same-length c = search needs
-
-same-length-2 : tie.Need-same-length-2
-same-length-2 c = search needs
-
-same-length-3 : tie.Need-same-length-3
-same-length-3 c = search needs
-
-same-length-4 : tie.Need-same-length-4
-same-length-4 c = search needs
-
 returns-2 : tie.Need-returns-2
 returns-2 c =
     let play-list = c .before .before .before .before .before .before .before .before in
@@ -67,15 +49,5 @@ returns-2 c =
 
 pub aspen-play-spec : {M : Type 1} → statement M
 aspen-play-spec =
-    tie.close
-    (tie.spec
-    room-of-requires
-    check-requires
-    returns
-    play-list-requires
-    cast-written
-    same-length
-    same-length-2
-    same-length-3
-    same-length-4
-    returns-2)
+    tie.close (tie.spec (λ c κs. search needs) (λ c κs. search needs) returns play-list-requires cast-written
+    (λ c. search needs) (λ c. search needs) (λ c. search needs) (λ c. search needs) returns-2)

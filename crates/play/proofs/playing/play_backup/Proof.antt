@@ -5,7 +5,7 @@ use mathlib.Core.List.{List}
 use native.Mathlib.Omega.{arith}
 use lib.ListN.{length, take, drop}
 use borrow.Author.Needs.{needs}
-use Rattle.words.specs.Lending.{lent}
+use Rattle.words.proofs.Lending.{lent}
 use Rattle.words.specs.Sections.{part}
 use Rattle.calls.specs.Coding.{dataSize}
 use Rattle.calls.specs.Reading.{call-inside}
@@ -43,31 +43,10 @@ add-u16-at-2 c = let i = inside (c .before .before) in omega (arith)
 u16-at-requires-2 : tie.Need-u16-at-requires-2
 u16-at-requires-2 c κs = let i = inside (c .before .before) in omega (arith)
 
-sub-answer-backup : tie.Need-sub-answer-backup
-sub-answer-backup c = search needs
-
-part-answer-backup-start : tie.Need-part-answer-backup-start
-part-answer-backup-start c = search needs
-
 part-answer-backup-end : tie.Need-part-answer-backup-end
 part-answer-backup-end c =
     let before = c .before .before .before .before .before in
     let i = inside (before .before) in omega (arith, before .data-size .ensures .0)
-
-answer-backup-requires : tie.Need-answer-backup-requires
-answer-backup-requires c κs = search needs
-
-same-length : tie.Need-same-length
-same-length c = search needs
-
-same-length-2 : tie.Need-same-length-2
-same-length-2 c = search needs
-
-same-length-3 : tie.Need-same-length-3
-same-length-3 c = search needs
-
-same-length-4 : tie.Need-same-length-4
-same-length-4 c = search needs
 
 returns : tie.Need-returns
 returns c =
@@ -86,21 +65,6 @@ returns c =
 
 pub play-backup-spec : {M : Type 1} → statement M
 play-backup-spec =
-    tie.close
-    (tie.spec
-    add-from
-    data-size-requires
-    add-end
-    add-u16-at
-    u16-at-requires
-    add-u16-at-2
-    u16-at-requires-2
-    sub-answer-backup
-    part-answer-backup-start
-    part-answer-backup-end
-    answer-backup-requires
-    same-length
-    same-length-2
-    same-length-3
-    same-length-4
-    returns)
+    tie.close (tie.spec add-from data-size-requires add-end add-u16-at u16-at-requires add-u16-at-2 u16-at-requires-2
+    (λ c. search needs) (λ c. search needs) part-answer-backup-end (λ c κs. search needs) (λ c. search needs)
+    (λ c. search needs) (λ c. search needs) (λ c. search needs) returns)

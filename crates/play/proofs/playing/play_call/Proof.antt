@@ -49,12 +49,6 @@ answer-enrol-requires c κs =
     let e = ap longest (call-enrol (a .calls .now) (a .at) (c .before .before .if1 .taken)) in
     omega (arith, c .before .before .before .before .before .before .before .before .before .before .before .before .pre .1)
 
-same-length : tie.Need-same-length
-same-length c = search needs
-
-same-length-2 : tie.Need-same-length-2
-same-length-2 c = search needs
-
 returns : tie.Need-returns
 returns c =
     let answer-enrol = c .before .before .before .before in
@@ -75,18 +69,6 @@ play-backup-requires c κs =
     let e = ap longest (call-backup (a .calls .now) (a .at) (if1 .if1 .left) (if2 .if2 .taken)) in
     (start .pre .0, omega (arith, start .pre .1))
 
-same-length-3 : tie.Need-same-length-3
-same-length-3 c = search needs
-
-same-length-4 : tie.Need-same-length-4
-same-length-4 c = search needs
-
-same-length-5 : tie.Need-same-length-5
-same-length-5 c = search needs
-
-same-length-6 : tie.Need-same-length-6
-same-length-6 c = search needs
-
 returns-2 : tie.Need-returns-2
 returns-2 c =
     let play-backup = c .before .before .before .before .before .before .before .before in
@@ -105,12 +87,6 @@ answer-collect-requires c κs =
     let a = start .args in
     let e = ap longest (call-collect (a .calls .now) (a .at) (if1 .if1 .left) (if2 .if2 .left) (if3 .if3 .taken)) in
     omega (arith, start .pre .1)
-
-same-length-7 : tie.Need-same-length-7
-same-length-7 c = search needs
-
-same-length-8 : tie.Need-same-length-8
-same-length-8 c = search needs
 
 returns-3 : tie.Need-returns-3
 returns-3 c =
@@ -134,15 +110,6 @@ answer-read-requires c κs =
     let a = start .args in
     let e = ap longest (call-read (a .calls .now) (a .at) (if1 .if1 .left) (if2 .if2 .left) (if3 .if3 .left) (if4 .if4 .taken)) in
     omega (arith, start .pre .1)
-
-same-length-9 : tie.Need-same-length-9
-same-length-9 c = search needs
-
-same-length-10 : tie.Need-same-length-10
-same-length-10 c = search needs
-
-same-length-11 : tie.Need-same-length-11
-same-length-11 c = search needs
 
 returns-4 : tie.Need-returns-4
 returns-4 c =
@@ -176,12 +143,6 @@ answer-audit-requires c κs =
     let e = ap longest (call-audit (a .calls .now) (a .at) (if1 .if1 .left) (if2 .if2 .left) (if3 .if3 .left) (if4 .if4 .left)) in
     omega (arith, start .pre .1)
 
-same-length-12 : tie.Need-same-length-12
-same-length-12 c = search needs
-
-same-length-13 : tie.Need-same-length-13
-same-length-13 c = search needs
-
 returns-5 : tie.Need-returns-5
 returns-5 c =
     let answer-audit = c .before .before in
@@ -196,35 +157,8 @@ returns-5 c =
 
 pub play-call-spec : {M : Type 1} → statement M
 play-call-spec =
-    tie.close
-    (tie.spec
-    shared-slice-read-kind
-    add-u16-at
-    u16-at-requires
-    add-u16-at-2
-    u16-at-requires-2
-    add-u16-at-3
-    u16-at-requires-3
-    answer-enrol-requires
-    same-length
-    same-length-2
-    returns
-    play-backup-requires
-    same-length-3
-    same-length-4
-    same-length-5
-    same-length-6
-    returns-2
-    answer-collect-requires
-    same-length-7
-    same-length-8
-    returns-3
-    answer-read-requires
-    same-length-9
-    same-length-10
-    same-length-11
-    returns-4
-    answer-audit-requires
-    same-length-12
-    same-length-13
-    returns-5)
+    tie.close (tie.spec shared-slice-read-kind add-u16-at u16-at-requires add-u16-at-2 u16-at-requires-2 add-u16-at-3
+    u16-at-requires-3 answer-enrol-requires (λ c. search needs) (λ c. search needs) returns play-backup-requires
+    (λ c. search needs) (λ c. search needs) (λ c. search needs) (λ c. search needs) returns-2 answer-collect-requires
+    (λ c. search needs) (λ c. search needs) returns-3 answer-read-requires (λ c. search needs) (λ c. search needs)
+    (λ c. search needs) returns-4 answer-audit-requires (λ c. search needs) (λ c. search needs) returns-5)
