@@ -1,17 +1,19 @@
 -- The claims on cases a to j: a fresh book that meets their hypotheses, and what they say there.
-use Prim.Native.Nat.{ℕ, _*_, _≤_}
-use mathlib.Core.Path.{_≡_, refl}
-use mathlib.Core.Bool.{true, false}
+use Prim.Native.Nat.{ℕ, _*_, _≤_, _<_}
+use mathlib.Core.Path.{_≡_, refl, ap, _∙_}
+use mathlib.Core.Bool.{true, false, not}
 use mathlib.Core.List.{List, [], _∷_, _++_, map}
 use native.Mathlib.Omega.{arith}
-use lib.ListN.{take, drop, replicate}
+use lib.ListN.{getD, take, drop, replicate}
 use Rattle.list.specs.Changes.{changeCount}
+use Rattle.book.specs.Book.{isFree}
 use Rattle.book.specs.Layout.{bytes}
 use Rattle.book.specs.Next.{fresh}
 use Rattle.model.specs.Plain.{marked}
 use Rattle.model.specs.Calls.{Call, backup, collect, read, audit, Answer, number, backed, freed, block, sound}
 use Rattle.model.specs.History.{Sent, historyOf, dayOf, historyRead}
 use Rattle.model.specs.Claims.{Fresh, ourAnswers, plainAnswers, ourAnswer, plainEnd, entryBefore, entryAfter, changesName}
+use Rattle.model.proofs.claims.Proved.{lists, images}
 use Rattle.cases.proofs.Open.{model}
 use Rattle.cases.proofs.Letters.{A, B, C, E, blockOf, over, list}
 use Rattle.cases.proofs.Cases.{sizes, callOf, table, calls}
@@ -69,10 +71,9 @@ pub record ListsSay : Type 0 where
   pub splitG : calls ≡ beforeG ++ (collect 19 ∷ drop 10 calls)
   pub splitD : calls ≡ beforeD ++ (backupD ∷ drop 6 calls)
   pub collected : ourAnswer clinic beforeG (collect 19) ≡ freed 1
-  -- blocks 0 to 2 are held before; the plain store marks 1 and 2, and 0 is freed
+  -- blocks 0 to 2 are held before; the plain store marks 1 and 2
   pub held : map (λ p. entryBefore clinic beforeG p .held) (0 ∷ 1 ∷ 2 ∷ 3 ∷ []) ≡ true ∷ true ∷ true ∷ false ∷ []
   pub marks : map (marked (plainEnd clinic beforeG) 19) (0 ∷ 1 ∷ 2 ∷ []) ≡ false ∷ true ∷ true ∷ []
-  pub heldAfter : map (λ p. entryAfter clinic beforeG (collect 19) p .held) (0 ∷ 1 ∷ 2 ∷ []) ≡ false ∷ true ∷ true ∷ []
   -- backup d names its old block 0 and its new block 1
   pub names : map (changesName (plainEnd clinic beforeD) 1 9 (list 3 (B ∷ []))) (0 ∷ 1 ∷ 2 ∷ 3 ∷ []) ≡ true ∷ true ∷ false ∷ false ∷ []
   -- .. and a refused one names none
@@ -88,10 +89,45 @@ lists-say = record {
   collected = refl;
   held = refl;
   marks = refl;
-  heldAfter = refl;
   names = refl;
   refusedNames = refl;
 }
+
+-- ---- what follows there from `lists`: g frees block 0 and neither 1 nor 2, and d leaves the entries of 2 and 3
+
+pub record ListsGive : Type 0 where
+  pub freed0 : isFree (entryAfter clinic beforeG (collect 19) 0) ≡ true
+  pub kept1 : isFree (entryAfter clinic beforeG (collect 19) 1) ≡ false
+  pub kept2 : isFree (entryAfter clinic beforeG (collect 19) 2) ≡ false
+  pub left2 : entryAfter clinic beforeD backupD 2 ≡ entryBefore clinic beforeD 2
+  pub left3 : entryAfter clinic beforeD backupD 3 ≡ entryBefore clinic beforeD 3
+
+inG : (p : ℕ) → p < 4 → entryBefore clinic beforeG p .held ≡ true
+    → isFree (entryAfter clinic beforeG (collect 19) p) ≡ not (marked (plainEnd clinic beforeG) 19 p)
+unfolding clinic sizes
+inG p h held = lists clinic calls .freeing beforeG (drop 10 calls) 19 1 p (lists-say .splitG) (lists-say .collected) h held
+
+inD : (p : ℕ) → p < 4 → changesName (plainEnd clinic beforeD) 1 9 (list 3 (B ∷ [])) p ≡ false
+    → entryAfter clinic beforeD backupD p ≡ entryBefore clinic beforeD p
+unfolding clinic sizes backupD
+inD p h n = lists clinic calls .touching beforeD (drop 6 calls) 1 9 p (list 3 (B ∷ [])) (lists-say .splitD) h n
+
+-- a list's element, from an equation of lists
+abbrev nth : {A : Type 0} → A → ℕ → List A → A
+nth d i l = getD l i d
+
+pub lists-give : ListsGive
+lists-give =
+    let h = lists-say .held in
+    let m = lists-say .marks in
+    let n = lists-say .names in
+    record {
+      freed0 = inG 0 (omega arith) (ap (nth false 0) h) ∙ ap (λ t. not (nth true 0 t)) m;
+      kept1 = inG 1 (omega arith) (ap (nth false 1) h) ∙ ap (λ t. not (nth false 1 t)) m;
+      kept2 = inG 2 (omega arith) (ap (nth false 2) h) ∙ ap (λ t. not (nth false 2 t)) m;
+      left2 = inD 2 (omega arith) (ap (nth true 2) n);
+      left3 = inD 3 (omega arith) (ap (nth true 3) n);
+    }
 
 -- ---- Images: what volume 0 sent and when, and reads of it worked out from that
 
@@ -109,12 +145,18 @@ pub record ImagesSay : Type 0 where
       ≡ block (blockOf C) ∷ block (blockOf B) ∷ block (blockOf E) ∷ number 18 ∷ number 17 ∷ number 16 ∷ number 15 ∷ []
   -- a volume that never enrolled
   pub absent : historyRead 4 (historyOf 2 calls answers) 20 1 0 ≡ number 5
-  pub ours : map (ourAnswer clinic calls) (read 0 3 0 ∷ read 0 2 1 ∷ read 0 3 3 ∷ read 0 2 3 ∷ read 0 2 4 ∷ read 0 1 0 ∷ read 0 4 0 ∷ [])
-      ≡ block (blockOf C) ∷ block (blockOf B) ∷ block (blockOf E) ∷ number 18 ∷ number 17 ∷ number 16 ∷ number 15 ∷ []
+  -- what the box answers to any read of volume 0 is worked out so
+  pub ours : (k lbn : ℕ) → ourAnswer clinic calls (read 0 k lbn) ≡ worked k lbn
+
+reads-worked : (k lbn : ℕ) → ourAnswer clinic calls (read 0 k lbn) ≡ worked k lbn
+unfolding worked clinic sizes
+reads-worked k lbn =
+    images clinic calls .reads 0 k lbn
+    ∙ ap (λ (as₀ : List Answer). historyRead 4 (historyOf 0 calls as₀) (dayOf calls as₀) k lbn) (lists-say .ours)
 
 pub images-say : ImagesSay
 unfolding model over list callOf table calls clinic answers worked
-images-say = record { retention = refl; sent = refl; headerDay = refl; reads = refl; absent = refl; ours = refl }
+images-say = record { retention = refl; sent = refl; headerDay = refl; reads = refl; absent = refl; ours = reads-worked }
 
 -- ---- Corollaries
 
