@@ -60,27 +60,31 @@ impl Stored {
     }
 
     pub fn call(&mut self, call: &Call) -> Answer {
-        let Stored { book, pool, spare } = self;
-        match call {
-            Call::Enrol { volume, retention } => {
-                answer(store::enrol(book, *volume, *retention), |()| {
-                    Answer::Enrolled
-                })
-            }
-            Call::Backup { volume, day, list } => {
-                let result = store::backup(book, pool, spare, *volume, *day, list);
-                answer(result, Answer::BackedUp)
-            }
-            Call::Collect { day } => answer(store::collect(book, *day), Answer::Freed),
-            Call::Read {
-                volume,
-                number,
-                lbn,
-            } => answer(store::read(book, pool, *volume, *number, *lbn), |part| {
-                Answer::Block(Box::new(part.try_into().expect("a whole block")))
-            }),
-            Call::Audit => answer(store::audit(book), Answer::Sound),
+        call_on(&mut self.book, &mut self.pool, &mut self.spare, call)
+    }
+}
+
+/// A call on a book, its pool and a spare.
+pub fn call_on(book: &mut [u8], pool: &mut [u8], spare: &mut [u8], call: &Call) -> Answer {
+    match call {
+        Call::Enrol { volume, retention } => {
+            answer(store::enrol(book, *volume, *retention), |()| {
+                Answer::Enrolled
+            })
         }
+        Call::Backup { volume, day, list } => {
+            let result = store::backup(book, pool, spare, *volume, *day, list);
+            answer(result, Answer::BackedUp)
+        }
+        Call::Collect { day } => answer(store::collect(book, *day), Answer::Freed),
+        Call::Read {
+            volume,
+            number,
+            lbn,
+        } => answer(store::read(book, pool, *volume, *number, *lbn), |part| {
+            Answer::Block(Box::new(part.try_into().expect("a whole block")))
+        }),
+        Call::Audit => answer(store::audit(book), Answer::Sound),
     }
 }
 

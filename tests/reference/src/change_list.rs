@@ -87,7 +87,7 @@ pub fn write(
         && marks.iter().all(|&mark| mark <= 1)
         && fingerprints.len() == FINGERPRINT_BYTES * number
         && image.len() == BLOCK_BYTES * number;
-    require(input_holds, Refusal::WriterInput)?;
+    require(input_holds, Refusal::Input)?;
     let list = marked_blocks(marks, fingerprints, image);
     require(output.len() >= list.len(), Refusal::ShortOutput)?;
     output[..list.len()].copy_from_slice(&list);

@@ -9,6 +9,7 @@ pub mod form;
 pub mod history;
 pub mod layout;
 pub mod plain;
+pub mod play;
 pub mod prng;
 pub mod random_books;
 pub mod random_calls;

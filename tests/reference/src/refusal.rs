@@ -21,7 +21,7 @@ pub enum Refusal {
     NotKept = 16,
     LbnAbove = 17,
     Unmapped = 18,
-    WriterInput = 19,
+    Input = 19,
     ShortOutput = 20,
 }
 

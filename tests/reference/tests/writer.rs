@@ -96,7 +96,7 @@ fn both_ends_of_the_number_of_blocks() {
     }
     for lbns in [0, 1_025] {
         let aid = Aid::new(&mut Prng::seeded(5), vec![0; lbns]);
-        assert_eq!(aid.write(&mut [0; 2]), Err(Refusal::WriterInput));
+        assert_eq!(aid.write(&mut [0; 2]), Err(Refusal::Input));
     }
 }
 
