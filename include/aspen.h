@@ -3,7 +3,8 @@
  *
  * An aid writes the list of its changed blocks (aspen_write_list). The box takes such a list as
  * a backup (aspen_backup), keeps equal blocks once, frees what no kept backup needs
- * (aspen_collect), and reads old backups (aspen_read).
+ * (aspen_collect), and reads old backups (aspen_read). aspen_play makes a whole list of such calls
+ * that is stored as bytes.
  *
  * Memory. The box lives in two buffers of the caller's: the book, which notes what each volume
  * held and when, and the pool, which holds the blocks. The library allocates nothing and keeps
@@ -22,8 +23,8 @@
  * may calls that only read the same ones. While a call writes a buffer nothing else may use it;
  * to have one writer at a time is the caller's duty.
  *
- * Stack. On x86-64 aspen_audit takes 49,440 bytes of it and aspen_backup 24,928, nearly all for
- * tables that live for one call; every other function takes 256 at most.
+ * Stack. On x86-64 aspen_play takes 49,728 bytes of it, aspen_audit 49,440 and aspen_backup 24,928,
+ * nearly all for tables that live for one call; every other function takes 256 at most.
  */
 #ifndef ASPEN_H
 #define ASPEN_H
@@ -82,6 +83,31 @@ extern "C" {
 #define ASPEN_UNMAPPED_PBN 65535  /* no pool block at this LBN; ASPEN_UNMAPPED is a refusal */
 #define ASPEN_NO_END 65535        /* no last day: the newest backup is always kept */
 
+/* A call in a list for aspen_play starts with a head of so many bytes. */
+#define ASPEN_CALL_HEAD 14
+
+/* The longest answers of a list of so many backups, so many reads and so many other calls. */
+#define aspen_answers_bound(backups, reads, others) \
+    ((size_t)7 * (backups) + (size_t)(1 + ASPEN_BLOCK_SIZE) * (reads) + (size_t)3 * (others))
+
+/* The kinds of calls in a list, with the numbers of the head that each uses. */
+enum aspen_call {
+    ASPEN_CALL_ENROL = 0,    /* a is the volume, b the retention */
+    ASPEN_CALL_BACKUP = 1,   /* a is the volume, b the day; the data is the change list */
+    ASPEN_CALL_COLLECT = 2,  /* a is the day */
+    ASPEN_CALL_READ = 3,     /* a is the volume, b the backup's number, c the LBN */
+    ASPEN_CALL_AUDIT = 4     /* none */
+};
+
+/* The tags of the answers to a list, with what follows each. */
+enum aspen_answer {
+    ASPEN_ANSWER_NUMBER = 0,  /* the number of the call's refusal; ASPEN_OK for an enrol */
+    ASPEN_ANSWER_BACKED = 1,  /* of a backup: number, taken, touched */
+    ASPEN_ANSWER_FREED = 2,   /* of a collect: freed */
+    ASPEN_ANSWER_BLOCK = 3,   /* of a read: the ASPEN_BLOCK_SIZE bytes of the block */
+    ASPEN_ANSWER_SOUND = 4    /* of an audit: sound */
+};
+
 /* What the functions return: 0, or the number of a refusal. */
 enum aspen_result {
     ASPEN_OK = 0,
@@ -103,8 +129,8 @@ enum aspen_result {
     ASPEN_NOT_KEPT = 16,      /* that backup's days have run out */
     ASPEN_BAD_LBN = 17,       /* the LBN is l or more */
     ASPEN_UNMAPPED = 18,      /* that backup has no block at this LBN */
-    ASPEN_BAD_INPUT = 19,     /* writer: a wrong l, a mark that isn't 0 or 1, or a wrong length */
-    ASPEN_SHORT_OUTPUT = 20   /* the output is shorter than what is to be written */
+    ASPEN_BAD_INPUT = 19,     /* writer: a wrong l, mark or length; play: no list of calls */
+    ASPEN_SHORT_OUTPUT = 20   /* the output is shorter than what is to be written, or may be */
 };
 
 /*
@@ -273,6 +299,31 @@ uint16_t aspen_cells(const uint8_t *book, size_t book_len, uint16_t volume, uint
 uint16_t aspen_blocks(const uint8_t *book, size_t book_len, uint8_t *out, size_t out_len);
 
 /*
+ * Plays a list of calls that is stored as bytes, as a host would make them: one after the other,
+ * each as by its function, on this book, pool and spare. A call that is refused is answered by its
+ * number, and the list goes on. Bytes that are no list are refused as a whole.
+ *
+ * A call in bytes is a head of ASPEN_CALL_HEAD bytes and then its data:
+ *    0  its kind in one byte, from ASPEN_CALL_ENROL to ASPEN_CALL_AUDIT
+ *    1  a zero byte
+ *    2  four numbers of two bytes, a, b, c and d; what its kind doesn't use is 0
+ *   10  how many bytes of data follow, in four bytes; 0 unless it is a backup
+ * A list is calls one after the other to the end of the bytes; it may have none.
+ *
+ * The answers stand one after the other at the front of `answers`, each a tag of one byte, from
+ * ASPEN_ANSWER_NUMBER to ASPEN_ANSWER_SOUND, and then numbers of two bytes or a block. There has to
+ * be room for the longest that these calls can have (aspen_answers_bound): 513 bytes for a read, 7
+ * for a backup and 3 for any other call. Room above 4,294,967,295 bytes isn't counted.
+ *
+ * Answer: *written, the length of the answers in bytes. What follows them is as it was.
+ *
+ * Returns ASPEN_OK, ASPEN_BAD_INPUT or ASPEN_SHORT_OUTPUT.
+ */
+uint16_t aspen_play(uint8_t *book, size_t book_len, uint8_t *pool, size_t pool_len,
+                    uint8_t *spare, size_t spare_len, const uint8_t *calls, size_t calls_len,
+                    uint8_t *answers, size_t answers_len, uint32_t *written);
+
+/*
  * Writes the change list of the marked blocks of a volume of l blocks, for aspen_backup.
  *   marks   l bytes, 1 for a block that changed and 0 for one that didn't
  *   prints  l fingerprints of ASPEN_PRINT_SIZE bytes
@@ -310,14 +361,14 @@ static inline const char *aspen_text(uint16_t number)
         "the backup isn't kept any more",
         "the volume has no such LBN",
         "the backup has no block at this LBN",
-        "the writer's inputs are wrong",
+        "wrong inputs of the writer, or no list of calls",
         "the output is too short"
     };
 
     return number < sizeof texts / sizeof texts[0] ? texts[number] : "no number of the box";
 }
 
-/* The number of two bytes that starts here, as rows and change lists have them. */
+/* The number of two bytes that starts here, as rows, change lists and answers have them. */
 static inline uint16_t aspen_u16(const uint8_t *at)
 {
     return (uint16_t)(at[0] | at[1] << 8);

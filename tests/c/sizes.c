@@ -24,6 +24,8 @@ static void test_rows(void)
     CHECK_EQ(aspen_backups_size(ASPEN_MAX_SLOTS), 8192);
     CHECK_EQ(aspen_cells_size(cells), 2048);
     CHECK_EQ(aspen_blocks_size(4), 88);
+    CHECK_EQ(aspen_answers_bound(0, 0, 0), 0);
+    CHECK_EQ(aspen_answers_bound(2, 3, 5), 14 + 1539 + 15);
     CHECK_EQ(LARGEST_ROWS, 90112);
     CHECK_EQ(ASPEN_UNMAPPED_PBN, 65535);
     CHECK_EQ(ASPEN_NO_END, 65535);
