@@ -19,6 +19,7 @@ extern __typeof__(aspen_volume) reference_volume;
 extern __typeof__(aspen_backups) reference_backups;
 extern __typeof__(aspen_cells) reference_cells;
 extern __typeof__(aspen_blocks) reference_blocks;
+extern __typeof__(aspen_play) reference_play;
 extern __typeof__(aspen_write_list) reference_write_list;
 
 /* A box as a seeded run of calls leaves it, with what the run would send next; the pointers are

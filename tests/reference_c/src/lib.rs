@@ -19,6 +19,7 @@ use std::slice::{from_raw_parts, from_raw_parts_mut};
 use reference::change_list;
 use reference::form;
 use reference::layout::Sizes;
+use reference::play;
 use reference::refusal::Refusal;
 use reference::store;
 use reference::tally;
@@ -168,5 +169,28 @@ pub unsafe extern "C" fn reference_write_list(
     let image = from_raw_parts(image, image_len);
     let list = from_raw_parts_mut(list, list_len);
     let result = change_list::write(l, marks, prints, image, list);
+    number(result, |answer| *written = answer)
+}
+
+#[no_mangle]
+pub unsafe extern "C" fn reference_play(
+    book: *mut u8,
+    book_len: usize,
+    pool: *mut u8,
+    pool_len: usize,
+    spare: *mut u8,
+    spare_len: usize,
+    calls: *const u8,
+    calls_len: usize,
+    answers: *mut u8,
+    answers_len: usize,
+    written: *mut u32,
+) -> u16 {
+    let book = from_raw_parts_mut(book, book_len);
+    let pool = from_raw_parts_mut(pool, pool_len);
+    let spare = from_raw_parts_mut(spare, spare_len);
+    let calls = from_raw_parts(calls, calls_len);
+    let answers = from_raw_parts_mut(answers, answers_len);
+    let result = play::play(book, pool, spare, calls, answers);
     number(result, |answer| *written = answer)
 }
