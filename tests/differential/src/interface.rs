@@ -3,7 +3,8 @@
 use reference_c::{
     reference_audit, reference_backup, reference_backups, reference_blocks, reference_cells,
     reference_collect, reference_count, reference_enrol, reference_form, reference_format,
-    reference_read, reference_sizes, reference_used, reference_volume, reference_write_list,
+    reference_play, reference_read, reference_sizes, reference_used, reference_volume,
+    reference_write_list,
 };
 
 type Format = unsafe extern "C" fn(*mut u8, usize, u16, u16, u16, u16) -> u16;
@@ -35,6 +36,19 @@ type Volume = unsafe extern "C" fn(*const u8, usize, u16, *mut u16, *mut u16) ->
 type Backups = unsafe extern "C" fn(*const u8, usize, u16, *mut u8, usize, *mut u16) -> u16;
 type Cells = unsafe extern "C" fn(*const u8, usize, u16, *mut u8, usize) -> u16;
 type Blocks = unsafe extern "C" fn(*const u8, usize, *mut u8, usize) -> u16;
+type Play = unsafe extern "C" fn(
+    book: *mut u8,
+    book_len: usize,
+    pool: *mut u8,
+    pool_len: usize,
+    spare: *mut u8,
+    spare_len: usize,
+    calls: *const u8,
+    calls_len: usize,
+    answers: *mut u8,
+    answers_len: usize,
+    written: *mut u32,
+) -> u16;
 type WriteList = unsafe extern "C" fn(
     l: u16,
     marks: *const u8,
@@ -63,6 +77,7 @@ pub struct Interface {
     pub backups: Backups,
     pub cells: Cells,
     pub blocks: Blocks,
+    pub play: Play,
     pub write_list: WriteList,
 }
 
@@ -144,6 +159,19 @@ mod archive {
             out_len: usize,
         ) -> u16;
         pub fn aspen_blocks(book: *const u8, len: usize, out: *mut u8, out_len: usize) -> u16;
+        pub fn aspen_play(
+            book: *mut u8,
+            book_len: usize,
+            pool: *mut u8,
+            pool_len: usize,
+            spare: *mut u8,
+            spare_len: usize,
+            calls: *const u8,
+            calls_len: usize,
+            answers: *mut u8,
+            answers_len: usize,
+            written: *mut u32,
+        ) -> u16;
         pub fn aspen_write_list(
             l: u16,
             marks: *const u8,
@@ -174,6 +202,7 @@ pub const ARCHIVE: Interface = Interface {
     backups: archive::aspen_backups,
     cells: archive::aspen_cells,
     blocks: archive::aspen_blocks,
+    play: archive::aspen_play,
     write_list: archive::aspen_write_list,
 };
 
@@ -192,5 +221,6 @@ pub const REFERENCE: Interface = Interface {
     backups: reference_backups,
     cells: reference_cells,
     blocks: reference_blocks,
+    play: reference_play,
     write_list: reference_write_list,
 };

@@ -13,6 +13,7 @@ use crate::seen::Seen;
 pub const PLACE: &str = "the block's place";
 pub const LENGTH: &str = "the list's length";
 pub const REFERENCES: &str = "references";
+pub const WRITTEN: &str = "the answers' length";
 
 pub struct Lent {
     buffers: Vec<(&'static str, Guarded)>,
@@ -132,6 +133,18 @@ impl Lent {
         unsafe { (side.read)(book.0, book.1, pool.0, pool.1, volume, number, lbn, at) }
     }
 
+    pub fn play(&mut self, side: &Interface) -> u16 {
+        let [book, pool, spare, calls, answers] = std::array::from_fn(|index| self.part(index));
+        let written = self.wide.mut_pointer();
+        // SAFETY: the buffers are apart and as long as said, and `written` is a lent number.
+        unsafe {
+            (side.play)(
+                book.0, book.1, pool.0, pool.1, spare.0, spare.1, calls.0, calls.1, answers.0,
+                answers.1, written,
+            )
+        }
+    }
+
     pub fn write_list(&mut self, side: &Interface, lbns: u16) -> u16 {
         let [marks, prints, image, list] = std::array::from_fn(|index| self.part(index));
         let written = self.wide.mut_pointer();
@@ -151,7 +164,7 @@ impl Lent {
         let mut values = Vec::new();
         for name in answers {
             let value = match *name {
-                PLACE | LENGTH | REFERENCES => wide,
+                PLACE | LENGTH | REFERENCES | WRITTEN => wide,
                 _ => narrow.next().expect("four are lent").value()?,
             };
             values.push((*name, value));

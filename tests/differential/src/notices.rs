@@ -4,12 +4,13 @@ use std::slice::from_raw_parts_mut;
 
 use reference::call::{Call, Stored};
 use reference::cases;
+use reference::play::encode;
 use reference::prng::Prng;
 use reference::view::View;
 
 use crate::coverage::Coverage;
 use crate::interface::{Interface, REFERENCE};
-use crate::request::{Request, Viewed};
+use crate::request::{Playing, Request, Viewed};
 use crate::seen;
 
 const REFUSED: Call = Call::Collect { day: 0 };
@@ -29,6 +30,16 @@ fn compared_cells(archive: &Interface, room: usize) -> Result<(), String> {
         output: vec![7; room],
     };
     sent(archive, Request::View(viewed))
+}
+
+/// And of a list of an audit and a collection, with room for so many bytes of answers.
+fn compared_list(archive: &Interface, room: usize) -> Result<(), String> {
+    let playing = &Playing {
+        stored: &cases::after_d(),
+        calls: &encode(&[Call::Audit, ACCEPTED]),
+        answers: vec![7; room],
+    };
+    sent(archive, Request::Play(playing))
 }
 
 fn sent(archive: &Interface, request: Request) -> Result<(), String> {
@@ -164,6 +175,77 @@ fn an_output_that_is_written_elsewhere_is_noticed() {
     }
 }
 
+/// Collects, and then plays the list if there is room for it.
+unsafe extern "C" fn collects_first(
+    book: *mut u8,
+    book_len: usize,
+    pool: *mut u8,
+    pool_len: usize,
+    spare: *mut u8,
+    spare_len: usize,
+    calls: *const u8,
+    calls_len: usize,
+    answers: *mut u8,
+    answers_len: usize,
+    written: *mut u32,
+) -> u16 {
+    (REFERENCE.collect)(book, book_len, 20, &mut 0);
+    (REFERENCE.play)(
+        book,
+        book_len,
+        pool,
+        pool_len,
+        spare,
+        spare_len,
+        calls,
+        calls_len,
+        answers,
+        answers_len,
+        written,
+    )
+}
+
+/// Plays the list, and writes a byte after the answers.
+unsafe extern "C" fn answers_more(
+    book: *mut u8,
+    book_len: usize,
+    pool: *mut u8,
+    pool_len: usize,
+    spare: *mut u8,
+    spare_len: usize,
+    calls: *const u8,
+    calls_len: usize,
+    answers: *mut u8,
+    answers_len: usize,
+    written: *mut u32,
+) -> u16 {
+    *answers.add(6) ^= 1;
+    (REFERENCE.play)(
+        book,
+        book_len,
+        pool,
+        pool_len,
+        spare,
+        spare_len,
+        calls,
+        calls_len,
+        answers,
+        answers_len,
+        written,
+    )
+}
+
+#[test]
+fn a_list_that_does_more_is_noticed() {
+    for room in [5, 6, 7] {
+        assert_eq!(compared_list(&REFERENCE, room), Ok(()));
+        for play in [collects_first, answers_more] {
+            let archive = Interface { play, ..REFERENCE };
+            assert!(compared_list(&archive, room).is_err());
+        }
+    }
+}
+
 #[test]
 fn what_never_came_is_missing() {
     let missing = Coverage::new().report();
@@ -171,4 +253,5 @@ fn what_never_came_is_missing() {
         assert!(missing.contains(&format!("number {number}")));
     }
     assert!(missing.contains(&"audit 2".into()));
+    assert!(missing.contains(&"audit 2 in a list".into()));
 }

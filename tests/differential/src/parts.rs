@@ -4,6 +4,7 @@ mod books;
 mod faults;
 mod formats;
 mod lengths;
+mod play;
 mod runs;
 mod tested;
 mod views;
@@ -34,13 +35,21 @@ impl Job {
 /// The parts of `make check`, mixed so that each shows up early.
 pub fn check() -> Vec<Job> {
     let mut quick = Vec::new();
+    let mut lists = play::jobs(Shape::LongLists, 0..6);
     for seed in 0..100 {
         for shape in Shape::QUICK {
             quick.extend(runs::jobs(shape, seed..seed + 1));
         }
     }
+    for seed in 0..40 {
+        for shape in Shape::QUICK {
+            lists.extend(play::jobs(shape, seed..seed + 1));
+        }
+    }
     let parts = [
         quick,
+        lists,
+        play::broken(),
         runs::jobs(Shape::AnySizes, 0..40),
         runs::jobs(Shape::LongLists, 0..12),
         runs::jobs(Shape::Largest, 0..4),
@@ -79,6 +88,8 @@ pub fn more(index: u64) -> Vec<Job> {
         4..=13 => runs::jobs(Shape::AnySizes, seeds),
         14..=23 => writer::jobs(many),
         24..=25 => formats::jobs(many),
+        26 => play::jobs(Shape::LongLists, seeds),
+        27..=35 => play::jobs(quick, seeds),
         _ => runs::jobs(quick, seeds),
     }
 }

@@ -6,7 +6,7 @@ use reference::prng::Prng;
 use reference::view::View;
 
 use crate::interface::Interface;
-use crate::lent::{Lent, LENGTH, PLACE, REFERENCES};
+use crate::lent::{Lent, LENGTH, PLACE, REFERENCES, WRITTEN};
 use crate::seen::{Seen, SPARE};
 
 /// The inputs of the aid's writer.
@@ -25,6 +25,13 @@ pub struct Viewed<'a> {
     pub output: Vec<u8>,
 }
 
+/// A list of calls in bytes on a box, with room for its answers.
+pub struct Playing<'a> {
+    pub stored: &'a Stored,
+    pub calls: &'a [u8],
+    pub answers: Vec<u8>,
+}
+
 #[derive(Clone, Copy)]
 pub enum Request<'a> {
     Format { book: &'a [u8], sizes: Sizes },
@@ -32,11 +39,12 @@ pub enum Request<'a> {
     Count { book: &'a [u8] },
     View(&'a Viewed<'a>),
     Call { stored: &'a Stored, call: &'a Call },
+    Play(&'a Playing<'a>),
     WriteList(&'a WriteList),
 }
 
 /// The names of the calls, in the order of the coverage table.
-pub const NAMES: [&str; 15] = [
+pub const NAMES: [&str; 16] = [
     "format",
     "enrol",
     "backup",
@@ -51,8 +59,19 @@ pub const NAMES: [&str; 15] = [
     "backups",
     "cells",
     "blocks",
+    "play",
     "write_list",
 ];
+
+pub fn call_name(call: &Call) -> &'static str {
+    match call {
+        Call::Enrol { .. } => "enrol",
+        Call::Backup { .. } => "backup",
+        Call::Collect { .. } => "collect",
+        Call::Read { .. } => "read",
+        Call::Audit => "audit",
+    }
+}
 
 type Sent<'a> = Vec<(&'static str, &'a [u8])>;
 
@@ -70,13 +89,8 @@ impl<'a> Request<'a> {
                 View::Cells { .. } => "cells",
                 View::Blocks => "blocks",
             },
-            Request::Call { call, .. } => match call {
-                Call::Enrol { .. } => "enrol",
-                Call::Backup { .. } => "backup",
-                Call::Collect { .. } => "collect",
-                Call::Read { .. } => "read",
-                Call::Audit => "audit",
-            },
+            Request::Call { call, .. } => call_name(call),
+            Request::Play(_) => "play",
             Request::WriteList(_) => "write_list",
         }
     }
@@ -105,6 +119,13 @@ impl<'a> Request<'a> {
                 }
                 buffers
             }
+            Request::Play(playing) => vec![
+                ("the book", &playing.stored.book),
+                ("the pool", &playing.stored.pool),
+                (SPARE, &playing.stored.spare),
+                ("the calls", playing.calls),
+                ("the answers", &playing.answers),
+            ],
             Request::WriteList(input) => vec![
                 ("the marks", &input.marks),
                 ("the fingerprints", &input.prints),
@@ -123,6 +144,7 @@ impl<'a> Request<'a> {
             Request::Count { .. } => lent.count(side),
             Request::View(viewed) => lent.view(side, viewed.view),
             Request::Call { call, .. } => lent.call(side, call),
+            Request::Play(_) => lent.play(side),
             Request::WriteList(input) => lent.write_list(side, input.lbns),
         };
         lent.seen(number, self.answers())
@@ -140,6 +162,7 @@ impl<'a> Request<'a> {
             "used" => &["slots used", "records used", "the day"],
             "volume" => &["the retention", "the backups"],
             "backups" => &["the count"],
+            "play" => &[WRITTEN],
             "write_list" => &[LENGTH],
             _ => &[],
         }

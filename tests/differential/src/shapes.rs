@@ -4,15 +4,18 @@
 mod backup;
 mod buffers;
 mod others;
+mod play;
 mod views;
 mod writer;
+
+pub use play::numbers as listed_numbers;
 
 use std::collections::BTreeMap;
 
 use reference::call::Call;
 use reference::view::View;
 
-use crate::request::{Request, Viewed};
+use crate::request::{Playing, Request, Viewed};
 use crate::seen::Seen;
 
 /// The shapes that a call may have, each with whether it has it.
@@ -37,6 +40,7 @@ impl Shapes {
             Request::Count { .. } if seen.number == 0 => {
                 self.count("count", others::count(seen));
             }
+            Request::Play(playing) => self.note_play(playing, seen),
             Request::View(viewed) => self.note_view(request.name(), viewed, seen),
             Request::WriteList(input) => {
                 self.count("write_list", writer::Written::new(input, seen).shapes());
@@ -67,6 +71,15 @@ impl Shapes {
         if seen.number == 0 {
             self.count(name, views::shown(viewed, seen));
         }
+    }
+
+    fn note_play(&mut self, playing: &Playing, seen: &Seen) {
+        match seen.number {
+            19 => return self.count("play", play::refused(playing)),
+            0 => self.count("play", play::played(playing, seen)),
+            _ => {}
+        }
+        self.count("play", play::room(playing, seen.number));
     }
 
     fn note_call(&mut self, book: &[u8], pool: &[u8], call: &Call, seen: &Seen) {

@@ -5,10 +5,11 @@ use std::sync::LazyLock;
 use reference::call::{Call, Stored};
 use reference::cases;
 use reference::layout::BLOCK_BYTES;
+use reference::play::encode;
 use reference::prng::Prng;
 use vectors::{edited, Edit, Vector};
 
-use super::{views, Job};
+use super::{play, views, Job};
 use crate::outcome::Outcome;
 use crate::request::Request;
 
@@ -94,6 +95,9 @@ fn send_all(outcome: &mut Outcome, label: &dyn Fn() -> String, book: &[u8]) {
     for call in &calls() {
         outcome.compare(&mut prng, label, Request::Call { stored, call });
     }
+    let list = encode(&calls());
+    let room = play::room_for(&list);
+    play::send(outcome, &mut prng, label, (stored, &list), room);
     outcome.compare(&mut prng, label, Request::Form { book });
     outcome.compare(&mut prng, label, Request::Count { book });
 }

@@ -3,11 +3,12 @@
 use reference::call::{Call, Stored};
 use reference::cases;
 use reference::layout::{Book, Header, Pbn};
+use reference::play::encode;
 use reference::prng::Prng;
 use reference::store;
 use reference::view::View;
 
-use super::{views, Job};
+use super::{play, views, Job};
 use crate::outcome::Outcome;
 use crate::request::Request;
 use crate::seen::{equal, Seen};
@@ -21,6 +22,7 @@ const BOOK: &[u16] = &[1, 2];
 const VOLUME: &[u16] = &[1, 2, 5];
 const VOLUME_ROWS: &[u16] = &[1, 2, 5, 20];
 const BLOCK_ROWS: &[u16] = &[1, 2, 20];
+const PLAY: &[u16] = &[19, 20];
 
 const PART: &str = "sets of faults";
 
@@ -38,6 +40,7 @@ pub fn jobs() -> Vec<Job> {
     let mut jobs: Vec<Job> = calls.into_iter().map(job).collect();
     jobs.push(Job::new(PART, send_books));
     jobs.push(Job::new(PART, send_views));
+    jobs.push(Job::new(PART, send_lists));
     jobs
 }
 
@@ -80,6 +83,25 @@ fn send_views(outcome: &mut Outcome) {
             let view = View::all(faults.either(5, 8, 1))[index];
             let book = &faults.stored().book[..];
             let seen = views::send(outcome, &mut prng, &faults.label(), (book, view), room);
+            check_lowest(outcome, &faults, seen);
+        }
+    }
+}
+
+/// Lists with a byte after their end for 19, and with room that is a byte short for 20; what is
+/// wrong with the book refuses calls, and no list.
+fn send_lists(outcome: &mut Outcome) {
+    let mut prng = Prng::seeded(0);
+    for damage in sets(&[1, 2, 3, 4]) {
+        for faults in sets(PLAY) {
+            let calls = [damage.backup(), damage.read(), Call::Audit];
+            let mut list = encode(&calls);
+            let room = play::room_for(&list) - usize::from(faults.has(20));
+            if faults.has(19) {
+                list.push(0);
+            }
+            let sent = (&damage.stored(), &list[..]);
+            let seen = play::send(outcome, &mut prng, &faults.label(), sent, room);
             check_lowest(outcome, &faults, seen);
         }
     }

@@ -2,10 +2,11 @@
 
 use reference::call::{Call, Stored};
 use reference::cases;
+use reference::play::encode;
 use reference::prng::Prng;
 use reference::view::View;
 
-use super::{views, Job};
+use super::{play, views, Job};
 use crate::outcome::Outcome;
 use crate::request::{Request, WriteList};
 
@@ -60,9 +61,13 @@ fn send_box(outcome: &mut Outcome, buffer: usize) {
         };
         outcome.compare(&mut prng, &label, request);
         let stored = &Stored { book, pool, spare };
-        for call in &calls(list) {
+        let calls = calls(list);
+        for call in &calls {
             outcome.compare(&mut prng, &label, Request::Call { stored, call });
         }
+        let list = encode(&calls);
+        let room = play::room_for(&list);
+        play::send(outcome, &mut prng, &label, (stored, &list), room);
     }
 }
 

@@ -148,7 +148,7 @@ fn send_disturbed(
 }
 
 /// A copy with another book, and now and then other lengths of the buffers.
-fn disturbed(prng: &mut Prng, stored: &Stored) -> Stored {
+pub fn disturbed(prng: &mut Prng, stored: &Stored) -> Stored {
     let mut disturbed = stored.clone();
     disturb(prng, &mut disturbed.book);
     if prng.once_in(10) {
