@@ -33,7 +33,7 @@ struct control control_of(const uint8_t *input, size_t length)
     return control;
 }
 
-static struct buffer buffer_of(const uint8_t *bytes, size_t length)
+struct buffer buffer_of(const uint8_t *bytes, size_t length)
 {
     struct buffer buffer = buffer_new(length);
 

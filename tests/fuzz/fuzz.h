@@ -10,7 +10,8 @@
  *     6  3 u16   XORed with the call's numbers
  *    12  4 i16   added to these lengths
  * The rest is the book and, past its length, the list; or else patches of 4 bytes: which buffer,
- * where (u16), and what is XORed with the byte there. For the writer the rest is the marks.
+ * where (u16), and what is XORed with the byte there. For the writer the rest is the marks, for play
+ * the list of calls.
  */
 #ifndef ASPEN_FUZZ_H
 #define ASPEN_FUZZ_H
@@ -52,6 +53,9 @@ struct side {
 
 /* What an input stands for; `call` as reference_make has it. */
 struct sent sent_of(const uint8_t *input, size_t length, char call);
+
+/* A buffer with a copy of these bytes. */
+struct buffer buffer_of(const uint8_t *bytes, size_t length);
 
 /* A buffer with other lengths, cut off or gone on with zeros. */
 void make_longer(struct buffer *buffer, int longer);

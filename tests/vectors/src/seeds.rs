@@ -1,6 +1,8 @@
 //! Inputs that the fuzz targets start from; `fuzz/fuzz.h` says how an input is read.
 
+use reference::call::Call;
 use reference::cases;
+use reference::play::encode;
 
 /// Longer books make slow inputs.
 const BOOK_MAX: usize = 2_048;
@@ -49,7 +51,40 @@ pub fn all() -> Vec<(String, Vec<u8>)> {
             seeds.push((name, control(calls, shape, seed, disturbed, [0; 3])));
         }
     }
+    for calls in 0..3 {
+        for mended in 0..2 {
+            let mut input = control(calls, calls, 0, 0, [mended, 0, 0]);
+            input.extend(list(calls == 0));
+            seeds.push((format!("list-{calls}-{mended}"), input));
+        }
+    }
     seeds
+}
+
+/// A list of calls with every kind of answer: the cases to g on a fresh book, or calls that boxes of
+/// runs take.
+fn list(fresh: bool) -> Vec<u8> {
+    let read = |number| Call::Read {
+        volume: 0,
+        number,
+        lbn: 0,
+    };
+    let mut calls = match fresh {
+        true => cases::calls_to_d(),
+        false => vec![
+            cases::backup(0, 60_000, &[]),
+            cases::backup(0, 60_000, &[(0, "X")]),
+        ],
+    };
+    let day = if fresh { 19 } else { 60_000 };
+    calls.extend([
+        read(1),
+        read(2),
+        Call::Collect { day },
+        read(1),
+        Call::Audit,
+    ]);
+    encode(&calls)
 }
 
 /// A book as it is, and a list of one change.
