@@ -1,4 +1,4 @@
-/* Tests of what libengine.a exports. */
+/* Tests of what libengine.a and libplay.a export. */
 #include "check.h"
 #include "tests.h"
 
@@ -13,5 +13,6 @@ int main(void)
     test_refusals();
     test_lists();
     test_changes();
+    test_play();
     return check_report();
 }

@@ -18,4 +18,7 @@ void test_refusals(void);
 void test_lists(void);
 void test_changes(void);
 
+/* With libplay.a. */
+void test_play(void);
+
 #endif

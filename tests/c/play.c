@@ -1,0 +1,257 @@
+/* Lists of calls in bytes: cases a to j, bytes that are no list, and room for the answers. */
+#include <aspen.h>
+
+#include "books.h"
+#include "box.h"
+#include "check.h"
+#include "tests.h"
+
+#include <string.h>
+
+enum { OUT_BYTE = 0xA5, UNTOUCHED = 0xFEED };
+
+/* Adds a call to a list. The data may be null. */
+static void add(struct buffer *calls, enum aspen_call kind, unsigned a, unsigned b, unsigned c,
+                const struct buffer *data)
+{
+    size_t place = calls->length, length = data == NULL ? 0 : data->length;
+    uint8_t *head;
+
+    buffer_resize(calls, place + ASPEN_CALL_HEAD + length);
+    head = calls->bytes + place;
+    head[0] = (uint8_t)kind;
+    put_u16(head, 2, a);
+    put_u16(head, 4, b);
+    put_u16(head, 6, c);
+    put_u16(head, 10, (unsigned)length);
+    if (length != 0)
+        memcpy(head + ASPEN_CALL_HEAD, data->bytes, length);
+}
+
+static void add_backup(struct buffer *calls, unsigned volume, unsigned day, unsigned lbn,
+                       const char *prints, const char *blocks)
+{
+    struct buffer list = list_of(lbn, prints, blocks);
+
+    add(calls, ASPEN_CALL_BACKUP, volume, day, 0, &list);
+    buffer_free(&list);
+}
+
+/* Plays a list with the checks that every call owes, and gives the answers' length. */
+static uint32_t play(struct box *box, const struct buffer *calls, struct buffer *answers,
+                     uint16_t expected)
+{
+    struct buffer book = buffer_copy(&box->book), pool = buffer_copy(&box->pool);
+    struct buffer before = buffer_copy(answers);
+    uint32_t written[3] = { UNTOUCHED, UNTOUCHED, UNTOUCHED };
+    uint16_t number = aspen_play(box->book.bytes, box->book.length, box->pool.bytes,
+                                 box->pool.length, box->spare.bytes, box->spare.length,
+                                 calls->bytes, calls->length, answers->bytes, answers->length,
+                                 &written[1]);
+
+    CHECK_EQ(number, expected);
+    CHECK_EQ(written[0] == UNTOUCHED && written[2] == UNTOUCHED, 1);
+    if (number != ASPEN_OK) {
+        CHECK_EQ(written[1], UNTOUCHED);
+        CHECK_BYTES(box->book.bytes, book.bytes, book.length);
+        CHECK_BYTES(box->pool.bytes, pool.bytes, pool.length);
+        CHECK_BYTES(answers->bytes, before.bytes, before.length);
+    }
+    CHECK_GUARDS(&box->book);
+    CHECK_GUARDS(&box->pool);
+    CHECK_GUARDS(&box->spare);
+    CHECK_GUARDS(calls);
+    CHECK_GUARDS(answers);
+    buffer_free(&book);
+    buffer_free(&pool);
+    buffer_free(&before);
+    return written[1];
+}
+
+/* Plays a list on the box after case d, with so much room. */
+static void check_play(const struct buffer *calls, size_t room, uint16_t expected)
+{
+    struct box box = box_after_d();
+    struct buffer answers = buffer_filled(room, OUT_BYTE);
+
+    play(&box, calls, &answers, expected);
+    buffer_free(&answers);
+    box_free(&box);
+}
+
+static struct buffer cases_a_to_j(void)
+{
+    struct buffer calls = buffer_new(0);
+
+    add(&calls, ASPEN_CALL_ENROL, 0, 10, 0, NULL);
+    add(&calls, ASPEN_CALL_ENROL, 1, 3, 0, NULL);
+    add_backup(&calls, 0, 5, 0, "AB", "AB");
+    add_backup(&calls, 1, 6, 3, "A", "A");
+    add_backup(&calls, 0, 8, 0, "C", "C");
+    add_backup(&calls, 1, 9, 3, "B", "B");
+    add(&calls, ASPEN_CALL_COLLECT, 18, 0, 0, NULL);
+    add(&calls, ASPEN_CALL_READ, 0, 1, 0, NULL);
+    add(&calls, ASPEN_CALL_READ, 1, 1, 3, NULL);
+    add(&calls, ASPEN_CALL_COLLECT, 19, 0, 0, NULL);
+    add(&calls, ASPEN_CALL_READ, 0, 1, 0, NULL);
+    add_backup(&calls, 0, 20, 2, "DE", "DE");
+    add_backup(&calls, 1, 21, 0, "F", "F");
+    add_backup(&calls, 1, 21, 0, "B", "F");
+    add(&calls, ASPEN_CALL_AUDIT, 0, 0, 0, NULL);
+    return calls;
+}
+
+static void test_cases_as_a_list(void)
+{
+    static const uint8_t first[] = { 0, 0, 0, 0, 0, 0, 1, 1, 0, 2, 0, 2, 0, 1, 1, 0, 0, 0, 1, 0,
+                                     1, 2, 0, 1, 0, 2, 0, 1, 2, 0, 0, 0, 2, 0, 2, 0, 0, 3 };
+    static const uint8_t last[] = { 0, 16, 0, 2, 1, 0, 0, 16, 0, 1, 3, 0, 2, 0, 2, 0,
+                                    0, 12, 0, 0, 11, 0, 4, 1, 0, OUT_BYTE };
+    struct box box = box_fresh();
+    struct buffer calls = cases_a_to_j();
+    struct buffer answers = buffer_filled(aspen_answers_bound(7, 3, 5), OUT_BYTE);
+    uint8_t block[ASPEN_BLOCK_SIZE];
+
+    check_about("cases a to j as a list");
+    memset(block, 'A', sizeof block);
+    CHECK_EQ(play(&box, &calls, &answers, ASPEN_OK), sizeof first + sizeof block + sizeof last - 1);
+    CHECK_BYTES(answers.bytes, first, sizeof first);
+    CHECK_BYTES(answers.bytes + sizeof first, block, sizeof block);
+    CHECK_BYTES(answers.bytes + sizeof first + sizeof block, last, sizeof last);
+    check_pool(&box, "EBCD");
+    buffer_free(&answers);
+    buffer_free(&calls);
+    box_free(&box);
+}
+
+/* One call of each kind, as the box after case d takes them. */
+static struct buffer one_of_each(void)
+{
+    struct buffer calls = buffer_new(0);
+
+    add(&calls, ASPEN_CALL_ENROL, 2, 5, 0, NULL);
+    add(&calls, ASPEN_CALL_COLLECT, 9, 0, 0, NULL);
+    add(&calls, ASPEN_CALL_READ, 0, 1, 0, NULL);
+    add(&calls, ASPEN_CALL_AUDIT, 0, 0, 0, NULL);
+    add_backup(&calls, 0, 10, 2, "D", "D");
+    return calls;
+}
+
+static void test_cut(void)
+{
+    struct buffer calls = one_of_each();
+    size_t room = aspen_answers_bound(1, 1, 3), last = 4 * ASPEN_CALL_HEAD;
+
+    check_about("lists cut off");
+    check_play(&calls, room, ASPEN_OK);
+    while (calls.length > 0) {
+        size_t length = calls.length - 1;
+
+        buffer_resize(&calls, length);
+        check_play(&calls, room,
+                   length <= last && length % ASPEN_CALL_HEAD == 0 ? ASPEN_OK : ASPEN_BAD_INPUT);
+    }
+    buffer_free(&calls);
+}
+
+/* A head of the list has another byte. */
+static void check_head(size_t at, uint8_t byte, uint16_t expected)
+{
+    struct buffer calls = one_of_each();
+
+    calls.bytes[at] = byte;
+    check_play(&calls, aspen_answers_bound(1, 2, 2), expected);
+    buffer_free(&calls);
+}
+
+static void test_heads(void)
+{
+    static const size_t used[] = { 6, 4, 8, 2, 6 };
+    size_t call, at;
+
+    check_about("heads of calls");
+    for (call = 0; call < 5; call++) {
+        size_t place = call * ASPEN_CALL_HEAD;
+
+        check_head(place, 5, ASPEN_BAD_INPUT);
+        check_head(place, 255, ASPEN_BAD_INPUT);
+        check_head(place + 1, 1, ASPEN_BAD_INPUT);
+        for (at = 2; at < used[call]; at++)
+            check_head(place + at, 1, ASPEN_OK);
+        for (; at < ASPEN_CALL_HEAD; at++)
+            check_head(place + at, at == 10 ? 1 : 255, ASPEN_BAD_INPUT);
+    }
+}
+
+/* The data of the last call has another length in its head. */
+static void check_data(uint32_t length)
+{
+    struct buffer calls = one_of_each();
+    uint8_t *head = calls.bytes + 4 * ASPEN_CALL_HEAD;
+
+    put_u16(head, 10, (unsigned)(length & 0xFFFF));
+    put_u16(head, 12, (unsigned)(length >> 16));
+    check_play(&calls, aspen_answers_bound(1, 1, 3), ASPEN_BAD_INPUT);
+    buffer_free(&calls);
+}
+
+static void test_data(void)
+{
+    uint32_t right = (uint32_t)aspen_list_size(1, 1), less;
+
+    check_about("lengths of data");
+    check_data(0);
+    check_data(right - 1);
+    check_data(right + 1);
+    check_data(65536 + right);
+    for (less = 0; less < 4 * ASPEN_CALL_HEAD; less++)
+        check_data(0xFFFFFFFFu - less);
+}
+
+static void test_room(void)
+{
+    struct buffer calls = one_of_each(), none = buffer_new(0);
+    size_t exact = aspen_answers_bound(1, 1, 3), room;
+
+    check_about("room for the answers");
+    for (room = 0; room < exact; room++)
+        check_play(&calls, room, ASPEN_SHORT_OUTPUT);
+    check_play(&calls, exact, ASPEN_OK);
+    check_play(&calls, exact + 1, ASPEN_OK);
+    check_play(&none, 0, ASPEN_OK);
+    buffer_free(&calls);
+    buffer_free(&none);
+}
+
+/* A list goes on after a refused call, and knows the lengths of pool and spare. */
+static void test_refused_calls(void)
+{
+    static const uint8_t expected[] = { 0, 5, 0, 2, 0, 0, 0, 3, 0, 4, 1, 0, 0, 3, 0 };
+    static const uint8_t short_spare[] = { 0, 4, 0 };
+    struct buffer calls = one_of_each(), answers = buffer_filled(sizeof expected + 600, OUT_BYTE);
+    struct box box = box_after_d();
+
+    check_about("refused calls in a list");
+    put_u16(calls.bytes, 2, 1);
+    buffer_resize(&box.pool, box.pool.length - 1);
+    CHECK_EQ(play(&box, &calls, &answers, ASPEN_OK), sizeof expected);
+    CHECK_BYTES(answers.bytes, expected, sizeof expected);
+    box_free(&box);
+    box = box_after_d();
+    buffer_resize(&box.spare, box.spare.length - 1);
+    CHECK_EQ(play(&box, &calls, &answers, ASPEN_OK), 3 + 3 + 513 + 3 + 3);
+    CHECK_BYTES(answers.bytes + 522, short_spare, sizeof short_spare);
+    box_free(&box);
+    buffer_free(&calls);
+    buffer_free(&answers);
+}
+
+void test_play(void)
+{
+    test_cases_as_a_list();
+    test_cut();
+    test_heads();
+    test_data();
+    test_room();
+    test_refused_calls();
+}
