@@ -51,13 +51,15 @@ module _ (room : ℕ) where
   unfolding addedTo
   sum-more most more rest = go (leb most room) refl
     where
-      go : (t : Bool) → leb most room ≡ t → roomNumber room (most + (more + rest)) ≡ roomNumber room ((if t then most + more else most) + rest)
+      go : (t : Bool) → leb most room ≡ t
+          → roomNumber room (most + (more + rest)) ≡ roomNumber room ((if t then most + more else most) + rest)
       go true e = ap (λ (k : ℕ). roomNumber room k) (omega arith)
       go false e =
           let l = leb-false most room e in
           room-passed (most + (more + rest)) (omega arith) ∙ sym (room-passed (most + rest) (omega arith))
 
-  left-more : (most : ℕ) (c : Call) (o : Outcome (List Call)) → numberLeft room most (andThen o (before c)) ≡ numberLeft room (addedTo room most (longest c)) o
+  left-more : (most : ℕ) (c : Call) (o : Outcome (List Call))
+      → numberLeft room most (andThen o (before c)) ≡ numberLeft room (addedTo room most (longest c)) o
   left-more most c (refused k) = refl
   left-more most c (accepted cs) = sum-more most (longest c) (mostOf cs)
 
@@ -70,7 +72,8 @@ module _ (room : ℕ) where
         clear zero cs = refl
         clear (suc k) cs = refl
 
-        go : (o : Outcome (List Call)) → numberOf (andThen o (λ cs. unless (roomNumber room (mostOf cs)) (accepted cs))) ≡ numberLeft room 0 o
+        go : (o : Outcome (List Call))
+            → numberOf (andThen o (λ cs. unless (roomNumber room (mostOf cs)) (accepted cs))) ≡ numberLeft room 0 o
         go (refused k) = refl
         go (accepted cs) = clear (roomNumber room (mostOf cs)) cs ∙ ap (λ (k : ℕ). roomNumber room k) (sym (zero-add (mostOf cs)))
 
@@ -106,11 +109,13 @@ module _ (calls out : List ℕ) (room : ℕ) (e : room ≡ roomOf (length out)) 
   pub played-refused : {w r : ℕ} → r ≡ numberOf (playable calls room) → (r ≡ 0 → ⊥) → Played spare b pool calls out w r b pool out w
   played-refused {w} {r} n h = go (playable calls (roomOf (length out))) refl (rw e at n)
     where
-      go : (o : Outcome (List Call)) → playable calls (roomOf (length out)) ≡ o → r ≡ numberOf o → Played spare b pool calls out w r b pool out w
+      go : (o : Outcome (List Call)) → playable calls (roomOf (length out)) ≡ o → r ≡ numberOf o
+          → Played spare b pool calls out w r b pool out w
       go (refused k) f m = record { number = rw f m; end = rw f; answers = rw f; written = rw f }
       go (accepted cs) f m = absurd (h m)
 
-  module _ (n : numberOf (playable calls room) ≡ 0) {b′ pool′ out′ : List ℕ} {w′ : ℕ} (d : DidAll spare b pool (restOf calls 0) out b′ pool′ out′ w′) where
+  module _ (n : numberOf (playable calls room) ≡ 0) {b′ pool′ out′ : List ℕ} {w′ : ℕ}
+      (d : DidAll spare b pool (restOf calls 0) out b′ pool′ out′ w′) where
     pub played-all : {w : ℕ} → Played spare b pool calls out w 0 b′ pool′ out′ w′
     played-all =
         let g = rw e at (playable-good room calls n .2) in
@@ -123,6 +128,7 @@ module _ (calls out : List ℕ) (room : ℕ) (e : room ≡ roomOf (length out)) 
         omega (arith, d .written, g .1)
 
 -- what was played, where the calls are known
-pub played-did : {spare w r w′ : ℕ} {b pool calls out b′ pool′ out′ : List ℕ} (cs : List Call) → playable calls (roomOf (length out)) ≡ accepted cs
+pub played-did : {spare w r w′ : ℕ} {b pool calls out b′ pool′ out′ : List ℕ} (cs : List Call)
+    → playable calls (roomOf (length out)) ≡ accepted cs
     → Played spare b pool calls out w r b′ pool′ out′ w′ → DidAll spare b pool cs out b′ pool′ out′ w′
 played-did cs e p = record { end = rw e at (p .end); answers = rw e at (p .answers); written = rw e at (p .written) }

@@ -16,7 +16,8 @@ use Rattle.words.proofs.Pieces.{part-past}
 use Rattle.words.specs.Sections.{flat, part}
 use Rattle.model.specs.Calls.{Call, enrol, backup, collect, read, audit}
 use Rattle.calls.specs.Reading.{calls-end, calls-more}
-use Rattle.calls.specs.Coding.{dataSize, callSize, unusedZero, unusedZeroAt, callOf, isCall, callAt, before, callsFrom, callsOf, rowBytes, callBytes}
+use Rattle.calls.specs.Coding.{dataSize, callSize, unusedZero, unusedZeroAt, callOf, isCall, callAt, before, callsFrom, callsOf}
+use Rattle.calls.specs.Coding.{rowBytes, callBytes}
 
 -- ---- what is read past the bytes p
 
@@ -50,7 +51,8 @@ module _ (p rest : List ℕ) (kind a b c : ℕ) (list : List ℕ) where
   size-back : dataSize (p ++ row) (length p) ≡ length list
   unfolding dataSize
   size-back =
-      ap₂ (λ (u v : ℕ). u + v * 65536) (num-past p row 10 ∙ two-back (length list % 65536)) (num-past p row 12 ∙ two-back (length list / 65536))
+      ap₂ (λ (u v : ℕ). u + v * 65536) (num-past p row 10 ∙ two-back (length list % 65536))
+      (num-past p row 12 ∙ two-back (length list / 65536))
       ∙ mod-add-div' (length list) 65536
 
   list-back : part (p ++ row) (length p + 14) (length list) ≡ list
@@ -95,13 +97,44 @@ record Back (p rest : List ℕ) (c : Call) : Type 0 where
 
 call-back : (p rest : List ℕ) (c : Call) → Back p rest c
 unfolding callOf unusedZero
-call-back p rest (enrol v r) = record { is = row-call p rest 0 v r 0 [] refl; call = row-back p rest 0 v r 0 []; size = row-size p rest 0 v r 0 []; some = omega arith }
-call-back p rest (backup v t list) = record { is = row-call p rest 1 v t 0 list refl; call = row-back p rest 1 v t 0 list; size = row-size p rest 1 v t 0 list; some = omega arith }
-call-back p rest (collect t) = record { is = row-call p rest 2 t 0 0 [] refl; call = row-back p rest 2 t 0 0 []; size = row-size p rest 2 t 0 0 []; some = omega arith }
-call-back p rest (read v k lbn) = record { is = row-call p rest 3 v k lbn [] refl; call = row-back p rest 3 v k lbn []; size = row-size p rest 3 v k lbn []; some = omega arith }
-call-back p rest audit = record { is = row-call p rest 4 0 0 0 [] refl; call = row-back p rest 4 0 0 0 []; size = row-size p rest 4 0 0 0 []; some = omega arith }
+call-back p rest (enrol v r) =
+    record {
+      is = row-call p rest 0 v r 0 [] refl;
+      call = row-back p rest 0 v r 0 [];
+      size = row-size p rest 0 v r 0 [];
+      some = omega arith;
+    }
+call-back p rest (backup v t list) =
+    record {
+      is = row-call p rest 1 v t 0 list refl;
+      call = row-back p rest 1 v t 0 list;
+      size = row-size p rest 1 v t 0 list;
+      some = omega arith;
+    }
+call-back p rest (collect t) =
+    record {
+      is = row-call p rest 2 t 0 0 [] refl;
+      call = row-back p rest 2 t 0 0 [];
+      size = row-size p rest 2 t 0 0 [];
+      some = omega arith;
+    }
+call-back p rest (read v k lbn) =
+    record {
+      is = row-call p rest 3 v k lbn [] refl;
+      call = row-back p rest 3 v k lbn [];
+      size = row-size p rest 3 v k lbn [];
+      some = omega arith;
+    }
+call-back p rest audit =
+    record {
+      is = row-call p rest 4 0 0 0 [] refl;
+      call = row-back p rest 4 0 0 0 [];
+      size = row-size p rest 4 0 0 0 [];
+      some = omega arith;
+    }
 
-calls-past : (cs : List Call) (p : List ℕ) (n : ℕ) → length (flat callBytes cs) ≤ n → callsFrom n (p ++ flat callBytes cs) (length p) ≡ accepted cs
+calls-past : (cs : List Call) (p : List ℕ) (n : ℕ) → length (flat callBytes cs) ≤ n
+    → callsFrom n (p ++ flat callBytes cs) (length p) ≡ accepted cs
 calls-past [] p n h = calls-end (p ++ []) n (length p) (omega (arith, length-append p []))
 calls-past (c ∷ cs) p n h =
     let rest = flat callBytes cs in

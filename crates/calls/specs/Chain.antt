@@ -1,4 +1,5 @@
--- The chain: what is played on a fresh book answers as the plain store and shows what it shows, and the box goes on from there as the claims
+-- The chain: what is played on a fresh book answers as the plain store and shows what it shows, and the box goes on from there as the
+-- claims
 -- say.
 use Prim.Native.Nat.{ℕ, _*_, _≤_, _<_}
 use mathlib.Core.Path.{_≡_, refl, sym, ap, _∙_}
@@ -53,10 +54,12 @@ pub record GoesOn (z : Sizes) (spare : ℕ) (cs : List Call) (o : Ours) : Type 0
   pub audits : ours spare o audit .answer ≡ sound true
   pub touches : (v t : ℕ) (list : List ℕ) (k taken touched : ℕ) → ours spare o (backup v t list) .answer ≡ backed k taken touched
       → touched ≤ 2 * changeCount list
-  pub collects : (t k : ℕ) → ours spare o (collect t) .answer ≡ freed k → ours spare (ours spare o (collect t) .next) (collect t) .answer ≡ freed 0
+  pub collects : (t k : ℕ) → ours spare o (collect t) .answer ≡ freed k
+      → ours spare (ours spare o (collect t) .next) (collect t) .answer ≡ freed 0
 
 module _ (f : Fresh) (cs : List Call) where
-  pub as-plain : {out b′ pool′ out′ : List ℕ} {w′ : ℕ} → DidAll (f .spare) (f .book) (f .pool) cs out b′ pool′ out′ w′ → AsPlain (f .sizes) cs out b′ pool′ out′ w′
+  pub as-plain : {out b′ pool′ out′ : List ℕ} {w′ : ℕ} → DidAll (f .spare) (f .book) (f .pool) cs out b′ pool′ out′ w′
+      → AsPlain (f .sizes) cs out b′ pool′ out′ w′
   as-plain d = record {
     answers = rw (← lists f cs .answers) (d .answers);
     written = rw (← lists f cs .answers) (d .written);
@@ -72,7 +75,8 @@ module _ (f : Fresh) (cs : List Call) where
     audits = corollaries f cs .audits;
     touches = corollaries f cs .touches;
     collects = λ t k a.
-        ap (λ (o : Ours). ours (f .spare) o (collect t) .answer) (sym (end-append (ours (f .spare)) (record { book = f .book; pool = f .pool }) cs (collect t ∷ [])))
+        ap (λ (o : Ours). ours (f .spare) o (collect t) .answer)
+        (sym (end-append (ours (f .spare)) (record { book = f .book; pool = f .pool }) cs (collect t ∷ [])))
         ∙ corollaries f cs .collects t k a;
   }
 
@@ -85,5 +89,6 @@ freshPlayable b z calls room = unless (formatNumber b z) (playable calls room)
 -- "one fresh book .. and its pool (any bytes at first) with a spare long enough"; b is the book before the format
 pub record PlayedFresh (b pool spare : List ℕ) (z : Sizes) (calls out : List ℕ) (r : ℕ) (b′ pool′ out′ : List ℕ) (w′ : ℕ) : Type 0 where
   pub number : r ≡ numberOf (freshPlayable b z calls (roomOf (length out)))
-  pub played : (cs : List Call) → freshPlayable b z calls (roomOf (length out)) ≡ accepted cs → length pool ≡ poolSize (z .n) → bookSize z ≤ length spare
+  pub played : (cs : List Call) → freshPlayable b z calls (roomOf (length out)) ≡ accepted cs → length pool ≡ poolSize (z .n)
+      → bookSize z ≤ length spare
       → AsPlain z cs out b′ pool′ out′ w′ × GoesOn z (length spare) cs (at b′ pool′)

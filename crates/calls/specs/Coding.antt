@@ -1,4 +1,4 @@
--- Calls in bytes: a head of 14 bytes and its data, one after the other to the end (docs/CALLS.md).
+-- Calls in bytes: a head of 14 bytes and its data, one after the other to the end (docs/FORMAT.md).
 use Prim.Native.Nat.{ℕ, zero, suc, _+_, _*_, _/_, _%_}
 use mathlib.Core.Bool.{Bool, true, false, _&&_}
 use mathlib.Core.List.{List, [], _∷_, _++_}

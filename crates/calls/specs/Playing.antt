@@ -33,10 +33,13 @@ module _ {spare : ℕ} {b₀ pool₀ : List ℕ} {cs : List Call} {out₀ : List
         written = omega (arith, p .reach);
       }
 
-  pub playing-more : {b pool out b′ pool′ out′ : List ℕ} {to r : ℕ} (c : Call) (rest : List Call) → Playing spare b₀ pool₀ cs out₀ b pool out to (c ∷ rest)
+  pub playing-more : {b pool out b′ pool′ out′ : List ℕ} {to r : ℕ} (c : Call) (rest : List Call)
+      → Playing spare b₀ pool₀ cs out₀ b pool out to (c ∷ rest)
       → Did spare b pool c out to b′ pool′ out′ r → Playing spare b₀ pool₀ cs out₀ b′ pool′ out′ r rest
   playing-more {b} {pool} {out} {b′} {pool′} {out′} {to} {r} c rest p d =
-      let same : told spare (at b′ pool′) rest ≡ told spare (ours spare (at b pool) c .next) rest = ap (λ (o : Ours). told spare o rest) (d .next) in
+      let same : told spare (at b′ pool′) rest ≡ told spare (ours spare (at b pool) c .next) rest =
+      ap (λ (o : Ours). told spare o rest) (d .next)
+      in
       record {
         end = ap (λ (o : Ours). endOf (ours spare) o rest) (d .next) ∙ p .end;
         answers =

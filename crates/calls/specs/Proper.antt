@@ -14,7 +14,8 @@ use Rattle.book.specs.Book.{retentionOf}
 use Rattle.book.specs.Form.{formNumber}
 use Rattle.book.specs.Layout.{bookOf}
 use Rattle.model.specs.Backup
-use Rattle.model.specs.Backup.{Work, Placed, findHeld, findFree, placeFree, placeHeld, place, moveTo, moveNumber, changeStep, runChanges, begun, backupNumber}
+use Rattle.model.specs.Backup.{Work, Placed, findHeld, findFree, placeFree, placeHeld, place, moveTo, moveNumber, changeStep, runChanges}
+use Rattle.model.specs.Backup.{begun, backupNumber}
 use Rattle.model.specs.Collect
 use Rattle.model.specs.Collect.{collectNumber}
 use Rattle.model.specs.Pool.{blockAt}
@@ -74,7 +75,9 @@ place-proper c w = held (findHeld (w .book .entries) (c .print))
 
 step-proper : (v until : ℕ) (c : Change) (w : Work) → Proper (changeStep v until c w)
 unfolding changeStep moveTo
-step-proper v until c w = proper-then (place c w) _ (place-proper c w) (λ d. proper-unless (moveNumber until _ (d .pbn) (d .work .book .entries)) _ (proper-accepted _))
+step-proper v until c w =
+    proper-then (place c w) _ (place-proper c w)
+    (λ d. proper-unless (moveNumber until _ (d .pbn) (d .work .book .entries)) _ (proper-accepted _))
 
 changes-proper : (v until : ℕ) (cs : List Change) (w : Work) → Proper (runChanges v until cs w)
 changes-proper v until [] w = proper-accepted w
@@ -88,5 +91,6 @@ backup-proper b pool spare v t list =
     (proper-unless (spareNumber b spare) _
     (proper-then (Backup.backup (bookOf b) pool v t list) _
     (proper-unless (backupNumber (bookOf b) v t list) _
-    (proper-then (runChanges v (t + retentionOf (bookOf b) v) (changes list) (begun (bookOf b) pool)) _ (changes-proper v _ (changes list) _) (λ w. proper-accepted _)))
+    (proper-then (runChanges v (t + retentionOf (bookOf b) v) (changes list) (begun (bookOf b) pool)) _
+    (changes-proper v _ (changes list) _) (λ w. proper-accepted _)))
     (λ d. proper-accepted _))))

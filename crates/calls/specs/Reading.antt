@@ -54,7 +54,8 @@ module _ (b : List ℕ) where
   calls-more (suc n) at h l e =
       let s = size-some at in
       rw (lt-leb (length b) at l, e)
-      (ap (λ (o : Outcome (List Call)). andThen o (before (callAt b at))) (bound-same n (suc n) (at + callSize b at) (omega arith) (omega arith)))
+      (ap (λ (o : Outcome (List Call)). andThen o (before (callAt b at)))
+      (bound-same n (suc n) (at + callSize b at) (omega arith) (omega arith)))
 
   -- bytes that are no list are refused by 19
   pub calls-refused : (n at k : ℕ) → callsFrom n b at ≡ refused k → k ≡ 19
@@ -63,7 +64,8 @@ module _ (b : List ℕ) where
       go : (t : Bool) → _≡_ {A = Outcome (List Call)} (if t then accepted [] else refused 19) (refused k) → k ≡ 19
       go true f = absurd (refused-not k [] (sym f))
       go false f = cc
-  calls-refused (suc n) at k e = go (leb (length b) at) (isCall b at) (callsFrom n b (at + callSize b at)) (calls-refused n (at + callSize b at)) e
+  calls-refused (suc n) at k e =
+      go (leb (length b) at) (isCall b at) (callsFrom n b (at + callSize b at)) (calls-refused n (at + callSize b at)) e
     where
       go : (t u : Bool) (o : Outcome (List Call)) → ((j : ℕ) → o ≡ refused j → j ≡ 19)
           → (if t then accepted [] else if u then andThen o (before (callAt b at)) else refused 19) ≡ refused k → k ≡ 19
@@ -116,7 +118,8 @@ module _ (b : List ℕ) where
     abbrev tests : Bool → Bool → Bool → Bool → Bool
     tests x y z w = x && y && z && w
 
-    is-tests : isCall b at ≡ tests (leb (at + 14) (length b)) (eqb (getD b (at + 1) 0) 0) (unusedZeroAt b at) (leb (at + callSize b at) (length b))
+    is-tests : isCall b at
+        ≡ tests (leb (at + 14) (length b)) (eqb (getD b (at + 1) 0) 0) (unusedZeroAt b at) (leb (at + callSize b at) (length b))
     unfolding isCall
     is-tests = refl
 

@@ -47,7 +47,10 @@ answer-short spare o (collect t) = go (collectBytes (o .book) t)
     go (accepted d) = omega arith
 answer-short spare o (read v k lbn) = go (formNumber (o .book)) (poolNumber (o .book) (o .pool)) (readNumber (bookOf (o .book)) v k lbn)
   where
-    go : (f p n : ℕ) → length (answerBytes (readAnswer (unless f (unless p (unless n (accepted (blockAt (o .pool) (image (bookOf (o .book)) v k lbn)))))))) ≤ 513
+    found : List ℕ
+    found = blockAt (o .pool) (image (bookOf (o .book)) v k lbn)
+
+    go : (f p n : ℕ) → length (answerBytes (readAnswer (unless f (unless p (unless n (accepted found)))))) ≤ 513
     go zero zero zero = suc-le-suc (take-most 512 (drop (image (bookOf (o .book)) v k lbn * 512) (o .pool)))
     go zero zero (suc n) = omega arith
     go zero (suc p) n = omega arith
@@ -68,7 +71,8 @@ answers-short spare o (c ∷ cs) =
 -- by the kind in a head
 pub longest-kind : (kind a b c : ℕ) (list : List ℕ) → longest (callOf kind a b c list) ≡ longestOf kind
 unfolding callOf longestOf
-longest-kind kind a b c list = go (eqb kind 0) (eqb kind 1) (eqb kind 2) (eqb kind 3) (two-kinds 0 1 refl) (two-kinds 0 3 refl) (two-kinds 2 3 refl)
+longest-kind kind a b c list =
+    go (eqb kind 0) (eqb kind 1) (eqb kind 2) (eqb kind 3) (two-kinds 0 1 refl) (two-kinds 0 3 refl) (two-kinds 2 3 refl)
   where
     two-kinds : (i j : ℕ) → eqb i j ≡ false → eqb kind i ≡ true → eqb kind j ≡ true → ⊥
     two-kinds i j e f g = eqb-false i j e (sym (eqb-true kind i f) ∙ eqb-true kind j g)

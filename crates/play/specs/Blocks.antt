@@ -18,7 +18,8 @@ use Rattle.book.proofs.FormParts.{book-parts}
 use Rattle.book.proofs.InForm.{book-form}
 use Rattle.book.specs.Layout.{bookOf}
 use Rattle.model.specs.Calls.{Call, enrol, backup, collect, read, audit}
-use Rattle.model.specs.OnBytes.{BackedBytes, CollectedBytes, numberOf, after, poolNumber, enrolBytes, backupBytes, collectBytes, readBytes, readNumberBytes, readPlaceBytes, auditBytes}
+use Rattle.model.specs.OnBytes.{BackedBytes, CollectedBytes, numberOf, after, poolNumber, enrolBytes, backupBytes, collectBytes}
+use Rattle.model.specs.OnBytes.{readBytes, readNumberBytes, readPlaceBytes, auditBytes}
 use Rattle.model.specs.Pool.{blockAt}
 use Rattle.model.specs.Read
 use Rattle.model.specs.Read.{image, readNumber}
@@ -59,7 +60,8 @@ module _ (b pool : List ℕ) (v k lbn : ℕ) where
 
     pub located-place : p′ ≡ image (bookOf b) v k lbn * 512
     unfolding readPlaceBytes
-    located-place = e .answer ∙ ap (λ (j : ℕ). after (λ q. q) (unless j (accepted (image (bookOf b) v k lbn * blockSize))) p) (sym (e .number) ∙ z)
+    located-place =
+        e .answer ∙ ap (λ (j : ℕ). after (λ q. q) (unless j (accepted (image (bookOf b) v k lbn * blockSize))) p) (sym (e .number) ∙ z)
 
     pub located-inside : p′ + 512 ≤ length pool
     located-inside = let at = located-place in omega (arith, block-inside located-readable)

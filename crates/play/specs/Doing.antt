@@ -12,7 +12,9 @@ use Rattle.words.specs.Outcome.{Outcome, refused, accepted}
 use Rattle.words.specs.Sections.{part}
 use Rattle.book.specs.Layout.{bookOf}
 use Rattle.model.specs.Calls.{enrol, backup, collect, read, audit}
-use Rattle.model.specs.OnBytes.{BackedBytes, CollectedBytes, numberOf, bookAfter, enrolBytes, backupBytes, backedBook, backedPool, backedNumber, backedTaken, backedTouched, collectBytes, collectedBook, collectedFreed, readBytes, readNumberBytes, auditBytes, soundAfter}
+use Rattle.model.specs.OnBytes.{BackedBytes, CollectedBytes, numberOf, bookAfter, enrolBytes, backupBytes, backedBook, backedPool}
+use Rattle.model.specs.OnBytes.{backedNumber, backedTaken, backedTouched, collectBytes, collectedBook, collectedFreed, readBytes}
+use Rattle.model.specs.OnBytes.{readNumberBytes, auditBytes, soundAfter}
 use Rattle.model.specs.Pool.{blockAt}
 use Rattle.model.specs.Read.{image}
 use Rattle.model.specs.Runs.{Step, Ours, ours, oursEnrolled, oursBacked, oursCollected, readAnswer, auditAnswer}
@@ -53,9 +55,11 @@ module _ (spare : ℕ) (b pool out : List ℕ) (to : ℕ) {out′ : List ℕ} {r
   pub collect-done : {b′ : List ℕ} (t f f′ k : ℕ) → Swept b t f k b′ f′ → k ≡ 0 → Stored out to (2 ∷ two f′) out′ r
       → Did spare b pool (collect t) out to b′ pool out′ r
   unfolding ours oursCollected
-  collect-done {b′} t f f′ k e z s = let g = go (collectBytes b t) (collect-proper b t) (e .number) (e .book) (e .answer) in record { next = g .0; answer = g .1 }
+  collect-done {b′} t f f′ k e z s =
+      let g = go (collectBytes b t) (collect-proper b t) (e .number) (e .book) (e .answer) in record { next = g .0; answer = g .1 }
     where
-      go : (o : Outcome CollectedBytes) → Proper o → k ≡ numberOf o → b′ ≡ collectedBook o b → f′ ≡ collectedFreed o f → By (oursCollected (at b pool) o) out to b′ pool out′ r
+      go : (o : Outcome CollectedBytes) → Proper o → k ≡ numberOf o → b′ ≡ collectedBook o b → f′ ≡ collectedFreed o f
+          → By (oursCollected (at b pool) o) out to b′ pool out′ r
       go (refused j) p n m a = absurd (not-refused j p (sym n ∙ z))
       go (accepted d) p n m a = (ap (λ (x : List ℕ). at x pool) m, rw a at s)
 
@@ -86,19 +90,26 @@ module _ (spare : ℕ) (b pool out : List ℕ) (to : ℕ) {out′ : List ℕ} {r
         go (refused j) m = rw m at s
         go (accepted d) m = absurd (h m)
 
-  module _ {b′ pool′ : List ℕ} (room : List ℕ) (v t : ℕ) (list : List ℕ) (a a′ : Answers) (k : ℕ) (same : length room ≡ spare) (e : BackedUp b pool room v t list a k b′ pool′ a′) where
+  module _ {b′ pool′ : List ℕ} (room : List ℕ) (v t : ℕ) (list : List ℕ) (a a′ : Answers) (k : ℕ) (same : length room ≡ spare)
+      (e : BackedUp b pool room v t list a k b′ pool′ a′) where
     pub backup-refused : (k ≡ 0 → ⊥) → Stored out to (0 ∷ two k) out′ r → Did spare b pool (backup v t list) out to b′ pool′ out′ r
     unfolding ours oursBacked
-    backup-refused h s = rw (← same) (let g = go (backupBytes b pool (length room) v t list) (e .refusal) (e .book) (e .stored) in record { next = g .0; answer = g .1 })
+    backup-refused h s =
+        rw (← same)
+        (let g = go (backupBytes b pool (length room) v t list) (e .refusal) (e .book) (e .stored) in record { next = g .0; answer = g .1 })
       where
-        go : (o : Outcome BackedBytes) → k ≡ numberOf o → b′ ≡ backedBook o b → pool′ ≡ backedPool o pool → By (oursBacked (at b pool) o) out to b′ pool′ out′ r
+        go : (o : Outcome BackedBytes) → k ≡ numberOf o → b′ ≡ backedBook o b → pool′ ≡ backedPool o pool
+            → By (oursBacked (at b pool) o) out to b′ pool′ out′ r
         go (refused j) n m q = (ap₂ at m q, rw n at s)
         go (accepted d) n m q = absurd (h n)
 
     pub backup-done : k ≡ 0 → Stored out to (1 ∷ two (a′ .number) ++ (two (a′ .taken) ++ two (a′ .touched))) out′ r
         → Did spare b pool (backup v t list) out to b′ pool′ out′ r
     unfolding ours oursBacked
-    backup-done z s = rw (← same) (let g = go (backupBytes b pool (length room) v t list) (backup-proper b pool (length room) v t list) (e .refusal) (e .book) (e .stored) (e .number) (e .taken) (e .touched) in record { next = g .0; answer = g .1 })
+    backup-done z s =
+        rw (← same)
+        (let g = go (backupBytes b pool (length room) v t list) (backup-proper b pool (length room) v t list) (e .refusal) (e .book)
+        (e .stored) (e .number) (e .taken) (e .touched) in record { next = g .0; answer = g .1 })
       where
         go : (o : Outcome BackedBytes) → Proper o → k ≡ numberOf o → b′ ≡ backedBook o b → pool′ ≡ backedPool o pool
             → a′ .number ≡ backedNumber o (a .number) → a′ .taken ≡ backedTaken o (a .taken) → a′ .touched ≡ backedTouched o (a .touched)
@@ -108,7 +119,8 @@ module _ (spare : ℕ) (b pool out : List ℕ) (to : ℕ) {out′ : List ℕ} {r
 
 -- an accepted read, whose block is stored as it is lent
 pub read-done : (spare : ℕ) (b pool out : List ℕ) (to v k lbn p p′ n : ℕ) {out′ : List ℕ} → Located b pool v k lbn p n p′ → n ≡ 0
-    → out′ ≡ sets (set out to 3) (to + 1) (take (p′ + 512 - p′) (drop p′ pool)) → Did spare b pool (read v k lbn) out to b pool out′ (to + 1 + 512)
+    → out′ ≡ sets (set out to 3) (to + 1) (take (p′ + 512 - p′) (drop p′ pool))
+    → Did spare b pool (read v k lbn) out to b pool out′ (to + 1 + 512)
 unfolding ours readAnswer
 read-done spare b pool out to v k lbn p p′ n e z s =
     let i = read-is b pool v k lbn (located-readable b pool v k lbn p p′ n e z) in

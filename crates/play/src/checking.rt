@@ -6,9 +6,8 @@ ghost use Rattle.calls.specs.Answers.{longestOf};
 ghost use Rattle.calls.specs.Bound.{addedTo};
 ghost use Rattle.calls.specs.Contracts.{roomOf, playable};
 use super::heads::BACKUP;
-use super::heads::HEAD_SIZE;
 use super::heads::READ;
-use super::heads::data_size;
+use super::heads::call_end;
 use super::heads::is_call;
 use words::BLOCK_SIZE;
 
@@ -60,7 +59,7 @@ pub fn check(calls: &[u8], room: usize) -> u16
             return 19;
         }
         most = added(room, most, longest(calls[at]));
-        at = at + HEAD_SIZE + data_size(calls, at);
+        at = call_end(calls, at);
     }
     if room < most {
         return 20;

@@ -1,8 +1,9 @@
 // A call in bytes: its head, and whether it is one.
 ghost use mathlib.Core.Path.{_≡_};
-ghost use Prim.Native.Nat.{_+_, _≤_};
+ghost use mathlib.Core.Bool.{true};
+ghost use Prim.Native.Nat.{_+_, _<_, _≤_};
 ghost use lib.ListN.{length};
-ghost use Rattle.calls.specs.Coding.{headSize, dataSize, unusedZero, unusedZeroAt, isCall};
+ghost use Rattle.calls.specs.Coding.{headSize, dataSize, callSize, unusedZero, unusedZeroAt, isCall};
 use words::u16_at;
 
 pub const HEAD_SIZE: usize = 14;
@@ -74,4 +75,12 @@ pub fn is_call(calls: &[u8], at: usize) -> bool
         return false;
     }
     data_size(calls, at) <= calls.len() - at - HEAD_SIZE
+}
+
+// The place past the call at `at`.
+pub fn call_end(calls: &[u8], at: usize) -> usize
+    requires { ⌜ isCall (now calls) at ≡ true ⌝ }
+    ensures { λ r. ⌜ (r ≡ at + callSize (now (calls .entry)) at) × (at < r) × (r ≤ length (now (calls .entry))) ⌝ }
+{
+    at + HEAD_SIZE + data_size(calls, at)
 }

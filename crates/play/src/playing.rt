@@ -22,6 +22,7 @@ use super::heads::COLLECT;
 use super::heads::ENROL;
 use super::heads::HEAD_SIZE;
 use super::heads::READ;
+use super::heads::call_end;
 use super::heads::data_size;
 use words::u16_at;
 
@@ -101,7 +102,7 @@ fn play_list(
     let mut to = 0;
     while at < calls.len() {
         to = play_call(book, pool, spare, calls, at, answers, to);
-        at = at + HEAD_SIZE + data_size(calls, at);
+        at = call_end(calls, at);
     }
     to
 }

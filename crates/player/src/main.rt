@@ -1,4 +1,4 @@
-// Reads N, L, S, J and a list of calls from standard input (docs/CALLS.md), plays the list on a fresh book and prints the answers, a line for each
+// Reads N, L, S, J and a list of calls from standard input (docs/FORMAT.md), plays the list on a fresh book and prints the answers, a line for each
 // call.
 mod printing;
 

@@ -1,16 +1,15 @@
 -- `play::checking::check`: what is left, with the longest answers so far, is refused as the whole is.
-use Prim.Native.Nat.{ℕ, _+_, _-_, _≤_}
+use Prim.Native.Nat.{ℕ, _-_, _≤_}
 use mathlib.Core.Path.{_≡_, sym, ap, _∙_}
 use native.Mathlib.Omega.{arith}
 use lib.ListN.{length}
 use borrow.Author.Needs.{needs}
 use Rattle.words.proofs.ChoiceLaws.{failed, passed}
 use Rattle.model.specs.OnBytes.{numberOf}
-use Rattle.calls.specs.Coding.{callSize, callAt}
+use Rattle.calls.specs.Coding.{callAt}
 use Rattle.calls.specs.Answers.{longest}
 use Rattle.calls.specs.Bound.{addedTo, numberFrom, number-begin, number-broken, number-more, number-end, room-passed, room-enough}
 use Rattle.calls.specs.Contracts.{playable}
-use Rattle.calls.specs.Reading.{call-past, call-inside}
 use Rattle.calls.specs.Short.{longest-at}
 use Rattle.play.proofs.checking.check.Statement.{statement}
 use Rattle.play.proofs.checking.check.Tie as tie
@@ -37,40 +36,13 @@ returns c =
 added-requires : tie.Need-added-requires Inv-loop μ-loop
 added-requires c κs = (omega arith, c .longest .ensures .1)
 
-add-at : tie.Need-add-at Inv-loop μ-loop
-add-at c =
+call-end-requires : tie.Need-call-end-requires Inv-loop μ-loop
+call-end-requires c κs =
     let if1 = c .before .before .before in
-    let is-call = if1 .before in
-    let top = is-call .before .before in
-    let start = top .before .before in
-    let i = call-inside (start .args .calls .now) (top .loop .at) (passed (is-call .is-call .ensures) (if1 .if1 .left)) in
-    omega arith
-
-data-size-requires : tie.Need-data-size-requires Inv-loop μ-loop
-data-size-requires c κs =
-    let if1 = c .before .before .before in
-    let is-call = if1 .before in
-    let top = is-call .before .before in
-    let start = top .before .before in
-    call-inside (start .args .calls .now) (top .loop .at) (passed (is-call .is-call .ensures) (if1 .if1 .left)) .0
-
-add-at-2 : tie.Need-add-at-2 Inv-loop μ-loop
-add-at-2 c =
-    let if1 = c .before .before .before .before in
-    let is-call = if1 .before in
-    let top = is-call .before .before in
-    let start = top .before .before in
-    let i = call-inside (start .args .calls .now) (top .loop .at) (passed (is-call .is-call .ensures) (if1 .if1 .left)) in
-    omega (arith, c .data-size .ensures .0)
+    passed (if1 .before .is-call .ensures) (if1 .if1 .left)
 
 loop-less : tie.Need-loop-less Inv-loop μ-loop
-loop-less c =
-    let if1 = c .before .before .before .before in
-    let is-call = if1 .before in
-    let top = is-call .before .before in
-    let start = top .before .before in
-    let i = call-inside (start .args .calls .now) (top .loop .at) (passed (is-call .is-call .ensures) (if1 .if1 .left)) in
-    omega (arith, c .data-size .ensures .0)
+loop-less c = omega (arith, c .call-end .ensures)
 
 loop-again : tie.Need-loop-again Inv-loop μ-loop
 loop-again c =
@@ -84,16 +56,12 @@ loop-again c =
     let a = start .args in
     let l = top .loop in
     let is = passed (is-call .is-call .ensures) (if1 .if1 .left) in
-    let i = call-inside (a .calls .now) (l .at) is in
-    let past : l .at + 14 + c .data-size .result ≡ l .at + callSize (a .calls .now) (l .at) =
-    ap (λ (k : ℕ). l .at + 14 + k) (c .data-size .ensures .0) ∙ call-past (a .calls .now) (l .at)
-    in
     let kind = longest-at (a .calls .now) (l .at) in
     let sum : added .added .result ≡ addedTo (a .room) (l .most) (longest (callAt (a .calls .now) (l .at))) =
     added .added .ensures ∙ ap (λ (k : ℕ). addedTo (a .room) (l .most) k) (long .longest .ensures .0 ∙ sym kind)
     in (
-      omega (arith, c .data-size .ensures .0),
-      rw (past, sum)
+      c .call-end .ensures .2,
+      rw (c .call-end .ensures .0, sum)
           (l .inv .1 ∙ number-more (a .room) (a .calls .now) (l .at) (l .most) (turn .loop-test .taken) is),
     )
 
@@ -105,7 +73,7 @@ returns-2 c =
     let l = top .loop in
     let a = start .args in
     sym (l .inv .1 ∙ number-end (a .room) (a .calls .now) (l .at) (l .most) (turn .loop-test .left) ∙ room-passed (a .room) (l .most)
-    (c .if2 .taken))
+    (omega arith))
 
 returns-3 : tie.Need-returns-3 Inv-loop μ-loop
 returns-3 c =
@@ -115,9 +83,9 @@ returns-3 c =
     let l = top .loop in
     let a = start .args in
     sym (l .inv .1 ∙ number-end (a .room) (a .calls .now) (l .at) (l .most) (turn .loop-test .left) ∙ room-enough (a .room) (l .most)
-    (c .if2 .left))
+    (omega arith))
 
 pub check-spec : {M : Type 1} → statement M
 check-spec =
     tie.close (tie.spec Inv-loop μ-loop loop-holds (λ c κs. omega arith) returns (λ c. omega arith)
-    (λ c κs. search needs) added-requires add-at data-size-requires add-at-2 loop-less loop-again returns-2 returns-3)
+    (λ c κs. search needs) added-requires call-end-requires loop-less loop-again returns-2 returns-3)

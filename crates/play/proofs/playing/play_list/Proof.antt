@@ -4,11 +4,11 @@ use mathlib.Core.Path.{_≡_, refl, ap, _∙_}
 use native.Mathlib.Nat.{zero-add}
 use native.Mathlib.Omega.{arith}
 use lib.ListN.{length}
-use Rattle.calls.specs.Coding.{callSize, callAt}
+use Rattle.calls.specs.Coding.{callAt}
 use Rattle.calls.specs.Answers.{mostOf}
 use Rattle.calls.specs.Contracts.{at}
 use Rattle.calls.specs.Playing.{Playing, playing-all, playing-more, playing-none}
-use Rattle.calls.specs.Reading.{call-past, call-inside, restOf, rest-end, Good, next-good}
+use Rattle.calls.specs.Reading.{restOf, rest-end, Good, next-good}
 use Rattle.calls.specs.Short.{answer-short}
 use Rattle.play.proofs.playing.play_list.Statement.{statement}
 use Rattle.play.proofs.playing.play_list.Tie as tie
@@ -42,40 +42,15 @@ play-call-requires c κs =
     let most = ap mostOf (n .split) in
     (n .is, omega (arith, l .inv .2, l .inv .7))
 
-add-at : tie.Need-add-at Inv-loop μ-loop
-add-at c =
+call-end-requires : tie.Need-call-end-requires Inv-loop μ-loop
+call-end-requires c κs =
     let turn = c .before .before .before .before .before .before .before .before .before .before .before .before .before in
     let top = turn .before in
     let start = top .before .before .before .before .before .before in
-    let i = call-inside (start .args .calls .now) (top .loop .at)
-    ((next-good (start .args .calls .now) (top .loop .at) (turn .loop-test .taken) (top .loop .inv .1)) .is) in
-    omega arith
-
-data-size-requires : tie.Need-data-size-requires Inv-loop μ-loop
-data-size-requires c κs =
-    let turn = c .before .before .before .before .before .before .before .before .before .before .before .before .before in
-    let top = turn .before in
-    let start = top .before .before .before .before .before .before in
-    call-inside (start .args .calls .now) (top .loop .at)
-    ((next-good (start .args .calls .now) (top .loop .at) (turn .loop-test .taken) (top .loop .inv .1)) .is) .0
-
-add-at-2 : tie.Need-add-at-2 Inv-loop μ-loop
-add-at-2 c =
-    let turn = c .before .before .before .before .before .before .before .before .before .before .before .before .before .before in
-    let top = turn .before in
-    let start = top .before .before .before .before .before .before in
-    let i = call-inside (start .args .calls .now) (top .loop .at)
-    ((next-good (start .args .calls .now) (top .loop .at) (turn .loop-test .taken) (top .loop .inv .1)) .is) in
-    omega (arith, c .data-size .ensures .0)
+    next-good (start .args .calls .now) (top .loop .at) (turn .loop-test .taken) (top .loop .inv .1) .is
 
 loop-less : tie.Need-loop-less Inv-loop μ-loop
-loop-less c =
-    let turn = c .before .before .before .before .before .before .before .before .before .before .before .before .before .before in
-    let top = turn .before in
-    let start = top .before .before .before .before .before .before in
-    let i = call-inside (start .args .calls .now) (top .loop .at)
-    ((next-good (start .args .calls .now) (top .loop .at) (turn .loop-test .taken) (top .loop .inv .1)) .is) in
-    omega (arith, c .data-size .ensures .0)
+loop-less c = omega (arith, c .call-end .ensures)
 
 loop-again : tie.Need-loop-again Inv-loop μ-loop
 loop-again c =
@@ -87,17 +62,14 @@ loop-again c =
     let l = top .loop in
     let k = play-call .play-call in
     let n = next-good (start .args .calls .now) (top .loop .at) (turn .loop-test .taken) (top .loop .inv .1) in
-    let i = call-inside (a .calls .now) (l .at) (n .is) in
-    let past : l .at + 14 + c .data-size .result ≡ l .at + callSize (a .calls .now) (l .at) =
-    ap (λ (s : ℕ). l .at + 14 + s) (c .data-size .ensures .0) ∙ call-past (a .calls .now) (l .at)
-    in
+    let past = c .call-end .ensures .0 in
     let did = rw (l .inv .6) at (k .ensures) in
     let short = answer-short (length (a .spare .now)) (at (l .book) (l .pool)) (callAt (a .calls .now) (l .at)) in
     let most = ap mostOf (n .split) in (
       rw past (playing-more (callAt (a .calls .now) (l .at)) _ (rw (n .split) at (l .inv .0)) did),
       rw past (n .good),
       rw past (omega (arith, did .answer .place, short, l .inv .2)),
-      omega (arith, c .data-size .ensures .0),
+      c .call-end .ensures .2,
       k .kept .0 ∙ l .inv .4,
       k .kept .1 .0 ∙ l .inv .5,
       k .kept .1 .1 .0 ∙ l .inv .6,
@@ -132,9 +104,7 @@ play-list-spec =
     μ-loop
     loop-holds
     play-call-requires
-    add-at
-    data-size-requires
-    add-at-2
+    call-end-requires
     loop-less
     loop-again
     same-length
