@@ -2,9 +2,9 @@
 -- claims
 -- say.
 use Prim.Native.Nat.{ℕ, _*_, _≤_, _<_}
-use mathlib.Core.Path.{_≡_, refl, sym, ap, _∙_}
+use mathlib.Core.Path.{_≡_}
 use mathlib.Core.Bool.{true, false, not}
-use mathlib.Core.List.{List, [], _∷_, _++_}
+use mathlib.Core.List.{List, _++_}
 use lib.ListN.{length, drop}
 use Rattle.words.specs.Lists.{all}
 use Rattle.words.specs.Outcome.{Outcome, accepted, unless}
@@ -13,15 +13,14 @@ use Rattle.list.specs.Changes.{changeCount}
 use Rattle.book.specs.Book.{Sizes, isFree}
 use Rattle.book.specs.Layout.{bookSize}
 use Rattle.model.specs.Calls.{Call, backup, collect, read, audit, Answer, backed, freed, sound}
-use Rattle.model.specs.Claims.{Fresh, ourEnd, entryIn, changesName, saysDamage}
+use Rattle.model.specs.Claims.{entryIn, changesName, saysDamage}
 use Rattle.model.specs.History.{historyOf, dayOf, historyRead}
 use Rattle.model.specs.OnBytes.{numberOf, formatNumber}
 use Rattle.model.specs.Plain.{Plain, start, marked}
 use Rattle.model.specs.Pool.{poolSize}
-use Rattle.model.proofs.claims.Proved.{lists, images, corollaries, end-append}
 use Rattle.model.specs.Runs.{answersOf, endOf, Ours, ours, plain, oursShown, plainShown}
 use Rattle.calls.specs.Answers.{answerBytes}
-use Rattle.calls.specs.Contracts.{at, DidAll, roomOf, playable}
+use Rattle.calls.specs.Contracts.{at, roomOf, playable}
 
 -- what the plain store of these sizes answers, and where it stands after the list
 abbrev pub plainAnswers : Sizes → List Call → List Answer
@@ -56,29 +55,6 @@ pub record GoesOn (z : Sizes) (spare : ℕ) (cs : List Call) (o : Ours) : Type 0
       → touched ≤ 2 * changeCount list
   pub collects : (t k : ℕ) → ours spare o (collect t) .answer ≡ freed k
       → ours spare (ours spare o (collect t) .next) (collect t) .answer ≡ freed 0
-
-module _ (f : Fresh) (cs : List Call) where
-  pub as-plain : {out b′ pool′ out′ : List ℕ} {w′ : ℕ} → DidAll (f .spare) (f .book) (f .pool) cs out b′ pool′ out′ w′
-      → AsPlain (f .sizes) cs out b′ pool′ out′ w′
-  as-plain d = record {
-    answers = rw (← lists f cs .answers) (d .answers);
-    written = rw (← lists f cs .answers) (d .written);
-    shown = ap oursShown (d .end) ∙ lists f cs .shown;
-    undamaged = rw (← lists f cs .answers) (corollaries f cs .undamaged);
-  }
-
-  pub goes-on : GoesOn (f .sizes) (f .spare) cs (ourEnd f cs)
-  goes-on = record {
-    freeing = λ t k p a h held. lists f (cs ++ (collect t ∷ [])) .freeing cs [] t k p refl a h held;
-    touching = λ v t p list h n. lists f (cs ++ (backup v t list ∷ [])) .touching cs [] v t p list refl h n;
-    reads = λ v k lbn. rw (← lists f cs .answers) (images f cs .reads v k lbn);
-    audits = corollaries f cs .audits;
-    touches = corollaries f cs .touches;
-    collects = λ t k a.
-        ap (λ (o : Ours). ours (f .spare) o (collect t) .answer)
-        (sym (end-append (ours (f .spare)) (record { book = f .book; pool = f .pool }) cs (collect t ∷ [])))
-        ∙ corollaries f cs .collects t k a;
-  }
 
 -- ---- a format, and then a list
 

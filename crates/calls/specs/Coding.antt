@@ -1,11 +1,11 @@
 -- Calls in bytes: a head of 14 bytes and its data, one after the other to the end (docs/FORMAT.md).
-use Prim.Native.Nat.{ℕ, zero, suc, _+_, _*_, _/_, _%_}
-use mathlib.Core.Bool.{Bool, true, false, _&&_}
-use mathlib.Core.List.{List, [], _∷_, _++_}
+use Prim.Native.Nat.{ℕ, zero, suc, _+_, _*_}
+use mathlib.Core.Bool.{Bool, false, _&&_}
+use mathlib.Core.List.{List, [], _∷_}
 use lib.Dec.{leb, eqb}
 use lib.ListN.{length, getD}
 use Rattle.words.specs.Choice.{if_then_else_}
-use Rattle.words.specs.Numbers.{two, num}
+use Rattle.words.specs.Numbers.{num}
 use Rattle.words.specs.Outcome.{Outcome, refused, accepted, andThen}
 use Rattle.words.specs.Sections.{part}
 use Rattle.model.specs.Calls.{Call, enrol, backup, collect, read, audit}
@@ -70,16 +70,3 @@ callsFrom (suc n) b at =
 -- no list has more calls than bytes
 unfoldable pub callsOf : List ℕ → Outcome (List Call)
 callsOf b = callsFrom (length b) b 0
-
--- ---- the bytes of a call
-
-abbrev pub rowBytes : ℕ → ℕ → ℕ → ℕ → List ℕ → List ℕ
-rowBytes kind a b c list =
-    kind ∷ 0 ∷ two a ++ (two b ++ (two c ++ (two 0 ++ (two (length list % 65536) ++ (two (length list / 65536) ++ list)))))
-
-abbrev pub callBytes : Call → List ℕ
-callBytes (enrol v r) = rowBytes 0 v r 0 []
-callBytes (backup v t list) = rowBytes 1 v t 0 list
-callBytes (collect t) = rowBytes 2 t 0 0 []
-callBytes (read v k lbn) = rowBytes 3 v k lbn []
-callBytes audit = rowBytes 4 0 0 0 []

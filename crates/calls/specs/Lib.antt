@@ -2,10 +2,5 @@ pub mod Coding
 pub mod Reading
 pub mod Answers
 pub mod Contracts
-pub mod CallsBack
-pub mod AnswersBack
-pub mod Short
-pub mod Playing
 pub mod Bound
-pub mod Proper
 pub mod Chain

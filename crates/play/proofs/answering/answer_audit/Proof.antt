@@ -1,6 +1,6 @@
 -- `play::answering::answer_audit` meets its contract.
 use borrow.Author.Needs.{needs}
-use Rattle.play.specs.Doing.{audit-refused, audit-done}
+use Rattle.play.proofs.Doing.{audit-refused, audit-done}
 use Rattle.play.proofs.answering.answer_audit.Statement.{statement}
 use Rattle.play.proofs.answering.answer_audit.Tie as tie
 

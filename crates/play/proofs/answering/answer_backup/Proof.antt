@@ -3,8 +3,8 @@ use mathlib.Core.Path.{refl, _∙_}
 use native.Mathlib.Omega.{arith}
 use lib.ListN.{length-set}
 use borrow.Author.Needs.{needs}
-use Rattle.play.specs.Doing.{backup-refused, backup-done}
-use Rattle.play.specs.Storing.{told-three}
+use Rattle.play.proofs.Doing.{backup-refused, backup-done}
+use Rattle.play.proofs.Storing.{told-three}
 use Rattle.play.proofs.answering.answer_backup.Statement.{statement}
 use Rattle.play.proofs.answering.answer_backup.Tie as tie
 

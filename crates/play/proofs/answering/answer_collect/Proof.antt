@@ -1,6 +1,6 @@
 -- `play::answering::answer_collect` meets its contract.
 use borrow.Author.Needs.{needs}
-use Rattle.play.specs.Doing.{collect-refused, collect-done}
+use Rattle.play.proofs.Doing.{collect-refused, collect-done}
 use Rattle.play.proofs.answering.answer_collect.Statement.{statement}
 use Rattle.play.proofs.answering.answer_collect.Tie as tie
 

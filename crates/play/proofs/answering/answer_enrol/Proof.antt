@@ -1,6 +1,6 @@
 -- `play::answering::answer_enrol` meets its contract.
 use borrow.Author.Needs.{needs}
-use Rattle.play.specs.Doing.{enrol-did}
+use Rattle.play.proofs.Doing.{enrol-did}
 use Rattle.play.proofs.answering.answer_enrol.Statement.{statement}
 use Rattle.play.proofs.answering.answer_enrol.Tie as tie
 

@@ -3,9 +3,9 @@ use mathlib.Core.Path.{_∙_}
 use native.Mathlib.Omega.{arith}
 use lib.ListN.{length-set}
 use borrow.Author.Needs.{needs}
-use Rattle.play.specs.Blocks.{located-inside}
-use Rattle.play.specs.Doing.{read-refused, read-done}
-use Rattle.play.specs.Storing.{lent-length}
+use Rattle.play.proofs.Blocks.{located-inside}
+use Rattle.play.proofs.Doing.{read-refused, read-done}
+use Rattle.play.proofs.Storing.{lent-length}
 use Rattle.play.proofs.answering.answer_read.Statement.{statement}
 use Rattle.play.proofs.answering.answer_read.Tie as tie
 

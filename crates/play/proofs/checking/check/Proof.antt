@@ -8,9 +8,10 @@ use Rattle.words.proofs.ChoiceLaws.{failed, passed}
 use Rattle.model.specs.OnBytes.{numberOf}
 use Rattle.calls.specs.Coding.{callAt}
 use Rattle.calls.specs.Answers.{longest}
-use Rattle.calls.specs.Bound.{addedTo, numberFrom, number-begin, number-broken, number-more, number-end, room-passed, room-enough}
+use Rattle.calls.specs.Bound.{addedTo}
+use Rattle.calls.proofs.BoundLaws.{numberFrom, number-begin, number-broken, number-more, number-end, room-passed, room-enough}
 use Rattle.calls.specs.Contracts.{playable}
-use Rattle.calls.specs.Short.{longest-at}
+use Rattle.calls.proofs.Short.{longest-at}
 use Rattle.play.proofs.checking.check.Statement.{statement}
 use Rattle.play.proofs.checking.check.Tie as tie
 

@@ -1,6 +1,6 @@
 -- `play::fresh::play_fresh`: the format leaves a fresh book, and the list played on it is one of the claims.
 use borrow.Author.Needs.{needs}
-use Rattle.play.specs.Fresh.{fresh-refused, fresh-played}
+use Rattle.play.proofs.FreshList.{fresh-refused, fresh-played}
 use Rattle.play.proofs.fresh.play_fresh.Statement.{statement}
 use Rattle.play.proofs.fresh.play_fresh.Tie as tie
 

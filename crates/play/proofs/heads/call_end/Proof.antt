@@ -1,6 +1,6 @@
 -- `play::heads::call_end`: the head and the data lie within the bytes.
 use native.Mathlib.Omega.{arith}
-use Rattle.calls.specs.Reading.{call-inside, call-past}
+use Rattle.calls.proofs.ReadingLaws.{call-inside, call-past}
 use Rattle.play.proofs.heads.call_end.Statement.{statement}
 use Rattle.play.proofs.heads.call_end.Tie as tie
 

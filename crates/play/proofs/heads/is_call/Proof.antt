@@ -3,7 +3,7 @@ use mathlib.Core.Path.{sym}
 use native.Mathlib.Omega.{arith}
 use borrow.Author.Needs.{needs}
 use Rattle.words.proofs.ChoiceLaws.{failed, passed}
-use Rattle.calls.specs.Reading.{call-short, call-second, call-unused, call-ends}
+use Rattle.calls.proofs.ReadingLaws.{call-short, call-second, call-unused, call-ends}
 use Rattle.play.proofs.heads.is_call.Statement.{statement}
 use Rattle.play.proofs.heads.is_call.Tie as tie
 

@@ -2,7 +2,7 @@
 use mathlib.Core.Path.{sym, _∙_}
 use native.Mathlib.Omega.{arith}
 use borrow.Author.Needs.{needs}
-use Rattle.calls.specs.Bound.{playable-good, played-refused, played-all, played-short}
+use Rattle.calls.proofs.BoundLaws.{playable-good, played-refused, played-all, played-short}
 use Rattle.play.proofs.playing.aspen_play.Statement.{statement}
 use Rattle.play.proofs.playing.aspen_play.Tie as tie
 

@@ -8,7 +8,7 @@ use borrow.Author.Needs.{needs}
 use Rattle.words.proofs.Lending.{lent}
 use Rattle.words.specs.Sections.{part}
 use Rattle.calls.specs.Coding.{dataSize}
-use Rattle.calls.specs.Reading.{call-inside}
+use Rattle.calls.proofs.ReadingLaws.{call-inside}
 use Rattle.play.proofs.playing.play_backup.Statement.{statement}
 use Rattle.play.proofs.playing.play_backup.Tie as tie
 

@@ -4,7 +4,7 @@ use native.Mathlib.Omega.{arith}
 use lib.ListN.{length}
 use borrow.Author.Needs.{needs}
 use Rattle.calls.specs.Answers.{longest}
-use Rattle.calls.specs.Reading.{call-inside, call-enrol, call-backup, call-collect, call-read, call-audit}
+use Rattle.calls.proofs.ReadingLaws.{call-inside, call-enrol, call-backup, call-collect, call-read, call-audit}
 use Rattle.play.proofs.playing.play_call.Statement.{statement}
 use Rattle.play.proofs.playing.play_call.Tie as tie
 

@@ -7,9 +7,10 @@ use lib.ListN.{length}
 use Rattle.calls.specs.Coding.{callAt}
 use Rattle.calls.specs.Answers.{mostOf}
 use Rattle.calls.specs.Contracts.{at}
-use Rattle.calls.specs.Playing.{Playing, playing-all, playing-more, playing-none}
-use Rattle.calls.specs.Reading.{restOf, rest-end, Good, next-good}
-use Rattle.calls.specs.Short.{answer-short}
+use Rattle.calls.proofs.Playing.{Playing, playing-all, playing-more, playing-none}
+use Rattle.calls.specs.Reading.{restOf, Good}
+use Rattle.calls.proofs.ReadingLaws.{rest-end, next-good}
+use Rattle.calls.proofs.Short.{answer-short}
 use Rattle.play.proofs.playing.play_list.Statement.{statement}
 use Rattle.play.proofs.playing.play_list.Tie as tie
 

@@ -11,8 +11,9 @@ use Rattle.book.specs.Next.{fresh}
 use Rattle.model.specs.Claims.{Fresh}
 use Rattle.model.specs.OnBytes.{numberOf, formatNumber, formatBytes}
 use Rattle.model.specs.Pool.{poolSize}
-use Rattle.calls.specs.Bound.{played-did}
-use Rattle.calls.specs.Chain.{as-plain, goes-on, freshPlayable, PlayedFresh}
+use Rattle.calls.proofs.BoundLaws.{played-did}
+use Rattle.calls.proofs.ChainLaws.{as-plain, goes-on}
+use Rattle.calls.specs.Chain.{freshPlayable, PlayedFresh}
 use Rattle.calls.specs.Contracts.{roomOf, playable, Played}
 use Rattle.engine.specs.Contracts.{Formatted}
 

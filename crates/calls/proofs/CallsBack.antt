@@ -15,9 +15,9 @@ use Rattle.words.specs.Outcome.{Outcome, accepted, andThen}
 use Rattle.words.proofs.Pieces.{part-past}
 use Rattle.words.specs.Sections.{flat, part}
 use Rattle.model.specs.Calls.{Call, enrol, backup, collect, read, audit}
-use Rattle.calls.specs.Reading.{calls-end, calls-more}
+use Rattle.calls.proofs.ReadingLaws.{calls-end, calls-more}
 use Rattle.calls.specs.Coding.{dataSize, callSize, unusedZero, unusedZeroAt, callOf, isCall, callAt, before, callsFrom, callsOf}
-use Rattle.calls.specs.Coding.{rowBytes, callBytes}
+use Rattle.calls.proofs.CodingLaws.{rowBytes, callBytes}
 
 -- ---- what is read past the bytes p
 

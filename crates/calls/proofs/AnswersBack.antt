@@ -12,7 +12,8 @@ use Rattle.words.specs.Lists.{all}
 use Rattle.words.proofs.NumberLaws.{two-back}
 use Rattle.words.specs.Sections.{flat}
 use Rattle.model.specs.Calls.{Answer, number, backed, freed, block, sound}
-use Rattle.calls.specs.Answers.{answerBytes, answerIn, answerSize, answersIn, isWhole}
+use Rattle.calls.specs.Answers.{answerBytes}
+use Rattle.calls.proofs.AnswerLaws.{answerIn, answerSize, answersIn, isWhole}
 
 answer-back : (a : Answer) (rest : List ℕ) → isWhole a ≡ true → answerIn (answerBytes a ++ rest) ≡ a
 answer-back (number k) rest h = ap number (two-back k)

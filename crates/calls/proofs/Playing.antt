@@ -11,7 +11,7 @@ use Rattle.model.specs.Calls.{Call}
 use Rattle.model.specs.Runs.{endOf, Ours, ours}
 use Rattle.calls.specs.Answers.{answerBytes, mostOf}
 use Rattle.calls.specs.Contracts.{at, told, Did, DidAll}
-use Rattle.calls.specs.Short.{answers-short}
+use Rattle.calls.proofs.Short.{answers-short}
 
 -- cs is being played from b₀, pool₀ and out₀; rest is left, from b, pool and the place `to` of out
 pub record Playing (spare : ℕ) (b₀ pool₀ : List ℕ) (cs : List Call) (out₀ b pool out : List ℕ) (to : ℕ) (rest : List Call) : Type 0 where

@@ -25,8 +25,8 @@ use Rattle.model.specs.Read
 use Rattle.model.specs.Read.{image, readNumber}
 use Rattle.model.specs.Runs.{answersOf, Ours, ours, oursEnrolled, oursBacked, oursCollected, readAnswer, auditAnswer}
 use Rattle.buffers.proofs.BuffersLaws.{pool-size}
-use Rattle.calls.specs.Answers.{isWhole}
-use Rattle.calls.specs.Proper.{number-unless}
+use Rattle.calls.proofs.AnswerLaws.{isWhole}
+use Rattle.calls.proofs.Proper.{number-unless}
 use Rattle.restorer.specs.Contracts.{Located}
 use Rattle.restorer.proofs.ImageIn.{image-in}
 use Rattle.restorer.proofs.ReadingLaws.{number-mapped}

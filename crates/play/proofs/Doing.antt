@@ -20,14 +20,14 @@ use Rattle.model.specs.Read.{image}
 use Rattle.model.specs.Runs.{Step, Ours, ours, oursEnrolled, oursBacked, oursCollected, readAnswer, auditAnswer}
 use Rattle.calls.specs.Answers.{answerBytes}
 use Rattle.calls.specs.Contracts.{at, Did}
-use Rattle.calls.specs.Proper.{Proper, not-refused, collect-proper, audit-proper, backup-proper}
+use Rattle.calls.proofs.Proper.{Proper, not-refused, collect-proper, audit-proper, backup-proper}
 use Rattle.engine.specs.Contracts.{Enrolled}
 use Rattle.collector.specs.Contracts.{Swept}
 use Rattle.auditor.specs.Contracts.{Audited}
 use Rattle.restorer.specs.Contracts.{Located}
 use Rattle.intake.specs.Contracts.{Answers, BackedUp}
-use Rattle.play.specs.Blocks.{located-readable, located-place, located-inside, read-is}
-use Rattle.play.specs.Storing.{told-block, lent-length}
+use Rattle.play.proofs.Blocks.{located-readable, located-place, located-inside, read-is}
+use Rattle.play.proofs.Storing.{told-block, lent-length}
 
 -- the step that was made, and the answer that was stored
 abbrev By : Step Ours → List ℕ → ℕ → List ℕ → List ℕ → List ℕ → ℕ → Type 0

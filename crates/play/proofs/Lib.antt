@@ -1,4 +1,4 @@
 pub mod Blocks
 pub mod Storing
 pub mod Doing
-pub mod Fresh
+pub mod FreshList

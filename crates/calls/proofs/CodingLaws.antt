@@ -1,0 +1,20 @@
+-- Laws of specs/Coding.antt.
+-- Calls in bytes: a head of 14 bytes and its data, one after the other to the end (docs/FORMAT.md).
+use Prim.Native.Nat.{ℕ, _/_, _%_}
+use mathlib.Core.List.{List, [], _∷_, _++_}
+use lib.ListN.{length}
+use Rattle.words.specs.Numbers.{two}
+use Rattle.model.specs.Calls.{Call, enrol, backup, collect, read, audit}
+
+-- ---- the bytes of a call
+
+abbrev pub rowBytes : ℕ → ℕ → ℕ → ℕ → List ℕ → List ℕ
+rowBytes kind a b c list =
+    kind ∷ 0 ∷ two a ++ (two b ++ (two c ++ (two 0 ++ (two (length list % 65536) ++ (two (length list / 65536) ++ list)))))
+
+abbrev pub callBytes : Call → List ℕ
+callBytes (enrol v r) = rowBytes 0 v r 0 []
+callBytes (backup v t list) = rowBytes 1 v t 0 list
+callBytes (collect t) = rowBytes 2 t 0 0 []
+callBytes (read v k lbn) = rowBytes 3 v k lbn []
+callBytes audit = rowBytes 4 0 0 0 []

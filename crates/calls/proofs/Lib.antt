@@ -1,0 +1,10 @@
+pub mod CodingLaws
+pub mod ReadingLaws
+pub mod AnswerLaws
+pub mod CallsBack
+pub mod AnswersBack
+pub mod Short
+pub mod Playing
+pub mod BoundLaws
+pub mod Proper
+pub mod ChainLaws
