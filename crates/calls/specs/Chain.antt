@@ -1,6 +1,5 @@
--- The chain: what is played on a fresh book answers as the plain store and shows what it shows, and the box goes on from there as the
--- claims
--- say.
+-- The chain: what is played on a fresh book answers as the plain store and shows what it shows, and the box goes on from there
+-- as the claims say.
 use Prim.Native.Nat.{ℕ, _*_, _≤_, _<_}
 use mathlib.Core.Path.{_≡_}
 use mathlib.Core.Bool.{true, false, not}
