@@ -17,7 +17,7 @@ host_program() {
     check "aspenbox builds with sanitizers" ../scripts/host "$scratch/aspenbox.sanitized" -g \
         -fsanitize=address,undefined -fno-sanitize-recover=all
     # Every bit of a store takes long with it.
-    ASPEN_EVERY=13 host_run sanitized "$scratch/aspenbox.sanitized"
+    ASPEN_EVERY=101 host_run sanitized "$scratch/aspenbox.sanitized"
     if command -v valgrind >/dev/null; then
         check "aspenbox builds for valgrind" ../scripts/host "$scratch/aspenbox.valgrind" -gdwarf-4
         host_run valgrind "valgrind --quiet --error-exitcode=99 --leak-check=full \
