@@ -84,9 +84,12 @@ first_write() {
 first_write collect box --day 2026-01-03
 first_write enrol box 2 --keep 3
 first_write backup box 1 first --day 2026-01-03
-# Its lock has no digest of its own, but the book now knows the store.
+# Its lock has no digest of its own, but the book now knows the store. Another digit there is another identity.
 rm -r box
 cp -r aged box
 expect 0 "" collect box --day 2026-01-03
-flip box/lock 40 0
+case $(head -c 41 box/lock | tail -c 1) in
+0) poke box/lock 40 31 ;;
+*) poke box/lock 40 30 ;;
+esac
 expect 5 "it is the book of another store" collect box --day 2026-01-03
