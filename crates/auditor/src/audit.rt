@@ -1,6 +1,6 @@
 // Audit: whether the book is sound.
 ghost use mathlib.Core.Path.{_≡_};
-ghost use Rattle.book.specs.Layout.{bookOf};
+ghost use Rattle.book.specs.Layout.{told};
 ghost use Rattle.book.specs.Formed.{Formed};
 ghost use Rattle.model.specs.Audit.{audit};
 ghost use Rattle.auditor.specs.Contracts.{Audited};
@@ -14,7 +14,7 @@ use words::UNMAPPED;
 // The records leave cells and expiries, the maps leave counts. That no current map names a free block follows from form and the counts.
 fn is_sound(book: &[u8]) -> bool
     requires { ⌜ Formed (now book) ⌝ }
-    ensures { λ r. ⌜ r ≡ audit (bookOf (now (book .entry))) ⌝ }
+    ensures { λ r. ⌜ r ≡ audit (told (book .entry)) ⌝ }
 {
     let mut cells = [UNMAPPED; 8192];
     let mut expiries = [0u16; 4096];

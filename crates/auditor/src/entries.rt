@@ -1,7 +1,7 @@
 // Audit: the entries, once. Each count and each expiry is what was gathered for the block.
 ghost use mathlib.Core.Path.{_≡_};
 ghost use Prim.Native.Nat.{_<_};
-ghost use Rattle.book.specs.Layout.{bookOf};
+ghost use Rattle.book.specs.Layout.{told};
 ghost use Rattle.book.specs.Formed.{Formed};
 ghost use Rattle.auditor.specs.Entries.{entryMatches, entriesMatch};
 use book::entry::count;
@@ -12,8 +12,8 @@ use words::wide;
 
 fn entry_matches(book: &[u8], counts: &[u16; 4096], expiries: &[u16; 4096], p: PBN) -> bool
     requires { ⌜ Formed (now book) ⌝ }
-    requires { ⌜ p .0 < bookOf (now book) .sizes .n ⌝ }
-    ensures { λ r. ⌜ r ≡ entryMatches (bookOf (now (book .entry)) .entries) (now (counts .entry)) (now (expiries .entry)) (p .0) ⌝ }
+    requires { ⌜ p .0 < told book .sizes .n ⌝ }
+    ensures { λ r. ⌜ r ≡ entryMatches (told (book .entry) .entries) (now (counts .entry)) (now (expiries .entry)) (p .0) ⌝ }
 {
     let at = p.0 as usize;
     (wide(count(book, p)) == counts[at]) & (expiry(book, p) == expiries[at])
@@ -21,7 +21,7 @@ fn entry_matches(book: &[u8], counts: &[u16; 4096], expiries: &[u16; 4096], p: P
 
 pub fn entries_match(book: &[u8], counts: &[u16; 4096], expiries: &[u16; 4096]) -> bool
     requires { ⌜ Formed (now book) ⌝ }
-    ensures { λ r. ⌜ r ≡ entriesMatch (bookOf (now (book .entry)) .entries) (now (counts .entry)) (now (expiries .entry)) (bookOf (now (book .entry)) .sizes .n) ⌝ }
+    ensures { λ r. ⌜ r ≡ entriesMatch (told (book .entry) .entries) (now (counts .entry)) (now (expiries .entry)) (told (book .entry) .sizes .n) ⌝ }
 {
     let n = blocks(book);
     let mut good = true;

@@ -4,7 +4,7 @@ ghost use mathlib.Core.List.{[], _∷_};
 ghost use Prim.Native.Nat.{_*_, _<_};
 ghost use lib.ListN.{length, getD};
 ghost use Rattle.book.specs.Book.{volumes};
-ghost use Rattle.book.specs.Layout.{bookOf};
+ghost use Rattle.book.specs.Layout.{told};
 ghost use Rattle.book.specs.Formed.{Formed};
 ghost use Rattle.auditor.specs.Counts.{poolBlocks, Counted};
 ghost use Rattle.auditor.specs.MapsTaken.{AtMost, RowTaken, MapsTaken};
@@ -30,7 +30,7 @@ fn count_one(counts: &mut [u16; 4096], p: PBN)
 fn take_row(book: &[u8], cells: &[u16; 8192], counts: &mut [u16; 4096], v: u16) -> bool
     requires { ⌜ Formed (now book) ⌝ }
     requires { ⌜ (v < volumes) × (length (now counts) ≡ poolBlocks) × AtMost (v * rowSize) (now counts) ⌝ }
-    ensures { λ r. ⌜ RowTaken (bookOf (now (book .entry))) (now (cells .entry)) v (now (counts .entry)) r (now (counts .exit)) ⌝ }
+    ensures { λ r. ⌜ RowTaken (told (book .entry)) (now (cells .entry)) v (now (counts .entry)) r (now (counts .exit)) ⌝ }
 {
     let row = (v as usize) * ROW;
     let wide = header::cells(book);
@@ -48,7 +48,7 @@ fn take_row(book: &[u8], cells: &[u16; 8192], counts: &mut [u16; 4096], v: u16) 
 // The counts start at 0, whatever was there.
 pub fn maps_match(book: &[u8], cells: &[u16; 8192], counts: &mut [u16; 4096]) -> bool
     requires { ⌜ Formed (now book) ⌝ }
-    ensures { λ r. ⌜ MapsTaken (bookOf (now (book .entry))) (now (cells .entry)) r (now (counts .exit)) ⌝ }
+    ensures { λ r. ⌜ MapsTaken (told (book .entry)) (now (cells .entry)) r (now (counts .exit)) ⌝ }
 {
     *counts = [0u16; 4096];
     let mut good = true;

@@ -1,6 +1,6 @@
 // Audit: held fingerprints differ. The index is built from the last block down, and each held block is asked for among those above before it is linked.
 ghost use mathlib.Core.Path.{_≡_};
-ghost use Rattle.book.specs.Layout.{bookOf};
+ghost use Rattle.book.specs.Layout.{told};
 ghost use Rattle.book.specs.Formed.{Formed};
 ghost use Rattle.model.specs.Audit.{printsSound};
 use book::header::blocks;
@@ -10,7 +10,7 @@ use words::PBN;
 
 pub fn prints_sound(book: &[u8]) -> bool
     requires { ⌜ Formed (now book) ⌝ }
-    ensures { λ r. ⌜ r ≡ printsSound (bookOf (now (book .entry))) ⌝ }
+    ensures { λ r. ⌜ r ≡ printsSound (told (book .entry)) ⌝ }
 {
     let mut heads = [0u16; 4096];
     let mut nexts = [0u16; 4096];

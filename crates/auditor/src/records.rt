@@ -8,7 +8,7 @@ ghost use lib.ListN.{length, getD};
 ghost use lib.Seq.{slice};
 ghost use Rattle.words.specs.Blocks.{unmapped};
 ghost use Rattle.book.specs.Book.{volumes, recAt};
-ghost use Rattle.book.specs.Layout.{bookOf};
+ghost use Rattle.book.specs.Layout.{told};
 ghost use Rattle.book.specs.Formed.{Formed};
 ghost use Rattle.model.specs.Audit.{cellSound};
 ghost use Rattle.model.specs.JournalAt.{backupAt};
@@ -38,8 +38,8 @@ pub struct Taking {
 
 fn unmapped_or_held(book: &[u8], p: PBN) -> bool
     requires { ⌜ Formed (now book) ⌝ }
-    requires { ⌜ (p .0 < bookOf (now book) .sizes .n) ⊎ (p .0 ≡ unmapped) ⌝ }
-    ensures { λ r. ⌜ r ≡ cellSound (bookOf (now (book .entry))) (p .0) ⌝ }
+    requires { ⌜ (p .0 < told book .sizes .n) ⊎ (p .0 ≡ unmapped) ⌝ }
+    ensures { λ r. ⌜ r ≡ cellSound (told (book .entry)) (p .0) ⌝ }
 {
     if p.0 == UNMAPPED {
         return true;
@@ -56,8 +56,8 @@ fn take_record(
     q: u16,
 ) -> bool
     requires { ⌜ Formed (now book) ⌝ }
-    requires { ⌜ (t .volume < volumes) × (length (now expiries) ≡ poolBlocks) × (q < length (bookOf (now book) .records)) ⌝ }
-    ensures { λ r. ⌜ RecordTaken (bookOf (now (book .entry))) t (recAt (bookOf (now (book .entry)) .records) q) r (notes (now (cells .entry)) (now (expiries .entry)) (now (stamps .entry))) (notes (now (cells .exit)) (now (expiries .exit)) (now (stamps .exit))) ⌝ }
+    requires { ⌜ (t .volume < volumes) × (length (now expiries) ≡ poolBlocks) × (q < length (told book .records)) ⌝ }
+    ensures { λ r. ⌜ RecordTaken (told (book .entry)) t (recAt (told (book .entry) .records) q) r (notes (now (cells .entry)) (now (expiries .entry)) (now (stamps .entry))) (notes (now (cells .exit)) (now (expiries .exit)) (now (stamps .exit))) ⌝ }
 {
     let change = record_at(book, q);
     let same = replace(cells, t.volume, change);
@@ -78,8 +78,8 @@ fn take_records(
     end: u16,
 ) -> bool
     requires { ⌜ Formed (now book) ⌝ }
-    requires { ⌜ (t .volume < volumes) × (length (now expiries) ≡ poolBlocks) × (from ≤ end) × (end ≤ length (bookOf (now book) .records)) ⌝ }
-    ensures { λ r. ⌜ RecordsTaken (bookOf (now (book .entry))) t (slice from end (bookOf (now (book .entry)) .records)) r (notes (now (cells .entry)) (now (expiries .entry)) (now (stamps .entry))) (notes (now (cells .exit)) (now (expiries .exit)) (now (stamps .exit))) ⌝ }
+    requires { ⌜ (t .volume < volumes) × (length (now expiries) ≡ poolBlocks) × (from ≤ end) × (end ≤ length (told book .records)) ⌝ }
+    ensures { λ r. ⌜ RecordsTaken (told (book .entry)) t (slice from end (told (book .entry) .records)) r (notes (now (cells .entry)) (now (expiries .entry)) (now (stamps .entry))) (notes (now (cells .exit)) (now (expiries .exit)) (now (stamps .exit))) ⌝ }
 {
     let mut good = true;
     let mut q = from;
@@ -100,8 +100,8 @@ fn take_slot(
     q: u16,
 ) -> bool
     requires { ⌜ Formed (now book) ⌝ }
-    requires { ⌜ (q < length (bookOf (now book) .slots)) × (length (now expiries) ≡ poolBlocks) × (length (now stamps) ≡ rowSize) × ((l : ℕ) → getD (now stamps) l 0 ≤ q) ⌝ }
-    ensures { λ r. ⌜ SlotTaken (bookOf (now (book .entry))) (backupAt (bookOf (now (book .entry))) q) (q + 1) r (notes (now (cells .entry)) (now (expiries .entry)) (now (stamps .entry))) (notes (now (cells .exit)) (now (expiries .exit)) (now (stamps .exit))) ⌝ }
+    requires { ⌜ (q < length (told book .slots)) × (length (now expiries) ≡ poolBlocks) × (length (now stamps) ≡ rowSize) × ((l : ℕ) → getD (now stamps) l 0 ≤ q) ⌝ }
+    ensures { λ r. ⌜ SlotTaken (told (book .entry)) (backupAt (told (book .entry)) q) (q + 1) r (notes (now (cells .entry)) (now (expiries .entry)) (now (stamps .entry))) (notes (now (cells .exit)) (now (expiries .exit)) (now (stamps .exit))) ⌝ }
 {
     let slot = slot_at(book, q);
     let volume = slot.volume;
@@ -122,7 +122,7 @@ fn take_slot(
 pub fn take_journal(book: &[u8], cells: &mut [u16; 8192], expiries: &mut [u16; 4096]) -> bool
     requires { ⌜ Formed (now book) ⌝ }
     requires { ⌜ length (now expiries) ≡ poolBlocks ⌝ }
-    ensures { λ r. ⌜ JournalTaken (bookOf (now (book .entry))) r (now (cells .entry)) (now (expiries .entry)) (now (cells .exit)) (now (expiries .exit)) ⌝ }
+    ensures { λ r. ⌜ JournalTaken (told (book .entry)) r (now (cells .entry)) (now (expiries .entry)) (now (cells .exit)) (now (expiries .exit)) ⌝ }
 {
     let mut stamps = [0u16; 1024];
     let used = used_slots(book);

@@ -5,6 +5,7 @@ use mathlib.Core.Bool.{Bool}
 use mathlib.Core.List.{List, [], _∷_}
 use lib.ListN.{length, getD}
 use lib.Dec.{eqb}
+use denote.Ref.{RefT, now}
 use Rattle.words.specs.Blocks.{printSize, unmapped}
 use Rattle.words.specs.Choice.{if_then_else_}
 use Rattle.words.specs.Lists.{joined}
@@ -165,6 +166,10 @@ bookOf b = record {
   slots = tab (num b bPlace) (λ q. slotOf b (slotPlace (sizesOf b) q));
   records = tab (num b uPlace) (λ q. recOf b (recPlace (sizesOf b) q));
 }
+
+-- what a lent book says
+abbrev pub told : RefT (List ℕ) → Book
+told b = bookOf (now b)
 
 -- ---- what readers and writers require and ensure
 

@@ -4,7 +4,7 @@ ghost use Prim.Native.Nat.{_<_};
 ghost use lib.ListN.{length};
 ghost use Rattle.words.specs.Blocks.{printSize};
 ghost use Rattle.book.specs.Book.{entryAt};
-ghost use Rattle.book.specs.Layout.{bookOf, Holds, Is};
+ghost use Rattle.book.specs.Layout.{told, Holds, Is};
 ghost use Rattle.book.specs.Next.{countAs, expiryAs, heldAs, freed, withEntry};
 use super::place::entry_place;
 use words::PBN;
@@ -27,8 +27,8 @@ const HELD: u8 = 1;
 
 pub fn count(book: &[u8], p: PBN) -> u8
     requires { ⌜ Holds (now book) ⌝ }
-    requires { ⌜ p .0 < bookOf (now book) .sizes .n ⌝ }
-    ensures { λ r. ⌜ r ≡ entryAt (bookOf (now (book .entry)) .entries) (p .0) .count ⌝ }
+    requires { ⌜ p .0 < told book .sizes .n ⌝ }
+    ensures { λ r. ⌜ r ≡ entryAt (told (book .entry) .entries) (p .0) .count ⌝ }
 {
     let at = entry_place(p);
     book[at]
@@ -36,8 +36,8 @@ pub fn count(book: &[u8], p: PBN) -> u8
 
 pub fn is_held(book: &[u8], p: PBN) -> bool
     requires { ⌜ Holds (now book) ⌝ }
-    requires { ⌜ p .0 < bookOf (now book) .sizes .n ⌝ }
-    ensures { λ r. ⌜ r ≡ entryAt (bookOf (now (book .entry)) .entries) (p .0) .held ⌝ }
+    requires { ⌜ p .0 < told book .sizes .n ⌝ }
+    ensures { λ r. ⌜ r ≡ entryAt (told (book .entry) .entries) (p .0) .held ⌝ }
 {
     let at = entry_place(p);
     book[at + STATE] == HELD
@@ -45,8 +45,8 @@ pub fn is_held(book: &[u8], p: PBN) -> bool
 
 pub fn expiry(book: &[u8], p: PBN) -> u16
     requires { ⌜ Holds (now book) ⌝ }
-    requires { ⌜ p .0 < bookOf (now book) .sizes .n ⌝ }
-    ensures { λ r. ⌜ r ≡ entryAt (bookOf (now (book .entry)) .entries) (p .0) .expiry ⌝ }
+    requires { ⌜ p .0 < told book .sizes .n ⌝ }
+    ensures { λ r. ⌜ r ≡ entryAt (told (book .entry) .entries) (p .0) .expiry ⌝ }
 {
     let at = entry_place(p);
     u16_at(book, at + EXPIRY)
@@ -55,8 +55,8 @@ pub fn expiry(book: &[u8], p: PBN) -> u16
 // The block's fingerprint, 16 bytes of the book.
 pub fn print_of(book: &[u8], p: PBN) -> &[u8]
     requires { ⌜ Holds (now book) ⌝ }
-    requires { ⌜ p .0 < bookOf (now book) .sizes .n ⌝ }
-    ensures { λ r. ⌜ now r ≡ entryAt (bookOf (now (book .entry)) .entries) (p .0) .print ⌝ }
+    requires { ⌜ p .0 < told book .sizes .n ⌝ }
+    ensures { λ r. ⌜ now r ≡ entryAt (told (book .entry) .entries) (p .0) .print ⌝ }
 {
     let at = entry_place(p);
     let from = at + PRINT;
@@ -66,8 +66,8 @@ pub fn print_of(book: &[u8], p: PBN) -> &[u8]
 
 pub fn set_count(book: &mut [u8], p: PBN, c: u8)
     requires { ⌜ Holds (now book) ⌝ }
-    requires { ⌜ p .0 < bookOf (now book) .sizes .n ⌝ }
-    ensures { λ _. ⌜ Is (now (book .exit)) (withEntry (countAs c) (p .0) (bookOf (now (book .entry)))) ⌝ }
+    requires { ⌜ p .0 < told book .sizes .n ⌝ }
+    ensures { λ _. ⌜ Is (now (book .exit)) (withEntry (countAs c) (p .0) (told (book .entry))) ⌝ }
 {
     let at = entry_place(p);
     book[at] = c;
@@ -75,8 +75,8 @@ pub fn set_count(book: &mut [u8], p: PBN, c: u8)
 
 pub fn set_expiry(book: &mut [u8], p: PBN, day: u16)
     requires { ⌜ Holds (now book) ⌝ }
-    requires { ⌜ p .0 < bookOf (now book) .sizes .n ⌝ }
-    ensures { λ _. ⌜ Is (now (book .exit)) (withEntry (expiryAs day) (p .0) (bookOf (now (book .entry)))) ⌝ }
+    requires { ⌜ p .0 < told book .sizes .n ⌝ }
+    ensures { λ _. ⌜ Is (now (book .exit)) (withEntry (expiryAs day) (p .0) (told (book .entry))) ⌝ }
 {
     let at = entry_place(p);
     put_u16(book, at + EXPIRY, day);
@@ -85,8 +85,8 @@ pub fn set_expiry(book: &mut [u8], p: PBN, day: u16)
 // The block becomes held with this fingerprint; its count and expiry stay.
 pub fn hold(book: &mut [u8], p: PBN, print: &[u8])
     requires { ⌜ Holds (now book) ⌝ }
-    requires { ⌜ (p .0 < bookOf (now book) .sizes .n) × (length (now print) ≡ printSize) ⌝ }
-    ensures { λ _. ⌜ Is (now (book .exit)) (withEntry (heldAs (now (print .entry))) (p .0) (bookOf (now (book .entry)))) ⌝ }
+    requires { ⌜ (p .0 < told book .sizes .n) × (length (now print) ≡ printSize) ⌝ }
+    ensures { λ _. ⌜ Is (now (book .exit)) (withEntry (heldAs (now (print .entry))) (p .0) (told (book .entry))) ⌝ }
 {
     let at = entry_place(p);
     book[at + STATE] = HELD;
@@ -96,8 +96,8 @@ pub fn hold(book: &mut [u8], p: PBN, print: &[u8])
 // The block becomes free with a zero fingerprint; its count and expiry stay.
 pub fn free(book: &mut [u8], p: PBN)
     requires { ⌜ Holds (now book) ⌝ }
-    requires { ⌜ p .0 < bookOf (now book) .sizes .n ⌝ }
-    ensures { λ _. ⌜ Is (now (book .exit)) (withEntry freed (p .0) (bookOf (now (book .entry)))) ⌝ }
+    requires { ⌜ p .0 < told book .sizes .n ⌝ }
+    ensures { λ _. ⌜ Is (now (book .exit)) (withEntry freed (p .0) (told (book .entry))) ⌝ }
 {
     let at = entry_place(p);
     book[at + STATE] = FREE;

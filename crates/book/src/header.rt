@@ -3,7 +3,7 @@ ghost use mathlib.Core.Path.{_≡_};
 ghost use Prim.Native.Nat.{_<_};
 ghost use lib.ListN.{length};
 ghost use Rattle.book.specs.Book.{volumes, retentionOf};
-ghost use Rattle.book.specs.Layout.{bookOf, Holds, Is};
+ghost use Rattle.book.specs.Layout.{told, Holds, Is};
 ghost use Rattle.book.specs.Next.{withDay, withCursor, withRetention};
 use words::put_u16;
 use words::u16_at;
@@ -34,7 +34,7 @@ pub const ZERO_PLACE: usize = 18;
 // N, the pool's blocks.
 pub fn blocks(book: &[u8]) -> u16
     requires { ⌜ Holds (now book) ⌝ }
-    ensures { λ r. ⌜ r ≡ bookOf (now (book .entry)) .sizes .n ⌝ }
+    ensures { λ r. ⌜ r ≡ told (book .entry) .sizes .n ⌝ }
 {
     u16_at(book, N_PLACE)
 }
@@ -42,7 +42,7 @@ pub fn blocks(book: &[u8]) -> u16
 // L, the logical blocks of a volume.
 pub fn cells(book: &[u8]) -> u16
     requires { ⌜ Holds (now book) ⌝ }
-    ensures { λ r. ⌜ r ≡ bookOf (now (book .entry)) .sizes .l ⌝ }
+    ensures { λ r. ⌜ r ≡ told (book .entry) .sizes .l ⌝ }
 {
     u16_at(book, L_PLACE)
 }
@@ -50,7 +50,7 @@ pub fn cells(book: &[u8]) -> u16
 // S, the backup slots.
 pub fn slots(book: &[u8]) -> u16
     requires { ⌜ Holds (now book) ⌝ }
-    ensures { λ r. ⌜ r ≡ bookOf (now (book .entry)) .sizes .s ⌝ }
+    ensures { λ r. ⌜ r ≡ told (book .entry) .sizes .s ⌝ }
 {
     u16_at(book, S_PLACE)
 }
@@ -58,7 +58,7 @@ pub fn slots(book: &[u8]) -> u16
 // J, the journal's slots.
 pub fn journal(book: &[u8]) -> u16
     requires { ⌜ Holds (now book) ⌝ }
-    ensures { λ r. ⌜ r ≡ bookOf (now (book .entry)) .sizes .j ⌝ }
+    ensures { λ r. ⌜ r ≡ told (book .entry) .sizes .j ⌝ }
 {
     u16_at(book, J_PLACE)
 }
@@ -66,7 +66,7 @@ pub fn journal(book: &[u8]) -> u16
 // B, the slots used.
 pub fn used_slots(book: &[u8]) -> u16
     requires { ⌜ Holds (now book) ⌝ }
-    ensures { λ r. ⌜ r ≡ length (bookOf (now (book .entry)) .slots) ⌝ }
+    ensures { λ r. ⌜ r ≡ length (told (book .entry) .slots) ⌝ }
 {
     u16_at(book, B_PLACE)
 }
@@ -74,21 +74,21 @@ pub fn used_slots(book: &[u8]) -> u16
 // U, the records used.
 pub fn used_records(book: &[u8]) -> u16
     requires { ⌜ Holds (now book) ⌝ }
-    ensures { λ r. ⌜ r ≡ length (bookOf (now (book .entry)) .records) ⌝ }
+    ensures { λ r. ⌜ r ≡ length (told (book .entry) .records) ⌝ }
 {
     u16_at(book, U_PLACE)
 }
 
 pub fn day(book: &[u8]) -> u16
     requires { ⌜ Holds (now book) ⌝ }
-    ensures { λ r. ⌜ r ≡ bookOf (now (book .entry)) .day ⌝ }
+    ensures { λ r. ⌜ r ≡ told (book .entry) .day ⌝ }
 {
     u16_at(book, DAY_PLACE)
 }
 
 pub fn cursor(book: &[u8]) -> u16
     requires { ⌜ Holds (now book) ⌝ }
-    ensures { λ r. ⌜ r ≡ bookOf (now (book .entry)) .cursor ⌝ }
+    ensures { λ r. ⌜ r ≡ told (book .entry) .cursor ⌝ }
 {
     u16_at(book, CURSOR_PLACE)
 }
@@ -97,21 +97,21 @@ pub fn cursor(book: &[u8]) -> u16
 pub fn retention(book: &[u8], v: u16) -> u16
     requires { ⌜ Holds (now book) ⌝ }
     requires { ⌜ v < volumes ⌝ }
-    ensures { λ r. ⌜ r ≡ retentionOf (bookOf (now (book .entry))) v ⌝ }
+    ensures { λ r. ⌜ r ≡ retentionOf (told (book .entry)) v ⌝ }
 {
     u16_at(book, HEADER_SIZE + (v as usize) * 2)
 }
 
 pub fn set_day(book: &mut [u8], day: u16)
     requires { ⌜ Holds (now book) ⌝ }
-    ensures { λ _. ⌜ Is (now (book .exit)) (withDay day (bookOf (now (book .entry)))) ⌝ }
+    ensures { λ _. ⌜ Is (now (book .exit)) (withDay day (told (book .entry))) ⌝ }
 {
     put_u16(book, DAY_PLACE, day);
 }
 
 pub fn set_cursor(book: &mut [u8], cursor: u16)
     requires { ⌜ Holds (now book) ⌝ }
-    ensures { λ _. ⌜ Is (now (book .exit)) (withCursor cursor (bookOf (now (book .entry)))) ⌝ }
+    ensures { λ _. ⌜ Is (now (book .exit)) (withCursor cursor (told (book .entry))) ⌝ }
 {
     put_u16(book, CURSOR_PLACE, cursor);
 }
@@ -119,7 +119,7 @@ pub fn set_cursor(book: &mut [u8], cursor: u16)
 pub fn set_retention(book: &mut [u8], v: u16, days: u16)
     requires { ⌜ Holds (now book) ⌝ }
     requires { ⌜ v < volumes ⌝ }
-    ensures { λ _. ⌜ Is (now (book .exit)) (withRetention v days (bookOf (now (book .entry)))) ⌝ }
+    ensures { λ _. ⌜ Is (now (book .exit)) (withRetention v days (told (book .entry))) ⌝ }
 {
     put_u16(book, HEADER_SIZE + (v as usize) * 2, days);
 }

@@ -6,7 +6,7 @@ ghost use lib.ListN.{getD};
 ghost use Rattle.words.specs.Numbers.{two};
 ghost use Rattle.words.specs.Sections.{flat};
 ghost use Rattle.book.specs.Book.{volumes, cellAt};
-ghost use Rattle.book.specs.Layout.{bookOf, Holds, Is};
+ghost use Rattle.book.specs.Layout.{told, Holds, Is};
 ghost use Rattle.book.specs.Next.{withCell};
 use super::header;
 use super::place::cell_place;
@@ -19,8 +19,8 @@ use words::u16_at;
 // The block that volume v's map names at an LBN.
 pub fn cell(book: &[u8], v: u16, lbn: LBN) -> PBN
     requires { ⌜ Holds (now book) ⌝ }
-    requires { ⌜ (v < volumes) × (lbn .0 < bookOf (now book) .sizes .l) ⌝ }
-    ensures { λ r. ⌜ r .0 ≡ cellAt (bookOf (now (book .entry)) .maps) v (lbn .0) ⌝ }
+    requires { ⌜ (v < volumes) × (lbn .0 < told book .sizes .l) ⌝ }
+    ensures { λ r. ⌜ r .0 ≡ cellAt (told (book .entry) .maps) v (lbn .0) ⌝ }
 {
     let at = cell_place(book, v, lbn);
     PBN(u16_at(book, at))
@@ -28,8 +28,8 @@ pub fn cell(book: &[u8], v: u16, lbn: LBN) -> PBN
 
 pub fn set_cell(book: &mut [u8], v: u16, lbn: LBN, p: PBN)
     requires { ⌜ Holds (now book) ⌝ }
-    requires { ⌜ (v < volumes) × (lbn .0 < bookOf (now book) .sizes .l) ⌝ }
-    ensures { λ _. ⌜ Is (now (book .exit)) (withCell v (lbn .0) (p .0) (bookOf (now (book .entry)))) ⌝ }
+    requires { ⌜ (v < volumes) × (lbn .0 < told book .sizes .l) ⌝ }
+    ensures { λ _. ⌜ Is (now (book .exit)) (withCell v (lbn .0) (p .0) (told (book .entry))) ⌝ }
 {
     let at = cell_place(book, v, lbn);
     put_u16(book, at, p.0);
@@ -39,7 +39,7 @@ pub fn set_cell(book: &mut [u8], v: u16, lbn: LBN, p: PBN)
 pub fn row(book: &[u8], v: u16) -> &[u8]
     requires { ⌜ Holds (now book) ⌝ }
     requires { ⌜ v < volumes ⌝ }
-    ensures { λ r. ⌜ now r ≡ flat two (getD (bookOf (now (book .entry)) .maps) v []) ⌝ }
+    ensures { λ r. ⌜ now r ≡ flat two (getD (told (book .entry) .maps) v []) ⌝ }
 {
     let size = header::cells(book) as usize * 2;
     let from = maps_from(book) + (v as usize) * size;

@@ -3,7 +3,7 @@ ghost use mathlib.Core.Path.{_≡_};
 ghost use Prim.Native.Nat.{_+_, _<_, _≤_};
 ghost use lib.ListN.{length};
 ghost use Rattle.book.specs.Book.{volumes};
-ghost use Rattle.book.specs.Layout.{slotSize, recSize, mapsFrom, slotsFrom, recordsFrom, entryPlace, cellPlace, slotPlace, recPlace, bookOf, Holds};
+ghost use Rattle.book.specs.Layout.{slotSize, recSize, mapsFrom, slotsFrom, recordsFrom, entryPlace, cellPlace, slotPlace, recPlace, told, Holds};
 use super::header;
 use words::LBN;
 use words::PBN;
@@ -21,7 +21,7 @@ pub const VOLUMES: usize = 8;
 
 pub fn maps_from(book: &[u8]) -> usize
     requires { ⌜ Holds (now book) ⌝ }
-    ensures { λ r. ⌜ r ≡ mapsFrom (bookOf (now (book .entry)) .sizes) ⌝ }
+    ensures { λ r. ⌜ r ≡ mapsFrom (told (book .entry) .sizes) ⌝ }
 {
     let n = header::blocks(book) as usize;
     ENTRIES_FROM + n * ENTRY_SIZE
@@ -29,7 +29,7 @@ pub fn maps_from(book: &[u8]) -> usize
 
 pub fn slots_from(book: &[u8]) -> usize
     requires { ⌜ Holds (now book) ⌝ }
-    ensures { λ r. ⌜ r ≡ slotsFrom (bookOf (now (book .entry)) .sizes) ⌝ }
+    ensures { λ r. ⌜ r ≡ slotsFrom (told (book .entry) .sizes) ⌝ }
 {
     let from = maps_from(book);
     let l = header::cells(book) as usize;
@@ -38,7 +38,7 @@ pub fn slots_from(book: &[u8]) -> usize
 
 pub fn records_from(book: &[u8]) -> usize
     requires { ⌜ Holds (now book) ⌝ }
-    ensures { λ r. ⌜ r ≡ recordsFrom (bookOf (now (book .entry)) .sizes) ⌝ }
+    ensures { λ r. ⌜ r ≡ recordsFrom (told (book .entry) .sizes) ⌝ }
 {
     let from = slots_from(book);
     let s = header::slots(book) as usize;
@@ -53,8 +53,8 @@ pub fn entry_place(p: PBN) -> usize
 
 pub fn cell_place(book: &[u8], v: u16, lbn: LBN) -> usize
     requires { ⌜ Holds (now book) ⌝ }
-    requires { ⌜ (v < volumes) × (lbn .0 < bookOf (now book) .sizes .l) ⌝ }
-    ensures { λ r. ⌜ r ≡ cellPlace (bookOf (now (book .entry)) .sizes) v (lbn .0) ⌝ }
+    requires { ⌜ (v < volumes) × (lbn .0 < told book .sizes .l) ⌝ }
+    ensures { λ r. ⌜ r ≡ cellPlace (told (book .entry) .sizes) v (lbn .0) ⌝ }
     ensures { λ r. ⌜ r + 1 < length (now (book .entry)) ⌝ }
 {
     let from = maps_from(book);
@@ -64,8 +64,8 @@ pub fn cell_place(book: &[u8], v: u16, lbn: LBN) -> usize
 
 pub fn slot_place(book: &[u8], q: u16) -> usize
     requires { ⌜ Holds (now book) ⌝ }
-    requires { ⌜ q < bookOf (now book) .sizes .s ⌝ }
-    ensures { λ r. ⌜ r ≡ slotPlace (bookOf (now (book .entry)) .sizes) q ⌝ }
+    requires { ⌜ q < told book .sizes .s ⌝ }
+    ensures { λ r. ⌜ r ≡ slotPlace (told (book .entry) .sizes) q ⌝ }
     ensures { λ r. ⌜ r + slotSize ≤ length (now (book .entry)) ⌝ }
 {
     slots_from(book) + (q as usize) * SLOT_SIZE
@@ -73,8 +73,8 @@ pub fn slot_place(book: &[u8], q: u16) -> usize
 
 pub fn record_place(book: &[u8], q: u16) -> usize
     requires { ⌜ Holds (now book) ⌝ }
-    requires { ⌜ q < bookOf (now book) .sizes .j ⌝ }
-    ensures { λ r. ⌜ r ≡ recPlace (bookOf (now (book .entry)) .sizes) q ⌝ }
+    requires { ⌜ q < told book .sizes .j ⌝ }
+    ensures { λ r. ⌜ r ≡ recPlace (told (book .entry) .sizes) q ⌝ }
     ensures { λ r. ⌜ r + recSize ≤ length (now (book .entry)) ⌝ }
 {
     records_from(book) + (q as usize) * REC_SIZE

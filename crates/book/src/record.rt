@@ -2,7 +2,7 @@
 ghost use Prim.Native.Nat.{_<_};
 ghost use lib.ListN.{length};
 ghost use Rattle.book.specs.Book.{recAt};
-ghost use Rattle.book.specs.Layout.{bookOf, Holds, Is};
+ghost use Rattle.book.specs.Layout.{told, Holds, Is};
 ghost use Rattle.book.specs.Next.{withRecord};
 ghost use Rattle.book.specs.Struct.{RecordIs};
 use super::header;
@@ -23,8 +23,8 @@ pub struct Record {
 
 pub fn record_at(book: &[u8], q: u16) -> Record
     requires { ⌜ Holds (now book) ⌝ }
-    requires { ⌜ q < length (bookOf (now book) .records) ⌝ }
-    ensures { λ r. ⌜ RecordIs (recAt (bookOf (now (book .entry)) .records) q) r ⌝ }
+    requires { ⌜ q < length (told book .records) ⌝ }
+    ensures { λ r. ⌜ RecordIs (recAt (told (book .entry) .records) q) r ⌝ }
 {
     let at = record_place(book, q);
     Record {
@@ -37,8 +37,8 @@ pub fn record_at(book: &[u8], q: u16) -> Record
 // The next record is used.
 pub fn append_record(book: &mut [u8], lbn: LBN, before: PBN, after: PBN)
     requires { ⌜ Holds (now book) ⌝ }
-    requires { ⌜ length (bookOf (now book) .records) < bookOf (now book) .sizes .j ⌝ }
-    ensures { λ _. ⌜ Is (now (book .exit)) (withRecord (record { lbn = lbn .0; before = before .0; after = after .0 }) (bookOf (now (book .entry)))) ⌝ }
+    requires { ⌜ length (told book .records) < told book .sizes .j ⌝ }
+    ensures { λ _. ⌜ Is (now (book .exit)) (withRecord (record { lbn = lbn .0; before = before .0; after = after .0 }) (told (book .entry))) ⌝ }
 {
     let used = header::used_records(book);
     let at = record_place(book, used);

@@ -4,7 +4,7 @@ ghost use Prim.Native.Nat.{_+_, _<_, _≤_};
 ghost use lib.Seq.{sets};
 ghost use lib.ListN.{length};
 ghost use Rattle.book.specs.Book.{slotAt};
-ghost use Rattle.book.specs.Layout.{slotSize, slotBytes, bookOf, Holds, Is};
+ghost use Rattle.book.specs.Layout.{slotSize, slotBytes, told, Holds, Is};
 ghost use Rattle.book.specs.Next.{withSlot};
 ghost use Rattle.book.specs.Struct.{SlotIs};
 use super::header;
@@ -25,8 +25,8 @@ pub struct Slot {
 
 pub fn slot_at(book: &[u8], q: u16) -> Slot
     requires { ⌜ Holds (now book) ⌝ }
-    requires { ⌜ q < length (bookOf (now book) .slots) ⌝ }
-    ensures { λ r. ⌜ SlotIs (slotAt (bookOf (now (book .entry)) .slots) q) r ⌝ }
+    requires { ⌜ q < length (told book .slots) ⌝ }
+    ensures { λ r. ⌜ SlotIs (slotAt (told (book .entry) .slots) q) r ⌝ }
 {
     let at = slot_place(book, q);
     Slot {
@@ -51,8 +51,8 @@ fn put_slot(b: &mut [u8], at: usize, volume: u16, day: u16, first: u16, number: 
 // The next slot is used.
 pub fn append_slot(book: &mut [u8], volume: u16, day: u16, first: u16, number: u16)
     requires { ⌜ Holds (now book) ⌝ }
-    requires { ⌜ (length (bookOf (now book) .slots) < bookOf (now book) .sizes .s) × (volume < 256) ⌝ }
-    ensures { λ _. ⌜ Is (now (book .exit)) (withSlot (record { volume = volume; day = day; first = first; number = number }) (bookOf (now (book .entry)))) ⌝ }
+    requires { ⌜ (length (told book .slots) < told book .sizes .s) × (volume < 256) ⌝ }
+    ensures { λ _. ⌜ Is (now (book .exit)) (withSlot (record { volume = volume; day = day; first = first; number = number }) (told (book .entry))) ⌝ }
 {
     let used = header::used_slots(book);
     let at = slot_place(book, used);

@@ -4,7 +4,7 @@ ghost use Prim.Native.Nat.{_+_, _≤_, _<_};
 ghost use lib.ListN.{length};
 ghost use lib.Seq.{sets};
 ghost use Rattle.book.specs.Book.{volumes};
-ghost use Rattle.book.specs.Layout.{bookOf, Holds};
+ghost use Rattle.book.specs.Layout.{told, Holds};
 ghost use Rattle.book.specs.Formed.{Formed};
 ghost use Rattle.words.specs.Laying.{Stored};
 ghost use Rattle.model.specs.Views.{backupsOf};
@@ -27,7 +27,7 @@ const ALWAYS: u16 = 65535;
 // The first slot from q on that is the volume's; where there is none, the answer is past the used slots.
 fn next_own(book: &[u8], v: u16, q: u16) -> u16
     requires { ⌜ Holds (now book) ⌝ }
-    ensures { λ r. ⌜ NextIs (bookOf (now (book .entry))) v q r ⌝ }
+    ensures { λ r. ⌜ NextIs (told (book .entry)) v q r ⌝ }
 {
     let used = header::used_slots(book);
     let mut r = q;
@@ -45,7 +45,7 @@ fn next_own(book: &[u8], v: u16, q: u16) -> u16
 fn kept_until(book: &[u8], at: u16, days: u16) -> u16
     requires { ⌜ Formed (now book) ⌝ }
     requires { ⌜ days ≤ 5000 ⌝ }
-    ensures { λ r. ⌜ r ≡ untilFrom (bookOf (now (book .entry))) at days ⌝ }
+    ensures { λ r. ⌜ r ≡ untilFrom (told (book .entry)) at days ⌝ }
 {
     if header::used_slots(book) <= at {
         return ALWAYS;
@@ -57,9 +57,9 @@ fn kept_until(book: &[u8], at: u16, days: u16) -> u16
 // The row of the backup in slot q, where slot `next` holds the one that replaced it, if any. It answers the place past the row.
 fn put_row(book: &[u8], q: u16, next: u16, days: u16, out: &mut [u8], at: usize) -> usize
     requires { ⌜ Formed (now book) ⌝ }
-    requires { ⌜ (q < length (bookOf (now book) .slots)) × (days ≤ 5000) ⌝ }
+    requires { ⌜ (q < length (told book .slots)) × (days ≤ 5000) ⌝ }
     requires { ⌜ at + rowSize ≤ length (now out) ⌝ }
-    ensures { λ r. ⌜ Stored (now (out .entry)) at (rowFrom (bookOf (now (book .entry))) q next days) (now (out .exit)) r ⌝ }
+    ensures { λ r. ⌜ Stored (now (out .entry)) at (rowFrom (told (book .entry)) q next days) (now (out .exit)) r ⌝ }
 {
     let slot = slot::slot_at(book, q);
     let until = kept_until(book, next, days);
@@ -72,8 +72,8 @@ fn put_row(book: &[u8], q: u16, next: u16, days: u16, out: &mut [u8], at: usize)
 // The rows of the volume's backups, to the front of the output.
 fn put_rows(book: &[u8], v: u16, out: &mut [u8])
     requires { ⌜ Formed (now book) ⌝ }
-    requires { ⌜ (v < volumes) × (length (backupsOf (bookOf (now book)) v) ≤ length (now out)) ⌝ }
-    ensures { λ _. ⌜ now (out .exit) ≡ sets (now (out .entry)) 0 (backupsOf (bookOf (now (book .entry))) v) ⌝ }
+    requires { ⌜ (v < volumes) × (length (backupsOf (told book) v) ≤ length (now out)) ⌝ }
+    ensures { λ _. ⌜ now (out .exit) ≡ sets (now (out .entry)) 0 (backupsOf (told (book .entry)) v) ⌝ }
 {
     let used = header::used_slots(book);
     let days = header::retention(book, v);

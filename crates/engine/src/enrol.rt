@@ -1,6 +1,6 @@
 // Enrol: a volume gets its retention.
 ghost use mathlib.Core.Path.{_≡_};
-ghost use Rattle.book.specs.Layout.{bookOf, Holds};
+ghost use Rattle.book.specs.Layout.{told, Holds};
 ghost use Rattle.model.specs.Enrol.{enrolNumber};
 ghost use Rattle.engine.specs.Contracts.{Enrolled};
 use book::header;
@@ -9,7 +9,7 @@ use form::form_number;
 // Numbers 5 and 6, or 0.
 fn enrol_number(book: &[u8], volume: u16, retention: u16) -> u16
     requires { ⌜ Holds (now book) ⌝ }
-    ensures { λ r. ⌜ r ≡ enrolNumber (bookOf (now (book .entry))) volume retention ⌝ }
+    ensures { λ r. ⌜ r ≡ enrolNumber (told (book .entry)) volume retention ⌝ }
 {
     if volume > 7 {
         return 5;

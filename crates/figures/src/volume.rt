@@ -1,7 +1,7 @@
 // What a volume has: its retention, and how many backups.
 ghost use mathlib.Core.Path.{_≡_};
 ghost use lib.ListN.{length};
-ghost use Rattle.book.specs.Layout.{bookOf, Holds};
+ghost use Rattle.book.specs.Layout.{told, Holds};
 ghost use Rattle.model.specs.Journal.{backups};
 ghost use Rattle.figures.specs.Contracts.{VolumeTold};
 use super::enrolled::enrolled_number;
@@ -10,7 +10,7 @@ use book::slot;
 
 pub fn count_backups(book: &[u8], v: u16) -> u16
     requires { ⌜ Holds (now book) ⌝ }
-    ensures { λ r. ⌜ r ≡ length (backups (bookOf (now (book .entry))) v) ⌝ }
+    ensures { λ r. ⌜ r ≡ length (backups (told (book .entry)) v) ⌝ }
 {
     let used = header::used_slots(book);
     let mut count = 0;

@@ -3,7 +3,7 @@ ghost use mathlib.Core.Path.{_≡_};
 ghost use lib.ListN.{length};
 ghost use Rattle.words.specs.Blocks.{printSize};
 ghost use Rattle.words.specs.Lists.{same};
-ghost use Rattle.book.specs.Layout.{bookOf, Holds};
+ghost use Rattle.book.specs.Layout.{told, Holds};
 ghost use Rattle.model.specs.Backup.{findHeld};
 ghost use Rattle.index.specs.Answers.{foundOf};
 ghost use Rattle.index.specs.First.{firstFrom};
@@ -40,8 +40,8 @@ fn same_print(a: &[u8], b: &[u8]) -> bool
 pub fn search(book: &[u8], nexts: &[u16; 4096], from: u16, print: &[u8]) -> u16
     requires { ⌜ Holds (now book) ⌝ }
     requires { ⌜ length (now print) ≡ printSize ⌝ }
-    requires { ⌜ Chain (bookOf (now book) .entries) (bucketOf (now print)) (now nexts) from ⌝ }
-    ensures { λ r. ⌜ r ≡ firstFrom (hasPrint (now (print .entry))) (bookOf (now (book .entry)) .entries) from ⌝ }
+    requires { ⌜ Chain (told book .entries) (bucketOf (now print)) (now nexts) from ⌝ }
+    ensures { λ r. ⌜ r ≡ firstFrom (hasPrint (now (print .entry))) (told (book .entry) .entries) from ⌝ }
 {
     let n = header::blocks(book);
     let mut q = from;
@@ -57,9 +57,9 @@ pub fn search(book: &[u8], nexts: &[u16; 4096], from: u16, print: &[u8]) -> u16
 
 pub fn find(book: &[u8], heads: &[u16; 4096], nexts: &[u16; 4096], print: &[u8]) -> Found
     requires { ⌜ Holds (now book) ⌝ }
-    requires { ⌜ Indexed (bookOf (now book) .entries) (now heads) (now nexts) ⌝ }
+    requires { ⌜ Indexed (told book .entries) (now heads) (now nexts) ⌝ }
     requires { ⌜ length (now print) ≡ printSize ⌝ }
-    ensures { λ r. ⌜ r ≡ foundOf (findHeld (bookOf (now (book .entry)) .entries) (now (print .entry))) ⌝ }
+    ensures { λ r. ⌜ r ≡ foundOf (findHeld (told (book .entry) .entries) (now (print .entry))) ⌝ }
 {
     let q = search(book, nexts, heads[bucket_of(print)], print);
     if q < header::blocks(book) {

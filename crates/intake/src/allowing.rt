@@ -1,6 +1,6 @@
 // Numbers 1 to 10 of a backup.
 ghost use mathlib.Core.Path.{_≡_};
-ghost use Rattle.book.specs.Layout.{bookOf, Holds};
+ghost use Rattle.book.specs.Layout.{told, Holds};
 ghost use Rattle.intake.specs.Allowing.{lentNumber, dayRefused, roomNumber, AllowedBy};
 ghost use Rattle.intake.specs.Backups.{BackupsAre};
 use super::slots::Backups;
@@ -39,8 +39,8 @@ fn lent_number(book: &[u8], pool: &[u8], spare: usize) -> u16
 // Number 7: whether the day can't be a backup's.
 fn bad_day(book: &[u8], v: u16, day: u16, backups: Backups) -> bool
     requires { ⌜ Holds (now book) ⌝ }
-    requires { ⌜ BackupsAre (bookOf (now book)) v backups ⌝ }
-    ensures { λ r. ⌜ r ≡ dayRefused (bookOf (now (book .entry))) v day ⌝ }
+    requires { ⌜ BackupsAre (told book) v backups ⌝ }
+    ensures { λ r. ⌜ r ≡ dayRefused (told (book .entry)) v day ⌝ }
 {
     if 60000 < day {
         return true;
@@ -57,7 +57,7 @@ fn bad_day(book: &[u8], v: u16, day: u16, backups: Backups) -> bool
 // Numbers 9 and 10 for so many changes, or 0.
 fn room(book: &[u8], changes: u16) -> u16
     requires { ⌜ Holds (now book) ⌝ }
-    ensures { λ r. ⌜ r ≡ roomNumber (bookOf (now (book .entry))) changes ⌝ }
+    ensures { λ r. ⌜ r ≡ roomNumber (told (book .entry)) changes ⌝ }
 {
     if header::slots(book) <= header::used_slots(book) {
         return 9;

@@ -3,7 +3,7 @@ ghost use mathlib.Core.Path.{_≡_};
 ghost use Prim.Native.Nat.{_<_};
 ghost use lib.ListN.{length};
 ghost use Rattle.book.specs.Book.{volumes};
-ghost use Rattle.book.specs.Layout.{bookOf, Holds, Is};
+ghost use Rattle.book.specs.Layout.{told, Holds, Is};
 ghost use Rattle.book.specs.Formed.{Formed};
 ghost use Rattle.mover.specs.Stepping.{stepNumber};
 ghost use Rattle.mover.specs.Working.{Job};
@@ -43,8 +43,8 @@ fn step_number(step: Step) -> u16
 // The slot of the backup is added, and its day becomes the book's.
 fn close(work: &mut [u8], v: u16, day: u16, first: u16, number: u16)
     requires { ⌜ Holds (now work) ⌝ }
-    requires { ⌜ (length (bookOf (now work) .slots) < bookOf (now work) .sizes .s) × (v < volumes) ⌝ }
-    ensures { λ _. ⌜ Is (now (work .exit)) (closedBook v day first number (bookOf (now (work .entry)))) ⌝ }
+    requires { ⌜ (length (told work .slots) < told work .sizes .s) × (v < volumes) ⌝ }
+    ensures { λ _. ⌜ Is (now (work .exit)) (closedBook v day first number (told (work .entry))) ⌝ }
 {
     slot::append_slot(work, v, day, first, number);
     header::set_day(work, day);
@@ -62,9 +62,9 @@ fn work_through(
     until: u16,
 ) -> Step
     requires { ⌜ Formed (now book) × (now work ≡ now book) ⌝ }
-    requires { ⌜ Job (bookOf (now book)) (now pool) (now list) shape × (v < volumes) ⌝ }
-    requires { ⌜ length (bookOf (now book) .slots) < bookOf (now book) .sizes .s ⌝ }
-    ensures { λ r. ⌜ WorkedBy (bookOf (now (book .entry))) (now (pool .entry)) (now (list .entry)) v day until r (now (pool .exit)) (now (work .exit)) ⌝ }
+    requires { ⌜ Job (told book) (now pool) (now list) shape × (v < volumes) ⌝ }
+    requires { ⌜ length (told book .slots) < told book .sizes .s ⌝ }
+    ensures { λ r. ⌜ WorkedBy (told (book .entry)) (now (pool .entry)) (now (list .entry)) v day until r (now (pool .exit)) (now (work .exit)) ⌝ }
 {
     let mut by = [0u16; 4096];
     let step = run_changes(book, pool, work, list, shape, &mut by, v, until);

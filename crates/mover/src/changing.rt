@@ -3,7 +3,7 @@ ghost use mathlib.Core.Path.{_≡_};
 ghost use Prim.Native.Nat.{_<_};
 ghost use Rattle.list.specs.Changes.{changeAt};
 ghost use Rattle.book.specs.Book.{volumes};
-ghost use Rattle.book.specs.Layout.{bookOf, Holds};
+ghost use Rattle.book.specs.Layout.{told, Holds};
 ghost use Rattle.index.specs.Indexed.{Indexed};
 ghost use Rattle.mover.specs.Working.{Job, Standing};
 ghost use Rattle.mover.specs.Stepping.{placedNumber, SteppedBy, StillIndexed, RanBy};
@@ -43,11 +43,11 @@ fn change(
     t: Tally,
 ) -> Step
     requires { ⌜ Holds (now book) × Holds (now work) ⌝ }
-    requires { ⌜ Job (bookOf (now book)) (now pool) (now list) shape × (i < shape .changes) × (v < volumes) ⌝ }
-    requires { ⌜ Standing (bookOf (now book)) (bookOf (now work)) (now by) t i i ⌝ }
+    requires { ⌜ Job (told book) (now pool) (now list) shape × (i < shape .changes) × (v < volumes) ⌝ }
+    requires { ⌜ Standing (told book) (told work) (now by) t i i ⌝ }
     requires { ⌜ lbn .0 ≡ changeAt (now list) i .lbn ⌝ }
-    requires { ⌜ Indexed (bookOf (now work) .entries) (now heads) (now nexts) ⌝ }
-    ensures { λ r. ⌜ SteppedBy (bookOf (now (book .entry))) (now (pool .entry)) (now (list .entry)) v until i (now (work .entry)) (now (by .entry)) t r (now (work .exit)) (now (by .exit)) ⌝ }
+    requires { ⌜ Indexed (told work .entries) (now heads) (now nexts) ⌝ }
+    ensures { λ r. ⌜ SteppedBy (told (book .entry)) (now (pool .entry)) (now (list .entry)) v until i (now (work .entry)) (now (by .entry)) t r (now (work .exit)) (now (by .exit)) ⌝ }
     ensures { λ r. ⌜ StillIndexed r (now (work .exit)) (now (heads .exit)) (now (nexts .exit)) ⌝ }
 {
     let placed = place(book, pool, work, list, shape, by, heads, nexts, i, t);
@@ -69,9 +69,9 @@ pub fn run_changes(
     until: u16,
 ) -> Step
     requires { ⌜ Holds (now book) × Holds (now work) ⌝ }
-    requires { ⌜ Job (bookOf (now book)) (now pool) (now list) shape × (v < volumes) ⌝ }
-    requires { ⌜ Standing (bookOf (now book)) (bookOf (now work)) (now by) (record { taken = 0; touched = 0 }) 0 0 ⌝ }
-    ensures { λ r. ⌜ RanBy (bookOf (now (book .entry))) (now (pool .entry)) (now (list .entry)) v until (now (work .entry)) (now (by .entry)) r (now (work .exit)) (now (by .exit)) ⌝ }
+    requires { ⌜ Job (told book) (now pool) (now list) shape × (v < volumes) ⌝ }
+    requires { ⌜ Standing (told book) (told work) (now by) (record { taken = 0; touched = 0 }) 0 0 ⌝ }
+    ensures { λ r. ⌜ RanBy (told (book .entry)) (now (pool .entry)) (now (list .entry)) v until (now (work .entry)) (now (by .entry)) r (now (work .exit)) (now (by .exit)) ⌝ }
 {
     let mut heads = [0u16; 4096];
     let mut nexts = [0u16; 4096];

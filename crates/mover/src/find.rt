@@ -5,7 +5,7 @@ ghost use lib.ListN.{length};
 ghost use Rattle.words.specs.Blocks.{printSize};
 ghost use Rattle.words.specs.Sections.{part};
 ghost use Rattle.book.specs.Book.{isFree};
-ghost use Rattle.book.specs.Layout.{bookOf, Holds};
+ghost use Rattle.book.specs.Layout.{told, Holds};
 ghost use Rattle.model.specs.Backup.{findHeld, findFree};
 ghost use Rattle.index.specs.Answers.{foundOf};
 ghost use Rattle.index.specs.Indexed.{Indexed};
@@ -26,9 +26,9 @@ pub fn find_held(
     i: usize,
 ) -> Found
     requires { ⌜ Holds (now book) ⌝ }
-    requires { ⌜ Indexed (bookOf (now book) .entries) (now heads) (now nexts) ⌝ }
+    requires { ⌜ Indexed (told book .entries) (now heads) (now nexts) ⌝ }
     requires { ⌜ i * printSize + printSize ≤ length (now prints) ⌝ }
-    ensures { λ r. ⌜ r ≡ foundOf (findHeld (bookOf (now (book .entry)) .entries) (part (now (prints .entry)) (i * printSize) printSize)) ⌝ }
+    ensures { λ r. ⌜ r ≡ foundOf (findHeld (told (book .entry) .entries) (part (now (prints .entry)) (i * printSize) printSize)) ⌝ }
 {
     let from = i * PRINT_SIZE;
     let to = from + PRINT_SIZE;
@@ -38,8 +38,8 @@ pub fn find_held(
 // The first free block from one number up to another.
 fn first_free(book: &[u8], from: u16, to: u16) -> Found
     requires { ⌜ Holds (now book) ⌝ }
-    requires { ⌜ (from ≤ to) × (to ≤ bookOf (now book) .sizes .n) ⌝ }
-    ensures { λ r. ⌜ r ≡ foundOf (placeIn isFree (bookOf (now (book .entry)) .entries) from to) ⌝ }
+    requires { ⌜ (from ≤ to) × (to ≤ told book .sizes .n) ⌝ }
+    ensures { λ r. ⌜ r ≡ foundOf (placeIn isFree (told (book .entry) .entries) from to) ⌝ }
 {
     let mut p = from;
     while p < to {
@@ -54,8 +54,8 @@ fn first_free(book: &[u8], from: u16, to: u16) -> Found
 // The first free block from the cursor up, going round.
 pub fn find_free(book: &[u8]) -> Found
     requires { ⌜ Holds (now book) ⌝ }
-    requires { ⌜ bookOf (now book) .cursor < bookOf (now book) .sizes .n ⌝ }
-    ensures { λ r. ⌜ r ≡ foundOf (findFree (bookOf (now (book .entry)) .entries) (bookOf (now (book .entry)) .cursor)) ⌝ }
+    requires { ⌜ told book .cursor < told book .sizes .n ⌝ }
+    ensures { λ r. ⌜ r ≡ foundOf (findFree (told (book .entry) .entries) (told (book .entry) .cursor)) ⌝ }
 {
     let cursor = header::cursor(book);
     let n = header::blocks(book);

@@ -7,7 +7,7 @@ ghost use Rattle.words.specs.Lists.{same};
 ghost use Rattle.list.specs.Changes.{changeAt};
 ghost use Rattle.list.specs.Answers.{Whole};
 ghost use Rattle.book.specs.Book.{entryAt};
-ghost use Rattle.book.specs.Layout.{bookOf, Holds, Is};
+ghost use Rattle.book.specs.Layout.{told, Holds, Is};
 ghost use Rattle.model.specs.Pool.{poolSize};
 ghost use Rattle.index.specs.Indexed.{Indexed};
 ghost use Rattle.mover.specs.Working.{heldBlock, Job, Standing};
@@ -47,9 +47,9 @@ fn same_block(
 ) -> bool
     requires { ⌜ Holds (now book) ⌝ }
     requires { ⌜ Whole (now list) shape × (i < shape .changes) ⌝ }
-    requires { ⌜ (p .0 < bookOf (now book) .sizes .n) × (length (now pool) ≡ poolSize (bookOf (now book) .sizes .n)) ⌝ }
-    requires { ⌜ (entryAt (bookOf (now book) .entries) (p .0) .held ≡ false → getD (now by) (p .0) 0 < shape .changes) ⌝ }
-    ensures { λ r. ⌜ r ≡ same (heldBlock (bookOf (now (book .entry)) .entries) (now (by .entry)) (now (list .entry)) (now (pool .entry)) (p .0)) (changeAt (now (list .entry)) i .block) ⌝ }
+    requires { ⌜ (p .0 < told book .sizes .n) × (length (now pool) ≡ poolSize (told book .sizes .n)) ⌝ }
+    requires { ⌜ (entryAt (told book .entries) (p .0) .held ≡ false → getD (now by) (p .0) 0 < shape .changes) ⌝ }
+    ensures { λ r. ⌜ r ≡ same (heldBlock (told (book .entry) .entries) (now (by .entry)) (now (list .entry)) (now (pool .entry)) (p .0)) (changeAt (now (list .entry)) i .block) ⌝ }
 {
     let block = list::block_of(list, shape, i);
     let at = p.0 as usize;
@@ -74,11 +74,11 @@ fn take_block(
 )
     requires { ⌜ Holds (now work) ⌝ }
     requires { ⌜ Whole (now list) shape × (i < shape .changes) ⌝ }
-    requires { ⌜ (p .0 < bookOf (now work) .sizes .n) × (entryAt (bookOf (now work) .entries) (p .0) .held ≡ false) ⌝ }
-    requires { ⌜ Indexed (bookOf (now work) .entries) (now heads) (now nexts) ⌝ }
-    ensures { λ _. ⌜ Is (now (work .exit)) (takenBook (changeAt (now (list .entry)) i .print) (p .0) (bookOf (now (work .entry)))) ⌝ }
+    requires { ⌜ (p .0 < told work .sizes .n) × (entryAt (told work .entries) (p .0) .held ≡ false) ⌝ }
+    requires { ⌜ Indexed (told work .entries) (now heads) (now nexts) ⌝ }
+    ensures { λ _. ⌜ Is (now (work .exit)) (takenBook (changeAt (now (list .entry)) i .print) (p .0) (told (work .entry))) ⌝ }
     ensures { λ _. ⌜ now (by .exit) ≡ set (now (by .entry)) (p .0) i ⌝ }
-    ensures { λ _. ⌜ Indexed (bookOf (now (work .exit)) .entries) (now (heads .exit)) (now (nexts .exit)) ⌝ }
+    ensures { λ _. ⌜ Indexed (told (work .exit) .entries) (now (heads .exit)) (now (nexts .exit)) ⌝ }
 {
     hold(work, heads, nexts, p, list::print_of(list, shape, i));
     let n = header::blocks(work);
@@ -101,11 +101,11 @@ pub fn place(
     t: Tally,
 ) -> Placed
     requires { ⌜ Holds (now book) × Holds (now work) ⌝ }
-    requires { ⌜ Job (bookOf (now book)) (now pool) (now list) shape × (i < shape .changes) ⌝ }
-    requires { ⌜ Standing (bookOf (now book)) (bookOf (now work)) (now by) t i i ⌝ }
-    requires { ⌜ Indexed (bookOf (now work) .entries) (now heads) (now nexts) ⌝ }
-    ensures { λ r. ⌜ PlacedBy (bookOf (now (book .entry))) (now (pool .entry)) (now (list .entry)) i (now (work .entry)) (now (by .entry)) t r (now (work .exit)) (now (by .exit)) ⌝ }
-    ensures { λ _. ⌜ Indexed (bookOf (now (work .exit)) .entries) (now (heads .exit)) (now (nexts .exit)) ⌝ }
+    requires { ⌜ Job (told book) (now pool) (now list) shape × (i < shape .changes) ⌝ }
+    requires { ⌜ Standing (told book) (told work) (now by) t i i ⌝ }
+    requires { ⌜ Indexed (told work .entries) (now heads) (now nexts) ⌝ }
+    ensures { λ r. ⌜ PlacedBy (told (book .entry)) (now (pool .entry)) (now (list .entry)) i (now (work .entry)) (now (by .entry)) t r (now (work .exit)) (now (by .exit)) ⌝ }
+    ensures { λ _. ⌜ Indexed (told (work .exit) .entries) (now (heads .exit)) (now (nexts .exit)) ⌝ }
 {
     let held = find_held(work, heads, nexts, list::prints(list, shape), i);
     let Found::At(q) = held else {

@@ -1,6 +1,6 @@
 // What the entries of a book come to, in one pass.
 ghost use mathlib.Core.Path.{_≡_};
-ghost use Rattle.book.specs.Layout.{bookOf, Holds};
+ghost use Rattle.book.specs.Layout.{told, Holds};
 ghost use Rattle.pages.specs.Counts.{countsOf, counted, Few};
 use book::entry;
 use book::header;
@@ -47,7 +47,7 @@ fn count_entry(t: Counts, held: bool, count: u8) -> Counts
 
 pub fn count_entries(book: &[u8]) -> Counts
     requires { ⌜ Holds (now book) ⌝ }
-    ensures { λ r. ⌜ (r ≡ countsOf (bookOf (now (book .entry)) .entries)) × Few 4096 r ⌝ }
+    ensures { λ r. ⌜ (r ≡ countsOf (told (book .entry) .entries)) × Few 4096 r ⌝ }
 {
     let n = header::blocks(book);
     let mut t = Counts {

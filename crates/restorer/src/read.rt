@@ -3,7 +3,7 @@ ghost use mathlib.Core.Path.{_≡_};
 ghost use Prim.Native.Nat.{_*_, _<_};
 ghost use Rattle.words.specs.Blocks.{blockSize};
 ghost use Rattle.book.specs.Book.{volumes};
-ghost use Rattle.book.specs.Layout.{bookOf, Holds};
+ghost use Rattle.book.specs.Layout.{told, Holds};
 ghost use Rattle.book.specs.Formed.{Formed};
 ghost use Rattle.model.specs.OnBytes.{readBytes, readNumberBytes, blockAfter};
 ghost use Rattle.restorer.specs.Contracts.{Located};
@@ -33,7 +33,7 @@ enum Sought {
 // Numbers 5, 15 and 16.
 fn kept_backup(book: &[u8], v: u16, k: u16) -> Kept
     requires { ⌜ Holds (now book) ⌝ }
-    ensures { λ r. ⌜ KeptIs (bookOf (now (book .entry))) v k r ⌝ }
+    ensures { λ r. ⌜ KeptIs (told (book .entry)) v k r ⌝ }
 {
     if v > 7 {
         return Kept::Refused(5);
@@ -60,7 +60,7 @@ fn kept_backup(book: &[u8], v: u16, k: u16) -> Kept
 fn block_before(book: &[u8], v: u16, at: u16, lbn: LBN) -> Sought
     requires { ⌜ Formed (now book) ⌝ }
     requires { ⌜ v < volumes ⌝ }
-    ensures { λ r. ⌜ soughtOf r ≡ soughtFrom (bookOf (now (book .entry))) v at (lbn .0) ⌝ }
+    ensures { λ r. ⌜ soughtOf r ≡ soughtFrom (told (book .entry)) v at (lbn .0) ⌝ }
 {
     if lbn.0 >= header::cells(book) {
         return Sought::Refused(17);

@@ -1,5 +1,5 @@
 -- `collector::collect::collect` meets its contract: each way out is one of the definition.
-use mathlib.Core.Path.{_≡_, sym, _∙_}
+use mathlib.Core.Path.{_≡_, refl, sym, _∙_}
 use native.Mathlib.Omega.{arith}
 use borrow.Author.Needs.{needs}
 use denote.Ref.{now}
@@ -18,16 +18,16 @@ holds : (c : tie.Else1) → Holds (now (c .before .before .before .before .args 
 holds c = holds-form _ (λ i. c .before .before .before .slice-known .given i .fits) (formed c)
 
 returns : tie.Need-returns
-returns c = collect-misformed _ _ _ _ (c .before .form-number .ensures) (c .if1 .taken)
+returns c = collect-misformed _ _ _ refl refl _ (c .before .form-number .ensures) (c .if1 .taken)
 
 returns-2 : tie.Need-returns-2
-returns-2 c = collect-late _ _ _ (formed (c .before)) (omega arith)
+returns-2 c = collect-late _ _ _ refl refl (formed (c .before)) (omega arith)
 
 day-requires : tie.Need-day-requires
 day-requires c κs = holds (c .before .before)
 
 returns-3 : tie.Need-returns-3
-returns-3 c = collect-early _ _ _ (formed (c .before .before .before .before)) (omega arith)
+returns-3 c = collect-early _ _ _ refl refl (formed (c .before .before .before .before)) (omega arith)
 
 sweep-requires : tie.Need-sweep-requires
 sweep-requires c κs = holds (c .before .before .before .before .before)
