@@ -12,7 +12,7 @@ use Rattle.book.specs.Layout.{bPlace, uPlace, dayPlace, slotsFrom, slotSize, si
 use Rattle.book.specs.Form.{secondOk, slotOk, pairsOk}
 use Rattle.form.specs.Days.{dayOk, daysFrom}
 
--- the slot at a place, after those passed: its second byte, its volume and day, its place among the days, its first record
+-- the slot at an offset, after those passed: its second byte, its volume and day, its day after the others, its first record
 unfoldable pub slotHere : List ℕ → ℕ → List ℕ → ℕ → ℕ → Bool
 slotHere b at lasts prev next =
     eqb (getD b (at + 1) 0) 0

@@ -17,6 +17,10 @@ use book::place::VOLUMES;
 use book::sizes::size;
 use book::sizes::sizes_ok;
 use words::UNMAPPED;
+use words::limits::MAX_DAY;
+use words::limits::MAX_EXPIRY;
+use words::limits::MAX_RETENTION;
+use words::refusals;
 use words::u16_at;
 use words::wide;
 ghost use Prim.Native.Nat.{_+_, _*_, _≤_, _<_};
@@ -24,7 +28,8 @@ ghost use mathlib.Core.Path.{_≡_};
 ghost use mathlib.Core.Bool.{_&&_};
 ghost use lib.ListN.{length};
 ghost use Rattle.words.specs.Numbers.{num};
-ghost use Rattle.book.specs.Layout.{nPlace, lPlace, dayPlace, headerSize, entriesFrom, entryPlace, entrySize, slotsFrom, slotSize, recSize, entryOf, recOf, sizesOf};
+ghost use Rattle.book.specs.Layout.{nPlace, lPlace, dayPlace, headerSize, entriesFrom, entryPlace, entrySize};
+ghost use Rattle.book.specs.Layout.{slotsFrom, slotSize, recSize, entryOf, recOf, sizesOf};
 ghost use Rattle.book.specs.Form.{layoutOk, stateOk, entryOk, pbnOk, recOk, formNumber};
 ghost use Rattle.book.specs.Formed.{Laid};
 ghost use Rattle.form.specs.Passes.{blocksOk, slotsOk, journalOk};
@@ -66,7 +71,7 @@ fn head_ok(b: &[u8]) -> bool
 {
     let slots = u16_at(b, B_PLACE) <= u16_at(b, S_PLACE);
     let records = u16_at(b, U_PLACE) <= u16_at(b, J_PLACE);
-    let day = u16_at(b, DAY_PLACE) <= 60000;
+    let day = u16_at(b, DAY_PLACE) <= MAX_DAY;
     let cursor = u16_at(b, CURSOR_PLACE) < u16_at(b, N_PLACE);
     slots & records & day & cursor & (u16_at(b, ZERO_PLACE) == 0)
 }
@@ -78,7 +83,7 @@ fn retentions_ok(b: &[u8]) -> bool
     let mut good = true;
     let mut v = 0;
     while v < VOLUMES {
-        good = good & (u16_at(b, HEADER_SIZE + v * 2) <= 5000);
+        good = good & (u16_at(b, HEADER_SIZE + v * 2) <= MAX_RETENTION);
         v += 1;
     }
     good
@@ -93,7 +98,7 @@ fn entry_ok(b: &[u8], p: usize) -> bool
     if state > 1 {
         return false;
     }
-    if u16_at(b, at + 2) > 65000 {
+    if u16_at(b, at + 2) > MAX_EXPIRY {
         return false;
     }
     if state == 1 {
@@ -139,14 +144,15 @@ fn maps_ok(b: &[u8], from: usize, cells: usize, n: u16) -> bool
     good
 }
 
-// The slot at `at`, after those passed: each volume's last day + 1, the last slot's day, and the record where it has to start.
+// The slot at `at`, after those passed: each volume's last day + 1, the last slot's day, and the record where it has
+// to start.
 fn slot_ok(b: &[u8], at: usize, today: u16, lasts: &[u16; 8], prev: u16, next: usize) -> bool
     requires { ⌜ (entriesFrom ≤ length (now b)) × (at + slotSize ≤ length (now b)) ⌝ }
     requires { ⌜ today ≡ num (now b) dayPlace ⌝ }
     ensures { λ r. ⌜ r ≡ slotHere (now (b .entry)) at (now (lasts .entry)) prev next ⌝ }
 {
     let v = wide(b[at]) as usize;
-    if v > 7 {
+    if v >= VOLUMES {
         return false;
     }
     let day = u16_at(b, at + 2);
@@ -246,24 +252,25 @@ fn journal_ok(b: &[u8]) -> bool
         & zeros(b, from + used * REC_SIZE, b.len())
 }
 
-// 0 for a book in form; 1 where its length, layout number or sizes break the layout, 2 where it is otherwise out of form.
+// 0 for a book in form; 1 where its length, layout number or sizes break the layout, 2 where it is otherwise out of
+// form.
 pub fn form_number(book: &[u8]) -> u16
     ensures { λ r. ⌜ r ≡ formNumber (now (book .entry)) ⌝ }
 {
     if !layout_ok(book) {
-        return 1;
+        return refusals::BAD_LAYOUT;
     }
     if !head_ok(book) {
-        return 2;
+        return refusals::BAD_FORM;
     }
     if !blocks_ok(book) {
-        return 2;
+        return refusals::BAD_FORM;
     }
     if !slots_ok(book) {
-        return 2;
+        return refusals::BAD_FORM;
     }
     if !journal_ok(book) {
-        return 2;
+        return refusals::BAD_FORM;
     }
     0
 }

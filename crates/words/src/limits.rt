@@ -11,6 +11,9 @@ pub const MAX_RETENTION: u16 = 5000;
 
 pub const MAX_DAY: u16 = 60000;
 
+// An expiry is a slot's day plus a retention.
+pub const MAX_EXPIRY: u16 = MAX_DAY + MAX_RETENTION;
+
 pub const MAX_COUNT: u16 = 255;
 
 // Volumes are 0 to LAST_VOLUME.

@@ -7,6 +7,9 @@ use Rattle.form.proofs.CheckLaws.{bad-state, late-expiry, held-entry, c
 use Rattle.form.proofs.in_form.entry_ok.Statement.{statement}
 use Rattle.form.proofs.in_form.entry_ok.Tie as tie
 
+abbrev start : tie.Else2 → tie.Start
+start c = c .before .before .before .before .before
+
 returns : tie.Need-returns
 returns c =
     let s = c .before .before .before in
@@ -19,17 +22,17 @@ returns-2 c =
 
 returns-3 : tie.Need-returns-3
 returns-3 c =
-    let s = c .before .before .before .before .before .before in
+    let s = start (c .before) in
     held-entry (now (s .args .b)) (s .args .p) (s .pre) (omega arith) (omega arith)
 
 returns-4 : tie.Need-returns-4
 returns-4 c =
-    let s = c .before .before .before .before .before .before .before .before in
+    let s = start (c .before .before .before) in
     counted-free (now (s .args .b)) (s .args .p) (s .pre) (omega arith) (omega arith) (omega arith)
 
 returns-5 : tie.Need-returns-5
 returns-5 c =
-    let s = c .before .before .before .before .before .before .before .before .before in
+    let s = start (c .before .before .before .before) in
     c .zeros .ensures ∙ free-entry (now (s .args .b)) (s .args .p) (s .pre) (omega arith) (omega arith) (omega arith)
 
 pub entry-ok-spec : {M : Type 1} → statement M

@@ -7,10 +7,19 @@ use Rattle.form.proofs.in_form.head_ok.Tie as tie
 returns : tie.Need-returns
 unfolding headOk
 returns c =
-    let d2 = c .before .before in
-    let d4 = d2 .before .before in
-    let d6 = d4 .before .before in
-    rw (d6 .before .u16-at .ensures, d6 .u16-at2 .ensures, d4 .before .u16-at3 .ensures, d4 .u16-at4 .ensures, d2 .before .u16-at5 .ensures, d2 .u16-at6 .ensures, c .before .u16-at7 .ensures, c .u16-at8 .ensures)
+    let day = c .before .before .before in
+    let records = day .before in
+    let slots = records .before .before in
+    rw (
+      slots .u16-at2 .ensures,
+      slots .before .u16-at .ensures,
+      records .u16-at4 .ensures,
+      records .before .u16-at3 .ensures,
+      day .u16-at5 .ensures,
+      c .before .before .u16-at6 .ensures,
+      c .before .u16-at7 .ensures,
+      c .u16-at8 .ensures,
+    )
 
 pub head-ok-spec : {M : Type 1} → statement M
 head-ok-spec =

@@ -23,7 +23,8 @@ unfolding mapsOk
 loop-again c =
     let l = c .before .before .before .loop in
     let a = c .before .before .before .before .before .args in
-    (omega arith, each-grow _ _ _ (omega arith) (l .inv .1) (c .pbn-ok .ensures ∙ ap (pbnOk (a .n)) (c .before .u16-at .ensures)))
+    let test = c .pbn-ok .ensures ∙ ap (pbnOk (a .n)) (c .before .u16-at .ensures) in
+    (omega arith, each-grow _ _ _ (omega arith) (l .inv .1) test)
 
 returns : tie.Need-returns Inv-loop μ-loop
 returns c =

@@ -8,8 +8,9 @@ use Rattle.form.proofs.in_form.rec_ok.Tie as tie
 returns : tie.Need-returns
 returns c =
     let s = c .before .before .before .before .before in
-    rec-tests (now (s .args .b)) (s .args .at) (s .pre .1 .0) (s .pre .1 .1)
-    (c .before .before .before .u16-at .ensures) (c .before .before .u16-at2 .ensures) (c .u16-at3 .ensures) (c .before .pbn-ok .ensures)
+    let lbn = c .before .before .before in
+    rec-tests (now (s .args .b)) (s .args .at) (s .pre .1 .0) (s .pre .1 .1) (lbn .u16-at .ensures)
+    (c .before .before .u16-at2 .ensures) (c .u16-at3 .ensures) (c .before .pbn-ok .ensures)
 
 pub rec-ok-spec : {M : Type 1} → statement M
 rec-ok-spec =

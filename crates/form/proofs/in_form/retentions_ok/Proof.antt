@@ -24,7 +24,8 @@ loop-holds c = (omega arith, sym (each-none _ _ _ (omega arith)))
 loop-again : tie.Need-loop-again Inv-loop μ-loop
 unfolding retentionOk
 loop-again c =
-    (omega arith, each-grow _ _ _ (omega arith) (c .before .before .loop .inv .1) (ap (λ (r : ℕ). leb r 5000) (c .u16-at .ensures)))
+    let test = ap (λ (r : ℕ). leb r 5000) (c .u16-at .ensures) in
+    (omega arith, each-grow _ _ _ (omega arith) (c .before .before .loop .inv .1) test)
 
 returns : tie.Need-returns Inv-loop μ-loop
 unfolding retentionsOk

@@ -10,14 +10,16 @@ use Rattle.form.proofs.in_form.slot_ok.Tie as tie
 returns : tie.Need-returns
 returns c =
     let s = c .before .before .before .before in
-    sym (slot-above (now (s .args .b)) (s .args .at) (now (s .args .lasts)) (s .args .prev) (s .args .next) (omega arith))
+    let a = s .args in
+    sym (slot-above (now (a .b)) (a .at) (now (a .lasts)) (a .prev) (a .next) (omega arith))
 
 returns-2 : tie.Need-returns-2
 returns-2 c =
     let u = c .before .before in
     let w = u .before .before .before .before in
     let s = w .before .before .before in
-    slot-tests (now (s .args .b)) (s .args .at) (now (s .args .lasts)) (s .args .prev) (s .args .next) (omega arith) (w .wide .ensures .0)
+    let a = s .args in
+    slot-tests (now (a .b)) (a .at) (now (a .lasts)) (a .prev) (a .next) (omega arith) (w .wide .ensures .0)
     (u .before .before .u16-at .ensures) (u .before .u16-at2 .ensures) (u .u16-at3 .ensures) (s .pre .1)
 
 pub slot-ok-spec : {M : Type 1} → statement M

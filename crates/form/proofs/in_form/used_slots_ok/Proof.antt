@@ -16,7 +16,8 @@ use Rattle.form.proofs.in_form.used_slots_ok.Statement.{statement}
 use Rattle.form.proofs.in_form.used_slots_ok.Tie as tie
 
 abbrev Inv-loop : tie.InvT-loop
-Inv-loop b from used records today lasts₀ prev₀ next₀ q₀ lasts prev next q = (q ≤ used) × (next ≤ q * 65535) × (slotsLeft b 0 noLasts 0 0 ≡ slotsLeft b q lasts prev next)
+Inv-loop b from used records today lasts₀ prev₀ next₀ q₀ lasts prev next q =
+    (q ≤ used) × (next ≤ q * 65535) × (slotsLeft b 0 noLasts 0 0 ≡ slotsLeft b q lasts prev next)
 
 abbrev μ-loop : tie.MeasureT-loop
 μ-loop b from used records today lasts₀ prev₀ next₀ q₀ lasts prev next q = used - q
@@ -41,7 +42,9 @@ returns c =
     let m = c .before .before .before .before in
     let s = m .before .before in
     let l = m .loop in
-    sym (l .inv .2 ∙ slots-stop (now (s .args .b)) (l .q) (l .lasts) (l .prev) (l .next) (omega arith) (ap (λ (f : ℕ). f + l .q * 8) (s .pre .start)) (there c))
+    let at = ap (λ (f : ℕ). f + l .q * 8) (s .pre .start) in
+    let no = slots-stop (now (s .args .b)) (l .q) (l .lasts) (l .prev) (l .next) (omega arith) at (there c) in
+    sym (l .inv .2 ∙ no)
 
 here : (c : tie.Else1 Inv-loop μ-loop)
     → let m = c .before .before .before .before in
@@ -51,8 +54,9 @@ here c = passed (c .before .slot-ok .ensures) (c .if1 .left)
 
 bounds : (c : tie.Else1 Inv-loop μ-loop)
     → let m = c .before .before .before .before in
-    let a = m .before .before .args in
-    (getD (now (a .b)) (a .from + m .loop .q * 8) 0 < 8) × (num (now (a .b)) (a .from + m .loop .q * 8 + 2) ≤ num (now (a .b)) dayPlace)
+    let b = now (m .before .before .args .b) in
+    let at = m .before .before .args .from + m .loop .q * 8 in
+    (getD b at 0 < 8) × (num b (at + 2) ≤ num b dayPlace)
 bounds c = slot-bounds _ _ _ _ _ (here c)
 
 add-lasts : tie.Need-add-lasts Inv-loop μ-loop
@@ -67,7 +71,8 @@ loop-again c =
     let m = d .before .before .before .before in
     let s = m .before .before in
     let l = m .loop in
-    let more = slots-more (now (s .args .b)) (l .q) (l .lasts) (l .prev) (l .next) (omega arith) (ap (λ (f : ℕ). f + l .q * 8) (s .pre .start)) (here d)
+    let at = ap (λ (f : ℕ). f + l .q * 8) (s .pre .start) in
+    let more = slots-more (now (s .args .b)) (l .q) (l .lasts) (l .prev) (l .next) (omega arith) at (here d)
     (c .before .wide .ensures .0) (c .before .before .before .u16-at .ensures) (c .u16-at2 .ensures)
     in
     (omega arith, omega arith, l .inv .2 ∙ more)
