@@ -4,6 +4,7 @@ ghost use Rattle.buffers.specs.Buffers.{buffersNumber};
 use book::header;
 use form::form_number;
 use words::BLOCK_SIZE;
+use words::refusals;
 
 // Numbers 1 to 3, or 0.
 pub fn buffers_number(book: &[u8], pool: &[u8]) -> u16
@@ -14,7 +15,7 @@ pub fn buffers_number(book: &[u8], pool: &[u8]) -> u16
         return number;
     }
     if pool.len() != header::blocks(book) as usize * BLOCK_SIZE {
-        return 3;
+        return refusals::BAD_POOL;
     }
     0
 }

@@ -11,10 +11,14 @@ use Rattle.buffers.proofs.BuffersLaws.{buffers-form, buffers-pool, buff
 use Rattle.buffers.proofs.buffers_number.Statement.{statement}
 use Rattle.buffers.proofs.buffers_number.Tie as tie
 
-in-form : (c : tie.Else1) → formNumber (c .before .before .before .before .args .book .now) ≡ 0
+abbrev start : tie.Else1 → tie.Start
+start c = c .before .before .before .before
+
+in-form : (c : tie.Else1) → formNumber (start c .args .book .now) ≡ 0
 in-form c = sym (c .before .form-number .ensures) ∙ c .if1 .left
 
-size : (c : tie.After-blocks2) → c .blocks2 .result * blockSize ≡ bookOf (c .before .before .before .before .before .args .book .now) .sizes .n * blockSize
+size : (c : tie.After-blocks2)
+    → c .blocks2 .result * blockSize ≡ bookOf (start (c .before) .args .book .now) .sizes .n * blockSize
 size c = ap (λ (n : ℕ). n * blockSize) (c .blocks2 .ensures)
 
 returns : tie.Need-returns
