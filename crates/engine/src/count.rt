@@ -10,7 +10,7 @@ pub extern "C" fn aspen_count(
     waiting: &mut u16,
     references: &mut u32,
 ) -> u16
-    ensures { λ r. ⌜ CountedUp (now (book .entry)) (now (blocks .entry)) (now (held .entry)) (now (waiting .entry)) (now (references .entry)) r (now (blocks .exit)) (now (held .exit)) (now (waiting .exit)) (now (references .exit)) ⌝ }
+    ensures { λ r. ⌜ CountedUp book blocks held waiting references r ⌝ }
 {
     count(book, blocks, held, waiting, references)
 }

@@ -3,8 +3,10 @@ use Prim.Native.Nat.{ℕ}
 use mathlib.Core.Path.{_≡_}
 use mathlib.Core.List.{List}
 use lib.Dec.{eqb}
+use denote.Ref.{now}
 use Rattle.words.specs.Choice.{if_then_else_}
-use Rattle.book.specs.Layout.{bookOf}
+use Rattle.words.specs.Lent.{Lent}
+use Rattle.book.specs.Layout.{told}
 use Rattle.book.specs.Form.{formNumber}
 use Rattle.pages.specs.Tally
 
@@ -12,9 +14,14 @@ use Rattle.pages.specs.Tally
 abbrev pub answered : List ℕ → ℕ → ℕ → ℕ
 answered b new old = if eqb (formNumber b) 0 then new else old
 
-pub record CountedUp (b : List ℕ) (blocks held waiting references r blocks′ held′ waiting′ references′ : ℕ) : Type 0 where
-  pub number : r ≡ formNumber b
-  pub blocksAfter : blocks′ ≡ answered b (Tally.blocks (bookOf b)) blocks
-  pub heldAfter : held′ ≡ answered b (Tally.held (bookOf b .entries)) held
-  pub waitingAfter : waiting′ ≡ answered b (Tally.waiting (bookOf b .entries)) waiting
-  pub referencesAfter : references′ ≡ answered b (Tally.references (bookOf b .entries)) references
+-- what an answer is after the call
+abbrev pub answer : Lent (List ℕ) → ℕ → Lent ℕ → ℕ
+answer book new old = answered (now (book .entry)) new (now (old .entry))
+
+-- r is what the call returns
+pub record CountedUp (book : Lent (List ℕ)) (blocks held waiting references : Lent ℕ) (r : ℕ) : Type 0 where
+  pub number : r ≡ formNumber (now (book .entry))
+  pub blocksAfter : now (blocks .exit) ≡ answer book (Tally.blocks (told (book .entry))) blocks
+  pub heldAfter : now (held .exit) ≡ answer book (Tally.held (told (book .entry) .entries)) held
+  pub waitingAfter : now (waiting .exit) ≡ answer book (Tally.waiting (told (book .entry) .entries)) waiting
+  pub referencesAfter : now (references .exit) ≡ answer book (Tally.references (told (book .entry) .entries)) references

@@ -3,7 +3,8 @@ ghost use Rattle.pages.specs.Counted.{CountedUp};
 use super::counts::count_entries;
 use form::form_number;
 
-// The number that refuses the book, or 0; then the four answers are written. Unlike the program tally, it takes books of every length.
+// The number that refuses the book, or 0; then the four answers are written. Unlike the program tally, it takes books
+// of every length.
 pub fn count(
     book: &[u8],
     blocks: &mut u16,
@@ -11,7 +12,7 @@ pub fn count(
     waiting: &mut u16,
     references: &mut u32,
 ) -> u16
-    ensures { λ r. ⌜ CountedUp (now (book .entry)) (now (blocks .entry)) (now (held .entry)) (now (waiting .entry)) (now (references .entry)) r (now (blocks .exit)) (now (held .exit)) (now (waiting .exit)) (now (references .exit)) ⌝ }
+    ensures { λ r. ⌜ CountedUp book blocks held waiting references r ⌝ }
 {
     let refusal = form_number(book);
     if refusal != 0 {

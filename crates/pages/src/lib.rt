@@ -13,6 +13,7 @@ use counts::Counts;
 use counts::count_entries;
 use form::form_number;
 use line::put_line;
+use words::refusals;
 
 const LONGEST: usize = 65536;
 
@@ -21,7 +22,7 @@ fn refusal(input: &[u8]) -> u32
     ensures { λ r. ⌜ r ≡ tallyNumber (now (input .entry)) ⌝ }
 {
     if input.len() > LONGEST {
-        return 1;
+        return refusals::BAD_LAYOUT as u32;
     }
     form_number(input) as u32
 }

@@ -1,5 +1,5 @@
 -- `count` meets its contract, by what counting leaves on each way out.
-use mathlib.Core.Path.{_≡_, sym, _∙_}
+use mathlib.Core.Path.{_≡_, refl, sym, _∙_}
 use denote.Ref.{now}
 use borrow.Author.Needs.{needs}
 use Rattle.book.specs.Form.{formNumber}
@@ -16,7 +16,7 @@ holds : (c : tie.Else1) → Holds (now (c .before .before .before .args .book))
 holds c = holds-form _ (λ i. c .before .before .shared-slice-known .given i .fits) (in-form c)
 
 returns : tie.Need-returns
-returns c = counted-refused _ (c .before .form-number .ensures) (c .if1 .taken)
+returns c = counted-refused _ _ _ _ _ refl refl refl refl (c .before .form-number .ensures) (c .if1 .taken)
 
 count-entries-requires : tie.Need-count-entries-requires
 count-entries-requires c κs = holds c
@@ -27,7 +27,8 @@ blocks-requires c κs = holds (c .before)
 returns-2 : tie.Need-returns-2
 returns-2 c =
     let k = c .before .before in
-    counted-up _ (in-form (k .before .before)) (k .blocks2 .ensures) (k .before .count-entries .ensures .0)
+    let counts = k .before .count-entries .ensures .0 in
+    counted-up _ _ _ _ _ (in-form (k .before .before)) (k .blocks2 .ensures) counts refl refl refl
 
 pub count-spec : {M : Type 1} → statement M
 count-spec =

@@ -62,19 +62,23 @@ module _ (t : ℕ) where
   room c =
       let k = c .before .before in
       let s = k .before .before .before .before in
-      omega (arith, k .put-decimal .ensures .place, k .put-decimal .kept .0, count-more (s .args .n) (omega arith), s .pre .1)
+      let digits = count-more (s .args .n) (omega arith) in
+      omega (arith, k .put-decimal .ensures .place, k .put-decimal .kept .0, digits, s .pre .1)
 
   slice-write-page-2 : lts.Need-slice-write-page-2 (asked t, reads.Post) (given t) reads.Post
   slice-write-page-2 c = room c
 
   add-result-2 : lts.Need-add-result-2 (asked t, reads.Post) (given t) reads.Post
-  add-result-2 c = omega (arith, room c, c .before .before .put-decimal .kept .0, c .before .before .before .before .before .before .good .0 .0)
+  add-result-2 c =
+      let k = c .before .before in
+      omega (arith, room c, k .put-decimal .kept .0, k .before .before .before .before .good .0 .0)
 
   returns-2 : lts.Need-returns-2 (asked t, reads.Post) (given t) reads.Post
   returns-2 c =
       let k = c .before .before in
       let s = k .before .before .before .before in
-      rw (decimal-more (s .args .n) (omega arith)) (stored-append (k .put-decimal .ensures) (stored-one (48 + s .args .n % 10)))
+      rw (decimal-more (s .args .n) (omega arith))
+      (stored-append (k .put-decimal .ensures) (stored-one (48 + s .args .n % 10)))
 
   same-length-2 : lts.Need-same-length-2 (asked t, reads.Post) (given t) reads.Post
   same-length-2 c = ap length (returns-2 c .list) ∙ simp length-sets
