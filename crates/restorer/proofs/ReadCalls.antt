@@ -5,6 +5,8 @@ use mathlib.Core.Logic.{⊎-elim}
 use mathlib.Core.List.{List, []}
 use native.Mathlib.Omega.{arith}
 use lib.ListN.{length}
+use denote.Ref.{now}
+use Rattle.words.specs.Lent.{Lent}
 use Rattle.words.proofs.Accepted.{unless-accepted}
 use Rattle.words.specs.Blocks.{blockSize}
 use Rattle.words.specs.Outcome.{Outcome, refused, accepted, andThen, unless}
@@ -71,12 +73,6 @@ module _ (b pool : List ℕ) (v k lbn : ℕ) where
         go (At p) = refl
         go (Refused n) = refl
 
-    pub located-refused : (at n : ℕ) → s ≡ Refused n → Located b pool v k lbn at (soughtNumber s) at
-    located-refused at n h = record { number = number-is; answer = rw (place-sought, ← e, h) }
-
-    pub located-at : (at : ℕ) (p : PBN) → s ≡ At p → Located b pool v k lbn at 0 (p .0 * blockSize)
-    located-at at p h = record { number = ap soughtNumber (sym h) ∙ number-is; answer = rw (place-sought, ← e, h) }
-
     pub block-refused : (n : ℕ) → s ≡ Refused n → [] ≡ blockAfter (readBytes b pool v k lbn)
     block-refused n h = rw (read-sought, ← e, h)
 
@@ -94,3 +90,26 @@ module _ (b pool : List ℕ) (v k lbn : ℕ) where
         let size = pool-size b pool (u .0) in
         let mapped = number-mapped (bookOf b) v k lbn (t .0) in
         ⊎-elim (λ l. omega arith) (λ n. absurd (mapped n)) (image-in (bookOf b) (book-parts (bookOf b) (book-form b (w .0) .1)) v k lbn)
+
+-- ---- the call that gives an offset
+
+module _ (book pool : Lent (List ℕ)) (v k lbn : ℕ) (at : Lent ℕ) (s : Sought)
+    (e : soughtOf s ≡ soughtBytes (now (book .entry)) (now (pool .entry)) v k lbn) where
+  abbrev b : List ℕ
+  b = now (book .entry)
+
+  abbrev p : List ℕ
+  p = now (pool .entry)
+
+  pub located-refused : {r : ℕ} (n : ℕ) → s ≡ Refused n → r ≡ soughtNumber s → now (at .exit) ≡ now (at .entry)
+      → Located book pool v k lbn at r
+  located-refused n h q same = record {
+    number = q ∙ number-is b p v k lbn s e;
+    answer = rw (place-sought b p v k lbn, ← e, h) same;
+  }
+
+  pub located-at : (q : PBN) → s ≡ At q → now (at .exit) ≡ q .0 * blockSize → Located book pool v k lbn at 0
+  located-at q h offset = record {
+    number = ap soughtNumber (sym h) ∙ number-is b p v k lbn s e;
+    answer = rw (place-sought b p v k lbn, ← e, h) offset;
+  }

@@ -22,8 +22,8 @@ pub enum Before {
     Nothing,
 }
 
-// A volume's backups after number k. Slot `at` holds the first of them; where there is none, `at` is past the used slots. The
-// volume lacks `missing` backups to have a number k.
+// A volume's backups after number k. Slot `at` holds the first of them; where there is none, `at` is past the used
+// slots. The volume lacks `missing` backups to have a number k.
 pub struct After {
     pub missing: u16,
     pub at: u16,
@@ -49,7 +49,8 @@ pub fn backups_after(book: &[u8], v: u16, k: u16) -> After
     After { missing, at: used }
 }
 
-// Whether a backup is kept: slot `at` holds the one that replaced it, if any, and the volume keeps it for `days` days after that.
+// Whether a backup is kept: slot `at` holds the one that replaced it, if any, and the volume keeps it for `days` days
+// after that.
 pub fn is_kept(book: &[u8], at: u16, days: u16) -> bool
     requires { ⌜ Holds (now book) ⌝ }
     ensures { λ r. ⌜ r ≡ keptFrom (told (book .entry)) at days ⌝ }
@@ -110,7 +111,8 @@ fn later_before(book: &[u8], v: u16, at: u16, lbn: LBN) -> Before
     Before::Nothing
 }
 
-// The block at an LBN before the volume's backups in the slots from `at` on: the first before among them, else the current map.
+// The block at an LBN before the volume's backups in the slots from `at` on: the first before among them, else the
+// current map.
 pub fn image_at(book: &[u8], v: u16, at: u16, lbn: LBN) -> PBN
     requires { ⌜ Formed (now book) ⌝ }
     requires { ⌜ (v < volumes) × (lbn .0 < told book .sizes .l) ⌝ }
