@@ -11,6 +11,10 @@ use Rattle.book.specs.Book.{Entry, entryAt}
 abbrev pub poolBlocks : ℕ
 poolBlocks = 4096
 
+-- a number for each of them
+abbrev pub OfPool : List ℕ → Type 0
+OfPool a = length a ≡ poolBlocks
+
 -- a′ is a with the block numbers cs counted
 pub record Counted (a cs a′ : List ℕ) : Type 0 where
   pub long : length a′ ≡ length a

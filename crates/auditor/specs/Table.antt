@@ -7,14 +7,14 @@ use lib.ListN.{getD, set}
 use Rattle.book.specs.Book.{Rec}
 use Rattle.model.specs.Journal.{Backup}
 
--- the places of a volume, and of all volumes
+-- the cells of a volume, and of all volumes
 abbrev pub rowSize : ℕ
 rowSize = 1024
 
 abbrev pub tableSize : ℕ
 tableSize = 8192
 
--- ---- records replayed in a table, those of a volume from its place o on
+-- ---- records replayed in a table, those of a volume from its first cell o on
 
 abbrev pub cellsAfter : ℕ → List ℕ → List Rec → List ℕ
 cellsAfter o a [] = a

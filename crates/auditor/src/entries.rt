@@ -1,27 +1,27 @@
 // Audit: the entries, once. Each count and each expiry is what was gathered for the block.
-ghost use mathlib.Core.Path.{_≡_};
 ghost use Prim.Native.Nat.{_<_};
 ghost use Rattle.book.specs.Layout.{told};
 ghost use Rattle.book.specs.Formed.{Formed};
-ghost use Rattle.auditor.specs.Entries.{entryMatches, entriesMatch};
+ghost use Rattle.auditor.specs.Contracts.{MatchesEntry, MatchesEntries};
 use book::entry::count;
 use book::entry::expiry;
 use book::header::blocks;
 use words::PBN;
+use words::limits::Table;
 use words::wide;
 
-fn entry_matches(book: &[u8], counts: &[u16; 4096], expiries: &[u16; 4096], p: PBN) -> bool
+fn entry_matches(book: &[u8], counts: &Table, expiries: &Table, p: PBN) -> bool
     requires { ⌜ Formed (now book) ⌝ }
     requires { ⌜ p .0 < told book .sizes .n ⌝ }
-    ensures { λ r. ⌜ r ≡ entryMatches (told (book .entry) .entries) (now (counts .entry)) (now (expiries .entry)) (p .0) ⌝ }
+    ensures { λ r. ⌜ MatchesEntry book counts expiries (p .0) r ⌝ }
 {
     let at = p.0 as usize;
     (wide(count(book, p)) == counts[at]) & (expiry(book, p) == expiries[at])
 }
 
-pub fn entries_match(book: &[u8], counts: &[u16; 4096], expiries: &[u16; 4096]) -> bool
+pub fn entries_match(book: &[u8], counts: &Table, expiries: &Table) -> bool
     requires { ⌜ Formed (now book) ⌝ }
-    ensures { λ r. ⌜ r ≡ entriesMatch (told (book .entry) .entries) (now (counts .entry)) (now (expiries .entry)) (told (book .entry) .sizes .n) ⌝ }
+    ensures { λ r. ⌜ MatchesEntries book counts expiries r ⌝ }
 {
     let n = blocks(book);
     let mut good = true;

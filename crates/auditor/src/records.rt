@@ -1,21 +1,20 @@
-// Audit: the records, once. Each is replayed in a table of all cells and raises the expiry of its before. Where maps and counts are sound, no kept
-// backup names a free block exactly when each backup that still reaches the day has, in the first record of each LBN, a before that is unmapped
-// or held.
+// Audit: the records, once. Each is replayed in a table of all cells and raises the expiry of its before. Where maps
+// and counts are sound, no kept backup names a free block exactly when each backup that still reaches the day has, in
+// the first record of each LBN, a before that is unmapped or held.
 ghost use mathlib.Core.Path.{_≡_};
 ghost use mathlib.Core.Logic.{_⊎_};
-ghost use Prim.Native.Nat.{ℕ, _+_, _≤_, _<_};
+ghost use Prim.Native.Nat.{ℕ, _≤_, _<_};
 ghost use lib.ListN.{length, getD};
-ghost use lib.Seq.{slice};
 ghost use Rattle.words.specs.Blocks.{unmapped};
-ghost use Rattle.book.specs.Book.{volumes, recAt};
+ghost use Rattle.book.specs.Book.{volumes};
 ghost use Rattle.book.specs.Layout.{told};
 ghost use Rattle.book.specs.Formed.{Formed};
 ghost use Rattle.model.specs.Audit.{cellSound};
-ghost use Rattle.model.specs.JournalAt.{backupAt};
-ghost use Rattle.auditor.specs.Counts.{poolBlocks};
-ghost use Rattle.auditor.specs.Records.{notes, RecordTaken, RecordsTaken};
-ghost use Rattle.auditor.specs.Slots.{SlotTaken, JournalTaken};
+ghost use Rattle.auditor.specs.Contracts.{TakesRecord, TakesRecords, TakesSlot, TakesJournal};
+ghost use Rattle.auditor.specs.Counts.{OfPool};
 ghost use Rattle.auditor.specs.Table.{rowSize};
+use super::notes::Cells;
+use super::notes::Stamps;
 use super::notes::meet;
 use super::notes::raise;
 use super::notes::replace;
@@ -27,8 +26,11 @@ use book::record::record_at;
 use book::slot::slot_at;
 use words::PBN;
 use words::UNMAPPED;
+use words::limits::MAX_LBNS;
+use words::limits::Table;
 
-// What the records of a backup are taken with: the last day that keeps what they replace, whether that day is past, and the backup's stamp.
+// What the records of a backup are taken with: the last day that keeps what they replace, whether that day is past, and
+// the backup's stamp.
 pub struct Taking {
     pub volume: u16,
     pub until: u16,
@@ -49,15 +51,15 @@ fn unmapped_or_held(book: &[u8], p: PBN) -> bool
 
 fn take_record(
     book: &[u8],
-    cells: &mut [u16; 8192],
-    expiries: &mut [u16; 4096],
-    stamps: &mut [u16; 1024],
+    cells: &mut Cells,
+    expiries: &mut Table,
+    stamps: &mut Stamps,
     t: Taking,
     q: u16,
 ) -> bool
     requires { ⌜ Formed (now book) ⌝ }
-    requires { ⌜ (t .volume < volumes) × (length (now expiries) ≡ poolBlocks) × (q < length (told book .records)) ⌝ }
-    ensures { λ r. ⌜ RecordTaken (told (book .entry)) t (recAt (told (book .entry) .records) q) r (notes (now (cells .entry)) (now (expiries .entry)) (now (stamps .entry))) (notes (now (cells .exit)) (now (expiries .exit)) (now (stamps .exit))) ⌝ }
+    requires { ⌜ (t .volume < volumes) × OfPool (now expiries) × (q < length (told book .records)) ⌝ }
+    ensures { λ r. ⌜ TakesRecord book cells expiries stamps t q r ⌝ }
 {
     let change = record_at(book, q);
     let same = replace(cells, t.volume, change);
@@ -70,16 +72,16 @@ fn take_record(
 // The records of one backup, from one up to another.
 fn take_records(
     book: &[u8],
-    cells: &mut [u16; 8192],
-    expiries: &mut [u16; 4096],
-    stamps: &mut [u16; 1024],
+    cells: &mut Cells,
+    expiries: &mut Table,
+    stamps: &mut Stamps,
     t: Taking,
     from: u16,
     end: u16,
 ) -> bool
     requires { ⌜ Formed (now book) ⌝ }
-    requires { ⌜ (t .volume < volumes) × (length (now expiries) ≡ poolBlocks) × (from ≤ end) × (end ≤ length (told book .records)) ⌝ }
-    ensures { λ r. ⌜ RecordsTaken (told (book .entry)) t (slice from end (told (book .entry) .records)) r (notes (now (cells .entry)) (now (expiries .entry)) (now (stamps .entry))) (notes (now (cells .exit)) (now (expiries .exit)) (now (stamps .exit))) ⌝ }
+    requires { ⌜ (t .volume < volumes) × OfPool (now expiries) × (from ≤ end) × (end ≤ length (told book .records)) ⌝ }
+    ensures { λ r. ⌜ TakesRecords book cells expiries stamps t from end r ⌝ }
 {
     let mut good = true;
     let mut q = from;
@@ -94,14 +96,15 @@ fn take_records(
 // The backup of slot q, whose stamp is q + 1.
 fn take_slot(
     book: &[u8],
-    cells: &mut [u16; 8192],
-    expiries: &mut [u16; 4096],
-    stamps: &mut [u16; 1024],
+    cells: &mut Cells,
+    expiries: &mut Table,
+    stamps: &mut Stamps,
     q: u16,
 ) -> bool
     requires { ⌜ Formed (now book) ⌝ }
-    requires { ⌜ (q < length (told book .slots)) × (length (now expiries) ≡ poolBlocks) × (length (now stamps) ≡ rowSize) × ((l : ℕ) → getD (now stamps) l 0 ≤ q) ⌝ }
-    ensures { λ r. ⌜ SlotTaken (told (book .entry)) (backupAt (told (book .entry)) q) (q + 1) r (notes (now (cells .entry)) (now (expiries .entry)) (now (stamps .entry))) (notes (now (cells .exit)) (now (expiries .exit)) (now (stamps .exit))) ⌝ }
+    requires { ⌜ (q < length (told book .slots)) × OfPool (now expiries) ⌝ }
+    requires { ⌜ (length (now stamps) ≡ rowSize) × ((l : ℕ) → getD (now stamps) l 0 ≤ q) ⌝ }
+    ensures { λ r. ⌜ TakesSlot book cells expiries stamps q r ⌝ }
 {
     let slot = slot_at(book, q);
     let volume = slot.volume;
@@ -119,12 +122,12 @@ fn take_slot(
 }
 
 // The whole journal, replayed in the cells and gathered in the expiries.
-pub fn take_journal(book: &[u8], cells: &mut [u16; 8192], expiries: &mut [u16; 4096]) -> bool
+pub fn take_journal(book: &[u8], cells: &mut Cells, expiries: &mut Table) -> bool
     requires { ⌜ Formed (now book) ⌝ }
-    requires { ⌜ length (now expiries) ≡ poolBlocks ⌝ }
-    ensures { λ r. ⌜ JournalTaken (told (book .entry)) r (now (cells .entry)) (now (expiries .entry)) (now (cells .exit)) (now (expiries .exit)) ⌝ }
+    requires { ⌜ OfPool (now expiries) ⌝ }
+    ensures { λ r. ⌜ TakesJournal book cells expiries r ⌝ }
 {
-    let mut stamps = [0u16; 1024];
+    let mut stamps = [0u16; MAX_LBNS];
     let used = used_slots(book);
     let mut good = true;
     let mut q = 0;

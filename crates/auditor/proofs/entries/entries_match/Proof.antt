@@ -11,7 +11,8 @@ use Rattle.auditor.proofs.entries.entries_match.Statement.{statement}
 use Rattle.auditor.proofs.entries.entries_match.Tie as tie
 
 abbrev Inv-loop : tie.InvT-loop
-Inv-loop book counts expiries n good₀ p₀ good p = (p ≤ n) × (good ≡ entriesMatch (bookOf book .entries) counts expiries p)
+Inv-loop book counts expiries n good₀ p₀ good p =
+    (p ≤ n) × (good ≡ entriesMatch (bookOf book .entries) counts expiries p)
 
 abbrev μ-loop : tie.MeasureT-loop
 μ-loop book counts expiries n good₀ p₀ good p = n - p

@@ -18,6 +18,12 @@ Inv-loop book cells₀ expiries₀ stamps₀ used good₀ q₀ cells expiries st
 abbrev μ-loop : tie.MeasureT-loop
 μ-loop book cells₀ expiries₀ stamps₀ used good₀ q₀ cells expiries stamps good q = used - q
 
+abbrev start : tie.At-loop Inv-loop μ-loop → tie.Start Inv-loop μ-loop
+start c = c .before .before .before
+
+abbrev turn : tie.After-stamps Inv-loop μ-loop → tie.At-loop Inv-loop μ-loop
+turn c = c .before .before .before .before
+
 used-slots-requires : tie.Need-used-slots-requires Inv-loop μ-loop
 used-slots-requires c κs = c .before .pre .0 .holds
 
@@ -26,13 +32,13 @@ loop-holds c = (omega arith, slots-start _ _ _ _ refl (λ l. omega (arith, getD-
 
 take-slot-requires : tie.Need-take-slot-requires Inv-loop μ-loop
 take-slot-requires c κs =
-    let l = c .before .before .before .before .loop in
-    let s = c .before .before .before .before .before .before .before in
-    (s .pre .0, (omega arith, l .inv .1 .expiries .long ∙ s .pre .1, l .inv .1 .long, l .inv .1 .low))
+    let i = turn c .loop .inv .1 in
+    let s = start (turn c) in
+    (s .pre .0, ((omega arith, i .expiries .long ∙ s .pre .1), (i .long, i .low)))
 
 loop-again : tie.Need-loop-again Inv-loop μ-loop
 loop-again c =
-    let l = c .before .before .before .before .before .loop in
+    let l = turn (c .before) .loop in
     (omega arith, slots-more _ _ _ (l .q) (omega arith) (c .take-slot .ensures) (l .inv .1))
 
 returns : tie.Need-returns Inv-loop μ-loop

@@ -8,14 +8,20 @@ use borrow.Author.Needs.{needs}
 use Rattle.auditor.proofs.records.take_slot.Statement.{statement}
 use Rattle.auditor.proofs.records.take_slot.Tie as tie
 
-known : (c : tie.After-slot-at) → SlotRead (bookOf (now (c .before .before .args .book))) (c .slot-at .result)
-known c = let s = c .before .before in slot-read (s .pre .0) (s .args .q) (s .pre .1 .0) (c .slot-at .ensures)
+abbrev start : tie.After-slot-at → tie.Start
+start c = c .before .before
+
+abbrev today : tie.After-take-records-arg3 → tie.After-day
+today c = c .before .before .before .before
+
+known : (c : tie.After-slot-at) → SlotRead (bookOf (now (start c .args .book))) (c .slot-at .result)
+known c = let s = start c in slot-read (s .pre .0) (s .args .q) (s .pre .1 .0 .0) (c .slot-at .ensures)
 
 slot-at-requires : tie.Need-slot-at-requires
-slot-at-requires c κs = (c .before .pre .0 .holds, c .before .pre .1 .0)
+slot-at-requires c κs = (c .before .pre .0 .holds, c .before .pre .1 .0 .0)
 
 retention-requires : tie.Need-retention-requires
-retention-requires c κs = (c .before .before .pre .0 .holds, known c .volume)
+retention-requires c κs = (start c .pre .0 .holds, known c .volume)
 
 add-until : tie.Need-add-until
 add-until c = omega (arith, known (c .before .before), c .before .retention .ensures)
@@ -25,16 +31,18 @@ add-end c = omega (arith, known (c .before .before .before .before))
 
 take-records-requires : tie.Need-take-records-requires
 take-records-requires c κs =
-    let k = c .before .before .before .before .before .before .before in
-    (k .before .before .pre .0, (known k .volume, k .before .before .pre .1 .1, omega arith, known k .records))
+    let k = today c .before .before .before in
+    let s = start k in
+    (s .pre .0, (known k .volume, s .pre .1 .0 .1, omega arith, known k .records))
 
 returns : tie.Need-returns
 returns c =
-    let d = c .before .before .before .before .before in
+    let d = today (c .before) in
     let r = d .before .before in
     let k = r .before in
-    let s = k .before .before in
-    slot-taken (s .pre .0) (s .args .q) (s .pre .1 .0) (k .slot-at .ensures) (s .pre .1 .2) (s .pre .1 .3) (r .retention .ensures) (d .day .ensures) (c .take-records .ensures)
+    let s = start k in
+    slot-taken (s .pre .0) (s .args .q) (s .pre .1 .0 .0) (k .slot-at .ensures) (s .pre .1 .1 .0) (s .pre .1 .1 .1)
+    (r .retention .ensures) (d .day .ensures) (c .take-records .ensures)
 
 pub take-slot-spec : {M : Type 1} → statement M
 take-slot-spec =

@@ -6,16 +6,21 @@ use Rattle.model.specs.Audit.{cellSound}
 use Rattle.auditor.proofs.records.unmapped_or_held.Statement.{statement}
 use Rattle.auditor.proofs.records.unmapped_or_held.Tie as tie
 
+abbrev start : tie.Else1 → tie.Start
+start c = c .before .before .before
+
 returns : tie.Need-returns
 unfolding cellSound
 returns c = rw (eq-eqb (c .before .before .before .args .p .0) unmapped (c .if1 .taken))
 
 is-held-requires : tie.Need-is-held-requires
-is-held-requires c κs = (c .before .before .before .pre .0 .holds, ⊎-elim (λ h. h) (λ h. absurd (c .if1 .left h)) (c .before .before .before .pre .1))
+is-held-requires c κs =
+    let s = start c in
+    (s .pre .0 .holds, ⊎-elim (λ h. h) (λ h. absurd (c .if1 .left h)) (s .pre .1))
 
 returns-2 : tie.Need-returns-2
 unfolding cellSound
-returns-2 c = rw (ne-eqb (c .before .before .before .before .args .p .0) unmapped (c .before .if1 .left)) (c .is-held .ensures)
+returns-2 c = rw (ne-eqb (start (c .before) .args .p .0) unmapped (c .before .if1 .left)) (c .is-held .ensures)
 
 pub unmapped-or-held-spec : {M : Type 1} → statement M
 unmapped-or-held-spec = tie.close (tie.spec returns is-held-requires returns-2)
