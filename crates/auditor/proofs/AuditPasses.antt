@@ -23,9 +23,9 @@ use Rattle.model.specs.Journal.{journal}
 use Rattle.model.specs.Audit.{mapsSound, countSound, expirySound, printsSound, cellSound, currentSound, backupsSound, audit}
 use Rattle.model.specs.JournalAt.{takenSound}
 use Rattle.model.proofs.kept.KeptBefores.{kept-befores}
-use Rattle.auditor.proofs.JournalRead.{journal-in}
+use Rattle.replay.proofs.JournalRead.{journal-in}
 use Rattle.auditor.proofs.MapsReplayed.{maps-replayed}
-use Rattle.auditor.specs.Table.{rowSize, tableSize, tableAfter, tableBefores}
+use Rattle.replay.specs.Table.{rowSize, tableSize, tableAfter, tableBefores}
 use Rattle.auditor.specs.TableMaps.{tableMatches}
 use Rattle.auditor.proofs.TableMapLaws.{table-sound}
 

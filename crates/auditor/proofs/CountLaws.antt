@@ -20,9 +20,10 @@ use Rattle.book.specs.Book.{volumes}
 use Rattle.book.specs.Layout.{bookOf}
 use Rattle.book.specs.Formed.{Formed}
 use Rattle.model.specs.Audit.{countSound}
-use Rattle.auditor.specs.Matching.{matching}
-use Rattle.auditor.proofs.MatchingLaws.{matching-same}
-use Rattle.auditor.specs.Counts.{poolBlocks, Counted, countOfBlock, numberAt}
+use Rattle.replay.specs.Matching.{matching}
+use Rattle.replay.proofs.MatchingLaws.{matching-same}
+use Rattle.auditor.specs.Counts.{Counted, countOfBlock}
+use Rattle.replay.specs.Table.{poolBlocks, numberAt}
 
 pub counted-none : (a : List ℕ) → Counted a [] a
 counted-none a = record { long = refl; at = λ p h. omega arith }

@@ -24,7 +24,7 @@ use Rattle.model.proofs.kept.Sound.{Sound, SoundAll, Days}
 use Rattle.model.proofs.kept.JournalLaws.{length-applied}
 use Rattle.model.proofs.kept.Replays.{mapAfter, backupsIn-replayed, backupsIn-sound, backupsIn-days}
 use Rattle.model.proofs.kept.KeptBefores.{Replayed}
-use Rattle.auditor.proofs.JournalRead.{backupIn, journal-in}
+use Rattle.replay.proofs.JournalRead.{backupIn, journal-in}
 
 -- ---- the tests of befores as facts
 

@@ -12,9 +12,9 @@ use Rattle.words.specs.Lists.{joined}
 use Rattle.book.specs.Book.{volumes, Book}
 use Rattle.book.specs.Layout.{bookOf}
 use Rattle.book.specs.Formed.{Formed}
-use Rattle.auditor.specs.Counts.{poolBlocks, Counted}
+use Rattle.auditor.specs.Counts.{Counted}
 use Rattle.auditor.proofs.CountLaws.{counted-none, counted-row, counted-le, counted-rows}
-use Rattle.auditor.specs.Table.{rowSize}
+use Rattle.replay.specs.Table.{rowSize, poolBlocks}
 use Rattle.auditor.specs.TableMaps.{rowMatches, tableMatches}
 use Rattle.auditor.specs.MapsTaken.{RowTaken, MapsTaken, AtMost}
 

@@ -21,9 +21,9 @@ use Rattle.book.specs.Book.{volumes, Sizes, Rec, Book, Sized, cellAt}
 use Rattle.book.specs.Form.{pbnOk, recOk}
 use Rattle.model.specs.Journal.{Backup, journal}
 use Rattle.model.specs.Audit.{applied, replayed, beforesIn, befores, noMaps, sameMap, mapsSound}
-use Rattle.auditor.proofs.JournalRead.{backupIn}
-use Rattle.auditor.proofs.MatchingLaws.{matching-same}
-use Rattle.auditor.specs.Table.{rowSize, tableSize, cellsAfter, cellsBefore, tableAfter, tableBefores}
+use Rattle.replay.proofs.JournalRead.{backupIn}
+use Rattle.replay.proofs.MatchingLaws.{matching-same}
+use Rattle.replay.specs.Table.{rowSize, tableSize, cellsAfter, cellsBefore, tableAfter, tableBefores}
 use Rattle.auditor.specs.TableMaps.{rowCell, rowMatches, tableMatches}
 
 -- ---- the table a holds maps of l cells

@@ -6,10 +6,10 @@ ghost use Rattle.model.specs.Audit.{audit};
 ghost use Rattle.auditor.specs.Contracts.{Audited};
 use super::entries::entries_match;
 use super::maps::maps_match;
-use super::notes::CELLS;
 use super::prints::prints_sound;
-use super::records::take_journal;
 use form::form_number;
+use replay::notes::CELLS;
+use replay::records::take_journal;
 use words::UNMAPPED;
 use words::limits::MAX_BLOCKS;
 

@@ -2,7 +2,7 @@
 ghost use Prim.Native.Nat.{_<_};
 ghost use Rattle.book.specs.Layout.{told};
 ghost use Rattle.book.specs.Formed.{Formed};
-ghost use Rattle.auditor.specs.Contracts.{MatchesEntry, MatchesEntries};
+ghost use Rattle.auditor.specs.Passes.{MatchesEntry, MatchesEntries};
 use book::entry::count;
 use book::entry::expiry;
 use book::header::blocks;

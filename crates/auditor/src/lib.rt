@@ -3,6 +3,4 @@
 pub mod audit;
 mod entries;
 mod maps;
-mod notes;
 mod prints;
-mod records;

@@ -7,8 +7,8 @@ use lib.Seq.{take-all}
 use Rattle.book.specs.Layout.{bookOf}
 use Rattle.auditor.specs.Counts.{Counted}
 use Rattle.auditor.proofs.CountLaws.{counted-none, counted-cell, counted-le}
-use Rattle.auditor.proofs.MatchingLaws.{matching-none, matching-grow}
-use Rattle.auditor.specs.Table.{rowSize}
+use Rattle.replay.proofs.MatchingLaws.{matching-none, matching-grow}
+use Rattle.replay.specs.Table.{rowSize}
 use Rattle.auditor.specs.TableMaps.{rowMatches}
 use borrow.Author.Needs.{needs}
 use native.Mathlib.Omega.{arith}

@@ -22,7 +22,7 @@ use Rattle.book.specs.declared.slot.Slot as read
 use Rattle.model.specs.Journal.{Backup, journal}
 use Rattle.model.specs.JournalAt.{noBackup, backupAt}
 use Rattle.model.proofs.kept.JournalAtLaws.{length-journal, volume-at, day-at, records-at}
-use Rattle.auditor.proofs.Bounds.{slot-bounds}
+use Rattle.replay.proofs.Bounds.{slot-bounds}
 
 -- a backup in form: its volume, and its records
 unfoldable pub backupIn : Sizes → Backup → Bool

@@ -20,7 +20,7 @@ use Rattle.book.specs.Book.{Sizes, Rec, Book}
 use Rattle.book.specs.Form.{pbnOk, recOk}
 use Rattle.model.specs.Audit.{cellSound}
 use Rattle.model.specs.JournalAt.{firstBefore}
-use Rattle.auditor.specs.Stamps.{firstsSound, stamped}
+use Rattle.replay.specs.Stamps.{firstsSound, stamped}
 
 pub firsts-past : (x : Book) (k : ℕ) (a : List ℕ) (rs : List Rec) → firstsSound x true k a rs ≡ true
 firsts-past x k a [] = refl

@@ -13,12 +13,12 @@ use Rattle.book.specs.Book.{Rec, Book, noRec, recAt}
 use Rattle.book.specs.Struct.{RecordIs}
 use Rattle.book.specs.declared.record.Record.{Record}
 use Rattle.model.specs.Audit.{cellSound}
-use Rattle.auditor.specs.Expiries.{Raised, untilOne, untilEach}
-use Rattle.auditor.proofs.ExpiryLaws.{Raising, raising-start, raising-more, raising-end, until-more, until-end}
-use Rattle.auditor.specs.Stamps.{firstsSound, stamped}
-use Rattle.auditor.specs.Table.{rowSize, cellsAfter, cellsBefore}
-use Rattle.auditor.specs.declared.records.Taking.{Taking}
-use Rattle.auditor.specs.Records.{Notes, RecordTaken, recordsTest, RecordsTaken}
+use Rattle.replay.specs.Expiries.{Raised, untilOne, untilEach}
+use Rattle.replay.proofs.ExpiryLaws.{Raising, raising-start, raising-more, raising-end, until-more, until-end}
+use Rattle.replay.specs.Stamps.{firstsSound, stamped}
+use Rattle.replay.specs.Table.{rowSize, cellsAfter, cellsBefore}
+use Rattle.replay.specs.declared.records.Taking.{Taking}
+use Rattle.replay.specs.Records.{Notes, RecordTaken, recordsTest, RecordsTaken}
 
 -- .. of a record as the code has it
 pub record-taken : {x : Book} {t : Taking} {r : Rec} {c : Record} {n n′ : Notes} {same met held : Bool} → RecordIs r c

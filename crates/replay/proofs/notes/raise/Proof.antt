@@ -1,9 +1,9 @@
--- `auditor::notes::raise` meets its contract: a store at the block's expiry, or none.
-use Rattle.auditor.proofs.ExpiryLaws.{raised-past, raised-kept, raised-set}
+-- `super::notes::raise` meets its contract: a store at the block's expiry, or none.
+use Rattle.replay.proofs.ExpiryLaws.{raised-past, raised-kept, raised-set}
 use native.Mathlib.Omega.{arith}
 use borrow.Author.Needs.{needs}
-use Rattle.auditor.proofs.notes.raise.Statement.{statement}
-use Rattle.auditor.proofs.notes.raise.Tie as tie
+use Rattle.replay.proofs.notes.raise.Statement.{statement}
+use Rattle.replay.proofs.notes.raise.Tie as tie
 
 returns : tie.Need-returns
 returns c = raised-past _ _ _ (omega arith)

@@ -1,10 +1,10 @@
--- `auditor::records::unmapped_or_held` meets its contract.
+-- `super::records::unmapped_or_held` meets its contract.
 use mathlib.Core.Logic.{⊎-elim}
 use borrow.Author.Tests.{eq-eqb, ne-eqb}
 use Rattle.words.specs.Blocks.{unmapped}
 use Rattle.model.specs.Audit.{cellSound}
-use Rattle.auditor.proofs.records.unmapped_or_held.Statement.{statement}
-use Rattle.auditor.proofs.records.unmapped_or_held.Tie as tie
+use Rattle.replay.proofs.records.unmapped_or_held.Statement.{statement}
+use Rattle.replay.proofs.records.unmapped_or_held.Tie as tie
 
 abbrev start : tie.Else1 → tie.Start
 start c = c .before .before .before

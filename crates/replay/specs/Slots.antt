@@ -9,9 +9,9 @@ use Rattle.book.specs.Book.{Book, retentionOf}
 use Rattle.model.specs.Audit.{untilIn}
 use Rattle.model.specs.Journal.{Backup, journal}
 use Rattle.model.specs.JournalAt.{takenSound}
-use Rattle.auditor.specs.Expiries.{Raised, untilEach}
-use Rattle.auditor.specs.Records.{Notes}
-use Rattle.auditor.specs.Table.{rowSize, cellsAfter, cellsBefore, tableAfter, tableBefores}
+use Rattle.replay.specs.Expiries.{Raised, untilEach}
+use Rattle.replay.specs.Records.{Notes}
+use Rattle.replay.specs.Table.{rowSize, cellsAfter, cellsBefore, tableAfter, tableBefores}
 
 -- what a slot's backup leaves, and its tests; no stamp is above k after it
 pub record SlotTaken (x : Book) (b : Backup) (k : ℕ) (good : Bool) (n n′ : Notes) : Type 0 where

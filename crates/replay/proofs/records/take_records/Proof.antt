@@ -1,15 +1,15 @@
--- `auditor::records::take_records` meets its contract: what is left of the records decides as the whole does.
+-- `super::records::take_records` meets its contract: what is left of the records decides as the whole does.
 use Prim.Native.Nat.{_-_, _≤_}
 use mathlib.Core.Path.{_≡_, _∙_}
 use lib.Seq.{slice}
 use denote.Ref.{now}
 use Rattle.book.specs.Layout.{bookOf}
-use Rattle.auditor.specs.Records.{notes}
-use Rattle.auditor.proofs.RecordLaws.{RecordsLeft, records-start, records-more, records-end}
+use Rattle.replay.specs.Records.{notes}
+use Rattle.replay.proofs.RecordLaws.{RecordsLeft, records-start, records-more, records-end}
 use borrow.Author.Needs.{needs}
 use native.Mathlib.Omega.{arith}
-use Rattle.auditor.proofs.records.take_records.Statement.{statement}
-use Rattle.auditor.proofs.records.take_records.Tie as tie
+use Rattle.replay.proofs.records.take_records.Statement.{statement}
+use Rattle.replay.proofs.records.take_records.Tie as tie
 
 abbrev Inv-loop : tie.InvT-loop
 Inv-loop book cells₀ expiries₀ stamps₀ t from end good₀ q₀ cells expiries stamps good q =

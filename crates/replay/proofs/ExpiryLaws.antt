@@ -20,10 +20,10 @@ use Rattle.book.specs.Layout.{bookOf}
 use Rattle.book.specs.Formed.{Formed}
 use Rattle.model.specs.Journal.{Backup, journal}
 use Rattle.model.specs.Audit.{hasBefore, untilIn, expirySound}
-use Rattle.auditor.specs.Counts.{poolBlocks, numberAt}
-use Rattle.auditor.specs.Matching.{matching}
-use Rattle.auditor.proofs.MatchingLaws.{matching-same}
-use Rattle.auditor.specs.Expiries.{Raised, untilOne, untilEach, expiryOfBlock}
+use Rattle.replay.specs.Table.{poolBlocks, numberAt}
+use Rattle.replay.specs.Matching.{matching}
+use Rattle.replay.proofs.MatchingLaws.{matching-same}
+use Rattle.replay.specs.Expiries.{Raised, untilOne, untilEach, expiryOfBlock}
 
 pub raised-none : (a : List ℕ) (f : ℕ → ℕ) → ((p : ℕ) → p < poolBlocks → f p ≤ getD a p 0) → Raised a f a
 raised-none a f h = record { long = refl; at = λ p k. omega (arith, h p k) }

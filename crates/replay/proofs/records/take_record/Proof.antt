@@ -1,11 +1,11 @@
--- `auditor::records::take_record` meets its contract: each of its calls does its part.
+-- `super::records::take_record` meets its contract: each of its calls does its part.
 use denote.Ref.{now}
 use borrow.Author.Needs.{needs}
 use Rattle.book.specs.Layout.{bookOf}
-use Rattle.auditor.proofs.Bounds.{ReadIn, read-in}
-use Rattle.auditor.proofs.RecordLaws.{record-taken}
-use Rattle.auditor.proofs.records.take_record.Statement.{statement}
-use Rattle.auditor.proofs.records.take_record.Tie as tie
+use Rattle.replay.proofs.Bounds.{ReadIn, read-in}
+use Rattle.replay.proofs.RecordLaws.{record-taken}
+use Rattle.replay.proofs.records.take_record.Statement.{statement}
+use Rattle.replay.proofs.records.take_record.Tie as tie
 
 abbrev read : tie.After-meet-arg → tie.After-record-at
 read c = c .before .before .before .before .before

@@ -7,10 +7,10 @@ use lib.Dec.{eqb}
 use lib.ListN.{getD, set}
 use Rattle.book.specs.Book.{Rec, Book}
 use Rattle.model.specs.Audit.{cellSound}
-use Rattle.auditor.specs.Expiries.{Raised, untilOne, untilEach}
-use Rattle.auditor.specs.Stamps.{firstsSound, stamped}
-use Rattle.auditor.specs.Table.{rowSize, cellsAfter, cellsBefore}
-use Rattle.auditor.specs.declared.records.Taking.{Taking}
+use Rattle.replay.specs.Expiries.{Raised, untilOne, untilEach}
+use Rattle.replay.specs.Stamps.{firstsSound, stamped}
+use Rattle.replay.specs.Table.{rowSize, cellsAfter, cellsBefore}
+use Rattle.replay.specs.declared.records.Taking.{Taking}
 
 -- what is noted on the way
 pub record Notes : Type 0 where

@@ -23,14 +23,14 @@ use Rattle.model.specs.Journal.{Backup, journal}
 use Rattle.model.specs.JournalAt.{backupAt}
 use Rattle.model.proofs.kept.JournalAtLaws.{journal-next, journal-end}
 use Rattle.model.specs.JournalAt.{takenSound}
-use Rattle.auditor.specs.Expiries.{untilEach}
-use Rattle.auditor.proofs.ExpiryLaws.{Raising, raising-start, raising-more, raising-end, until-next}
-use Rattle.auditor.proofs.JournalRead.{readBackup, backup-read}
-use Rattle.auditor.specs.Records.{Notes, notes, RecordsTaken}
-use Rattle.auditor.specs.Stamps.{firstsSound}
-use Rattle.auditor.proofs.StampLaws.{firsts-past, firsts-fresh, stamped-low, length-stamped}
-use Rattle.auditor.specs.Table.{rowSize, cellsAfter, cellsBefore, tableAfter, tableBefores}
-use Rattle.auditor.specs.Slots.{SlotTaken, JournalTaken}
+use Rattle.replay.specs.Expiries.{untilEach}
+use Rattle.replay.proofs.ExpiryLaws.{Raising, raising-start, raising-more, raising-end, until-next}
+use Rattle.replay.proofs.JournalRead.{readBackup, backup-read}
+use Rattle.replay.specs.Records.{Notes, notes, RecordsTaken}
+use Rattle.replay.specs.Stamps.{firstsSound}
+use Rattle.replay.proofs.StampLaws.{firsts-past, firsts-fresh, stamped-low, length-stamped}
+use Rattle.replay.specs.Table.{rowSize, cellsAfter, cellsBefore, tableAfter, tableBefores}
+use Rattle.replay.specs.Slots.{SlotTaken, JournalTaken}
 
 module _ (x : Book) (b : Backup) where
   -- the last day that keeps what the backup replaced

@@ -7,7 +7,7 @@ use lib.ListN.{length, getD}
 use Rattle.words.specs.Choice.{if_then_else_}
 use Rattle.book.specs.Book.{Entry, Rec, entryAt}
 use Rattle.model.specs.Audit.{hasBefore}
-use Rattle.auditor.specs.Counts.{poolBlocks}
+use Rattle.replay.specs.Table.{poolBlocks}
 
 -- a′ is a with block p's expiry at least f p
 pub record Raised (a : List ℕ) (f : ℕ → ℕ) (a′ : List ℕ) : Type 0 where

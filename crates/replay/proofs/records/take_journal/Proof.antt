@@ -1,15 +1,15 @@
--- `auditor::records::take_journal` meets its contract: what is left of the journal decides as the whole does.
+-- `super::records::take_journal` meets its contract: what is left of the journal decides as the whole does.
 use Prim.Native.Nat.{ℕ, _-_, _≤_}
 use mathlib.Core.Path.{refl, _∙_}
 use Rattle.words.proofs.Places.{getD-replicated}
 use Rattle.book.specs.Layout.{bookOf}
-use Rattle.auditor.specs.Records.{notes}
-use Rattle.auditor.proofs.SlotLaws.{SlotsLeft, slots-start, slots-more, slots-end}
-use Rattle.auditor.specs.Table.{rowSize}
+use Rattle.replay.specs.Records.{notes}
+use Rattle.replay.proofs.SlotLaws.{SlotsLeft, slots-start, slots-more, slots-end}
+use Rattle.replay.specs.Table.{rowSize}
 use borrow.Author.Needs.{needs}
 use native.Mathlib.Omega.{arith}
-use Rattle.auditor.proofs.records.take_journal.Statement.{statement}
-use Rattle.auditor.proofs.records.take_journal.Tie as tie
+use Rattle.replay.proofs.records.take_journal.Statement.{statement}
+use Rattle.replay.proofs.records.take_journal.Tie as tie
 
 abbrev Inv-loop : tie.InvT-loop
 Inv-loop book cells₀ expiries₀ stamps₀ used good₀ q₀ cells expiries stamps good q =

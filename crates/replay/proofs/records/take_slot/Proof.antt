@@ -1,12 +1,12 @@
--- `auditor::records::take_slot` meets its contract, by `slot-taken`.
+-- `super::records::take_slot` meets its contract, by `slot-taken`.
 use denote.Ref.{now}
 use Rattle.book.specs.Layout.{bookOf}
-use Rattle.auditor.proofs.JournalRead.{SlotRead, slot-read}
-use Rattle.auditor.proofs.SlotLaws.{slot-taken}
+use Rattle.replay.proofs.JournalRead.{SlotRead, slot-read}
+use Rattle.replay.proofs.SlotLaws.{slot-taken}
 use native.Mathlib.Omega.{arith}
 use borrow.Author.Needs.{needs}
-use Rattle.auditor.proofs.records.take_slot.Statement.{statement}
-use Rattle.auditor.proofs.records.take_slot.Tie as tie
+use Rattle.replay.proofs.records.take_slot.Statement.{statement}
+use Rattle.replay.proofs.records.take_slot.Tie as tie
 
 abbrev start : tie.After-slot-at → tie.Start
 start c = c .before .before
