@@ -46,7 +46,8 @@ module _ (book : Lent (List ℕ)) where
       TakesSlot q r = SlotTaken x (backupAt x q) (q + 1) r before after
 
     abbrev pub TakesJournal : Bool → Type 0
-    TakesJournal r = JournalTaken x r (now (cells .entry)) (now (expiries .entry)) (now (cells .exit)) (now (expiries .exit))
+    TakesJournal r =
+        JournalTaken x r (now (cells .entry)) (now (expiries .entry)) (now (cells .exit)) (now (expiries .exit))
 
   module _ (cells counts : Lent (List ℕ)) where
     abbrev pub TakesRow : ℕ → Bool → Type 0
