@@ -52,14 +52,14 @@ module _ (b : List ℕ) where
       tab-each (all (pbnOk (num b nPlace))) volumes (λ v. tab (num b lPlace) (cellOf b v))
       ∙ each-same (λ v. all (pbnOk (num b nPlace)) (tab (num b lPlace) (cellOf b v))) (λ v. each (λ k. cell (v * num b lPlace + k)) 0 (num b lPlace)) 0 volumes
       (λ v _ _. tab-each (pbnOk (num b nPlace)) (num b lPlace) (cellOf b v)
-      ∙ each-same (row v) (λ k. cell (v * num b lPlace + k)) 0 (num b lPlace) (λ k _ _. ap (λ (at : ℕ). pbnOk (num b nPlace) (num b at)) (place v k)))
+      ∙ each-same (row v) (λ k. cell (v * num b lPlace + k)) 0 (num b lPlace) (λ k _ _. ap (λ (at : ℕ). pbnOk (num b nPlace) (num b at)) (offset v k)))
       ∙ rows-each cell (num b lPlace) volumes
     where
       cell : ℕ → Bool
       cell c = pbnOk (num b nPlace) (num b (mapsFrom (sizesOf b) + c * 2))
 
-      place : (v k : ℕ) → cellPlace (sizesOf b) v k ≡ mapsFrom (sizesOf b) + (v * num b lPlace + k) * 2
-      place v k = let e : v * (num b lPlace * 2) ≡ v * num b lPlace * 2 = sym (mul-assoc v (num b lPlace) 2) in omega arith
+      offset : (v k : ℕ) → cellPlace (sizesOf b) v k ≡ mapsFrom (sizesOf b) + (v * num b lPlace + k) * 2
+      offset v k = let e : v * (num b lPlace * 2) ≡ v * num b lPlace * 2 = sym (mul-assoc v (num b lPlace) 2) in omega arith
 
   records-pass : all (recOk (bookOf b .sizes)) (bookOf b .records) ≡ recordsOk b (recordsFrom (sizesOf b)) (num b uPlace)
   unfolding bookOf recordsOk

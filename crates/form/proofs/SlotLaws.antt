@@ -58,13 +58,13 @@ module _ (b : List ℕ) (q : ℕ) where
         (each (secondOk b) (q + 1) (num b bPlace)) (all (slotOk (bookOf b)) rest)
         (daysFrom (set lasts (this .volume) (this .day + 1)) (this .day) rest) (pairsOk (next + this .number) rest (num b uPlace)))
 
-    module _ {at : ℕ} (h : q < num b bPlace) (place : at ≡ slotPlace (sizesOf b) q) where
+    module _ {at : ℕ} (h : q < num b bPlace) (offset : at ≡ slotPlace (sizesOf b) q) where
       pub slots-more : {v d k : ℕ} → slotHere b at lasts prev next ≡ true → v ≡ getD b at 0 → d ≡ num b (at + 2) → k ≡ num b (at + 6)
           → slotsLeft b q lasts prev next ≡ slotsLeft b (q + 1) (set lasts v (d + 1)) d (next + k)
-      slots-more e ev ed ek = slots-first h ∙ rw (ev, ed, ek, ← place, e)
+      slots-more e ev ed ek = slots-first h ∙ rw (ev, ed, ek, ← offset, e)
 
       pub slots-stop : slotHere b at lasts prev next ≡ false → slotsLeft b q lasts prev next ≡ false
-      slots-stop e = slots-first h ∙ rw (← place, e)
+      slots-stop e = slots-first h ∙ rw (← offset, e)
 
     pub slots-end : num b bPlace ≤ q → slotsLeft b q lasts prev next ≡ eqb next (num b uPlace)
     unfolding slotsLeft

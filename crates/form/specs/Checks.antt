@@ -8,7 +8,8 @@ use lib.ListN.{getD}
 use Rattle.words.specs.Lists.{each}
 use Rattle.words.specs.Numbers.{num}
 use Rattle.book.specs.Book.{volumes}
-use Rattle.book.specs.Layout.{nPlace, sPlace, jPlace, bPlace, uPlace, dayPlace, cursorPlace, zeroPlace, retentionPlace, recSize, sizesOf, entryOf, recOf}
+use Rattle.book.specs.Layout.{nPlace, sPlace, jPlace, bPlace, uPlace, dayPlace, cursorPlace, zeroPlace, retentionPlace}
+use Rattle.book.specs.Layout.{recSize, sizesOf, entryOf, recOf}
 use Rattle.book.specs.Form.{retentionOk, stateOk, entryOk, pbnOk, recOk}
 
 -- the bytes from o up to e are zero

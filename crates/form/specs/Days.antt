@@ -1,4 +1,5 @@
--- The rule of days in one pass: with each volume's last day + 1 (0 for none) and the last slot's day, no slot is looked at twice.
+-- The rule of days in one pass: with each volume's last day + 1 (0 for none) and the last slot's day, no slot is looked
+-- at twice.
 use Prim.Native.Nat.{ℕ, _+_}
 use mathlib.Core.Bool.{Bool, true, _&&_}
 use mathlib.Core.List.{List, [], _∷_}
@@ -6,7 +7,8 @@ use lib.Dec.{leb}
 use lib.ListN.{getD, set, replicate}
 use Rattle.book.specs.Book.{volumes, Slot}
 
--- "their days never fall, rise strictly within a volume": a slot's day is not below prev, the last slot's, and above its volume's last
+-- "their days never fall, rise strictly within a volume": a slot's day is not below prev, the last slot's, and above
+-- its volume's last
 unfoldable pub dayOk : List ℕ → ℕ → Slot → Bool
 dayOk lasts prev t = leb prev (t .day) && leb (getD lasts (t .volume) 0) (t .day)
 

@@ -12,7 +12,8 @@ use Rattle.book.specs.Layout.{bPlace, uPlace, dayPlace, slotsFrom, slotSize, si
 use Rattle.book.specs.Form.{secondOk, slotOk, pairsOk}
 use Rattle.form.specs.Days.{dayOk, daysFrom}
 
--- the slot at an offset, after those passed: its second byte, its volume and day, its day after the others, its first record
+-- the slot at an offset, after those passed: its second byte, its volume and day, its day after theirs, its first
+-- record
 unfoldable pub slotHere : List ℕ → ℕ → List ℕ → ℕ → ℕ → Bool
 slotHere b at lasts prev next =
     eqb (getD b (at + 1) 0) 0
@@ -28,7 +29,8 @@ slotsLeft b q lasts prev next =
     && daysFrom lasts prev (drop q (bookOf b .slots))
     && pairsOk next (drop q (bookOf b .slots)) (num b uPlace)
 
--- the numbers that the pass over the slots is handed: where they start, how many are used, the records used, the header's day
+-- the numbers that the pass over the slots is handed: where they start, how many are used, the records used, the
+-- header's day
 pub record SlotsAt (b : List ℕ) (from used end today : ℕ) : Type 0 where
   pub start : from ≡ slotsFrom (sizesOf b)
   pub slots : used ≡ num b bPlace

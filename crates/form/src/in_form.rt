@@ -146,7 +146,7 @@ fn maps_ok(b: &[u8], from: usize, cells: usize, n: u16) -> bool
 
 // The slot at `at`, after those passed: each volume's last day + 1, the last slot's day, and the record where it has
 // to start.
-fn slot_ok(b: &[u8], at: usize, today: u16, lasts: &[u16; 8], prev: u16, next: usize) -> bool
+fn slot_ok(b: &[u8], at: usize, today: u16, lasts: &[u16; VOLUMES], prev: u16, next: usize) -> bool
     requires { ⌜ (entriesFrom ≤ length (now b)) × (at + slotSize ≤ length (now b)) ⌝ }
     requires { ⌜ today ≡ num (now b) dayPlace ⌝ }
     ensures { λ r. ⌜ r ≡ slotHere (now (b .entry)) at (now (lasts .entry)) prev next ⌝ }
@@ -168,7 +168,7 @@ fn used_slots_ok(b: &[u8], from: usize, used: usize, records: usize, today: u16)
     requires { ⌜ SlotsAt (now b) from used records today ⌝ }
     ensures { λ r. ⌜ r ≡ slotsLeft (now (b .entry)) 0 noLasts 0 0 ⌝ }
 {
-    let mut lasts = [0u16; 8];
+    let mut lasts = [0u16; VOLUMES];
     let mut prev: u16 = 0;
     let mut next: usize = 0;
     let mut q = 0;

@@ -50,7 +50,7 @@ slot-bounds x s p q h =
 -- a record as the code has it, read from the book
 pub record ReadIn (x : Book) (r : Record) : Type 0 where
   pub lbn : r .lbn .0 < x .sizes .l
-  pub place : r .lbn .0 < 1024
+  pub inRow : r .lbn .0 < 1024
   pub before : (r .before .0 < x .sizes .n) ⊎ (r .before .0 ≡ unmapped)
 
 pub read-in : {b : List ℕ} → Formed b → (q : ℕ) → q < length (bookOf b .records) → {r : Record} → RecordIs (recAt (bookOf b .records) q) r
@@ -59,6 +59,6 @@ read-in {b} f q h {r} i =
     let w = rec-in (bookOf b) (f .parts) q h in
     record {
       lbn = rw (i .lbn) (w .lbn);
-      place = rw (i .lbn) (omega (arith, w .lbn, f .holds .l));
+      inRow = rw (i .lbn) (omega (arith, w .lbn, f .holds .l));
       before = rw (i .before) (w .before);
     }

@@ -1,5 +1,5 @@
 -- Laws of specs/Matching.antt.
--- Two rows of numbers agree, place by place: the test, and its laws for a loop that gathers it.
+-- Two rows of numbers agree, number by number: the test, and its laws for a loop that gathers it.
 use Prim.Native.Nat.{ℕ, _+_, _<_}
 use mathlib.Core.Path.{_≡_, sym, ap}
 use mathlib.Core.Bool.{Bool, true, _&&_}

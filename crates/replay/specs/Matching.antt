@@ -1,4 +1,4 @@
--- Two rows of numbers agree, place by place.
+-- Two rows of numbers agree, number by number.
 use Prim.Native.Nat.{ℕ}
 use mathlib.Core.Bool.{Bool}
 use lib.Dec.{eqb}

@@ -10,7 +10,8 @@ use Rattle.model.specs.Audit.{cellSound}
 -- the backup's day is past, or each record whose LBN has not the stamp k yet has a before that is unmapped or held
 abbrev pub firstsSound : Book → Bool → ℕ → List ℕ → List Rec → Bool
 firstsSound x past k a [] = true
-firstsSound x past k a (r ∷ rs) = ((past || eqb (getD a (r .lbn) 0) k) || cellSound x (r .before)) && firstsSound x past k (set a (r .lbn) k) rs
+firstsSound x past k a (r ∷ rs) =
+    ((past || eqb (getD a (r .lbn) 0) k) || cellSound x (r .before)) && firstsSound x past k (set a (r .lbn) k) rs
 
 -- the stamps after the records
 abbrev pub stamped : ℕ → List ℕ → List Rec → List ℕ

@@ -43,4 +43,5 @@ tableAfter a (b ∷ bs) = tableAfter (cellsAfter (b .volume * rowSize) a (b .rec
 abbrev pub tableBefores : List ℕ → List Backup → Bool
 tableBefores a [] = true
 tableBefores a (b ∷ bs) =
-    cellsBefore (b .volume * rowSize) a (b .records) && tableBefores (cellsAfter (b .volume * rowSize) a (b .records)) bs
+    cellsBefore (b .volume * rowSize) a (b .records)
+    && tableBefores (cellsAfter (b .volume * rowSize) a (b .records)) bs

@@ -58,9 +58,9 @@ module _ (b pool : List ℕ) (v k lbn : ℕ) where
   unfolding readBytes soughtBytes read soughtIn
   read-sought = simp then-unless
 
-  place-sought : readPlaceBytes b pool v k lbn ≡ andThen (soughtBytes b pool v k lbn) (λ p. accepted (p * blockSize))
+  offset-sought : readPlaceBytes b pool v k lbn ≡ andThen (soughtBytes b pool v k lbn) (λ p. accepted (p * blockSize))
   unfolding readPlaceBytes readNumberBytes soughtBytes soughtIn
-  place-sought = rw read-sought (same-numbers (formNumber b) (poolNumber b pool) (readNumber (bookOf b) v k lbn) (image (bookOf b) v k lbn) (blockAt pool) (λ p. p * blockSize))
+  offset-sought = rw read-sought (same-numbers (formNumber b) (poolNumber b pool) (readNumber (bookOf b) v k lbn) (image (bookOf b) v k lbn) (blockAt pool) (λ p. p * blockSize))
 
   -- ---- what each call makes of the search's answer
 
@@ -105,11 +105,11 @@ module _ (book pool : Lent (List ℕ)) (v k lbn : ℕ) (at : Lent ℕ) (s : Soug
       → Located book pool v k lbn at r
   located-refused n h q same = record {
     number = q ∙ number-is b p v k lbn s e;
-    answer = rw (place-sought b p v k lbn, ← e, h) same;
+    answer = rw (offset-sought b p v k lbn, ← e, h) same;
   }
 
   pub located-at : (q : PBN) → s ≡ At q → now (at .exit) ≡ q .0 * blockSize → Located book pool v k lbn at 0
   located-at q h offset = record {
     number = ap soughtNumber (sym h) ∙ number-is b p v k lbn s e;
-    answer = rw (place-sought b p v k lbn, ← e, h) offset;
+    answer = rw (offset-sought b p v k lbn, ← e, h) offset;
   }

@@ -10,4 +10,5 @@ use Rattle.model.specs.OnBytes.{after, readNumberBytes, readPlaceBytes}
 -- r is what the call returns, at is its answer
 pub record Located (b pool : Lent (List ℕ)) (v k lbn : ℕ) (at : Lent ℕ) (r : ℕ) : Type 0 where
   pub number : r ≡ readNumberBytes (now (b .entry)) (now (pool .entry)) v k lbn
-  pub answer : now (at .exit) ≡ after (λ p. p) (readPlaceBytes (now (b .entry)) (now (pool .entry)) v k lbn) (now (at .entry))
+  pub answer : now (at .exit) ≡
+      after (λ p. p) (readPlaceBytes (now (b .entry)) (now (pool .entry)) v k lbn) (now (at .entry))

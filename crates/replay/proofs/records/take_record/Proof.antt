@@ -14,10 +14,10 @@ known : (c : tie.After-record-at) → ReadIn (bookOf (now (c .before .before .ar
 known c = let s = c .before .before in read-in (s .pre .0) (s .args .q) (s .pre .1 .2) (c .record-at .ensures)
 
 replace-requires : tie.Need-replace-requires
-replace-requires c κs = (c .before .before .before .pre .1 .0, known (c .before) .place)
+replace-requires c κs = (c .before .before .before .pre .1 .0, known (c .before) .inRow)
 
 meet-requires : tie.Need-meet-requires
-meet-requires c κs = known (read c) .place
+meet-requires c κs = known (read c) .inRow
 
 unmapped-or-held-requires : tie.Need-unmapped-or-held-requires
 unmapped-or-held-requires c κs =
