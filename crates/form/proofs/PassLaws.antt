@@ -24,12 +24,12 @@ use Rattle.book.specs.Form.{retentionOk, entryOk, pbnOk, recOk, enrolled, slotO
 use Rattle.book.proofs.FormNumber.{number-0, number-2}
 use Rattle.book.specs.Formed.{BookParts}
 use Rattle.book.proofs.FormParts.{book-parts, parts-book, RawParts, raw-parts, parts-raw}
-use Rattle.form.proofs.DayLaws.{volumeOk, days-pass}
-use Rattle.form.specs.Days.{noLasts}
-use Rattle.form.specs.Slots.{slotsLeft}
-use Rattle.form.proofs.SlotLaws.{no-retention}
-use Rattle.form.specs.Checks.{zerosIn, headOk, retentionsOk, entriesOk, mapsOk, recordsOk}
-use Rattle.form.proofs.CheckLaws.{head-facts, facts-head}
+use Rattle.slots.proofs.DayLaws.{volumeOk, days-pass}
+use Rattle.slots.specs.Days.{noLasts}
+use Rattle.slots.specs.Slots.{slotsLeft}
+use Rattle.slots.proofs.SlotLaws.{no-retention}
+use Rattle.sections.specs.Checks.{zerosIn, headOk, retentionsOk, entriesOk, mapsOk, recordsOk}
+use Rattle.sections.proofs.CheckLaws.{head-facts, facts-head}
 use Rattle.form.specs.Passes.{blocksOk, slotsOk, journalOk}
 
 -- ---- section by section

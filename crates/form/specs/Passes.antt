@@ -6,9 +6,9 @@ use Rattle.words.specs.Numbers.{num}
 use Rattle.book.specs.Book.{volumes}
 use Rattle.book.specs.Layout.{nPlace, lPlace, bPlace, uPlace, mapsFrom, slotPlace, recordsFrom, recPlace, bookSize}
 use Rattle.book.specs.Layout.{sizesOf}
-use Rattle.form.specs.Days.{noLasts}
-use Rattle.form.specs.Slots.{slotsLeft}
-use Rattle.form.specs.Checks.{zerosIn, retentionsOk, entriesOk, mapsOk, recordsOk}
+use Rattle.slots.specs.Days.{noLasts}
+use Rattle.slots.specs.Slots.{slotsLeft}
+use Rattle.sections.specs.Checks.{zerosIn, retentionsOk, entriesOk, mapsOk, recordsOk}
 
 -- after the header: retentions, entries and maps; slots; records
 unfoldable pub blocksOk : List ℕ → Bool

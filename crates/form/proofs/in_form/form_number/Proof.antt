@@ -6,8 +6,8 @@ use denote.Ref.{now}
 use Rattle.words.proofs.ChoiceLaws.{failed, passed}
 use Rattle.book.specs.Form.{layoutOk}
 use Rattle.book.proofs.FormNumber.{number-1, layout-facts}
-use Rattle.form.specs.Checks.{headOk}
-use Rattle.form.proofs.CheckLaws.{head-facts}
+use Rattle.sections.specs.Checks.{headOk}
+use Rattle.sections.proofs.CheckLaws.{head-facts}
 use Rattle.form.specs.Passes.{blocksOk, slotsOk}
 use Rattle.form.proofs.PassLaws.{out-of-form, in-form}
 use Rattle.form.proofs.in_form.form_number.Statement.{statement}

@@ -1,6 +1,6 @@
 -- `form::in_form::head_ok` meets its contract: the code computes the definition, on the numbers read.
 use borrow.Author.Needs.{needs}
-use Rattle.form.specs.Checks.{headOk}
+use Rattle.sections.specs.Checks.{headOk}
 use Rattle.form.proofs.in_form.head_ok.Statement.{statement}
 use Rattle.form.proofs.in_form.head_ok.Tie as tie
 

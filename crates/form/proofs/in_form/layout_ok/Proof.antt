@@ -3,7 +3,7 @@ use borrow.Author.Tests.{lt-leb}
 use borrow.Author.Needs.{needs}
 use denote.Ref.{now}
 use Rattle.book.specs.Form.{layoutOk}
-use Rattle.form.proofs.CheckLaws.{layout-tests}
+use Rattle.sections.proofs.CheckLaws.{layout-tests}
 use Rattle.form.proofs.in_form.layout_ok.Statement.{statement}
 use Rattle.form.proofs.in_form.layout_ok.Tie as tie
 
