@@ -1,4 +1,4 @@
--- What a search of the pool answers, by the place that it finds.
+-- What a search of the pool answers, by the block that it finds.
 use Prim.Native.Nat.{ℕ}
 use mathlib.Core.Option.{Option, none, some}
 use Rattle.index.specs.declared.finding.Found.{Found}

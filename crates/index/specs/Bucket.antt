@@ -10,7 +10,7 @@ use Rattle.words.specs.Numbers.{num}
 use Rattle.book.specs.Book.{Entry, entryAt}
 use Rattle.index.specs.First.{firstFrom}
 
--- the places of each table: one for each bucket, and one for each block of the largest pool
+-- the numbers of each table: one for each bucket, and one for each block of the largest pool
 abbrev pub tableSize : ℕ
 tableSize = 4096
 

@@ -1,4 +1,4 @@
--- A walk up a bucket finds what a search of all blocks from a place on does.
+-- A walk up a bucket finds what a search of all blocks from one on does.
 use Prim.Native.Nat.{ℕ, _+_, _≤_, _<_}
 use mathlib.Core.Path.{_≡_}
 use mathlib.Core.Bool.{true}

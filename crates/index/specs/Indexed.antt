@@ -7,10 +7,12 @@ use lib.ListN.{length, getD}
 use Rattle.book.specs.Book.{Entry, entryAt}
 use Rattle.index.specs.Bucket.{tableSize, bucketOf, firstIn}
 
--- the tables index the held blocks from p on: `heads` has the first of each bucket, `nexts` the next one of a block's own bucket
+-- the tables index the held blocks from p on: `heads` has the first of each bucket, `nexts` the next one of a block's
+-- own bucket
 pub record IndexedFrom (p : ℕ) (es : List Entry) (heads nexts : List ℕ) : Type 0 where
   pub head : (h : ℕ) → h < tableSize → getD heads h 0 ≡ firstIn es h p
-  pub next : (q : ℕ) → p ≤ q → q < length es → entryAt es q .held ≡ true → getD nexts q 0 ≡ firstIn es (bucketOf (entryAt es q .print)) (q + 1)
+  pub next : (q : ℕ) → p ≤ q → q < length es → entryAt es q .held ≡ true
+      → getD nexts q 0 ≡ firstIn es (bucketOf (entryAt es q .print)) (q + 1)
   pub buckets : length heads ≡ tableSize
   pub blocks : length nexts ≡ tableSize
   pub small : length es ≤ tableSize

@@ -15,6 +15,7 @@ use book::entry;
 use book::header;
 use words::PBN;
 use words::PRINT_SIZE;
+use words::limits::Table;
 
 // A block of the pool, where there is one.
 pub enum Found {
@@ -37,7 +38,7 @@ fn same_print(a: &[u8], b: &[u8]) -> bool
 }
 
 // The lowest block with the fingerprint from a block of its bucket on, or N. Goes up through the bucket, whose blocks are all held.
-pub fn search(book: &[u8], nexts: &[u16; 4096], from: u16, print: &[u8]) -> u16
+pub fn search(book: &[u8], nexts: &Table, from: u16, print: &[u8]) -> u16
     requires { ⌜ Holds (now book) ⌝ }
     requires { ⌜ length (now print) ≡ printSize ⌝ }
     requires { ⌜ Chain (told book .entries) (bucketOf (now print)) (now nexts) from ⌝ }
@@ -55,7 +56,7 @@ pub fn search(book: &[u8], nexts: &[u16; 4096], from: u16, print: &[u8]) -> u16
     q
 }
 
-pub fn find(book: &[u8], heads: &[u16; 4096], nexts: &[u16; 4096], print: &[u8]) -> Found
+pub fn find(book: &[u8], heads: &Table, nexts: &Table, print: &[u8]) -> Found
     requires { ⌜ Holds (now book) ⌝ }
     requires { ⌜ Indexed (told book .entries) (now heads) (now nexts) ⌝ }
     requires { ⌜ length (now print) ≡ printSize ⌝ }

@@ -11,10 +11,11 @@ ghost use Rattle.index.specs.Indexed.{Indexed};
 use super::bucket::bucket_of;
 use book::entry;
 use words::PBN;
+use words::limits::Table;
 
 // A free block becomes held with this fingerprint; its count and expiry stay. It goes after the last block of its bucket below it, so that a lookup
 // still finds the lowest.
-pub fn hold(book: &mut [u8], heads: &mut [u16; 4096], nexts: &mut [u16; 4096], p: PBN, print: &[u8])
+pub fn hold(book: &mut [u8], heads: &mut Table, nexts: &mut Table, p: PBN, print: &[u8])
     requires { ⌜ Holds (now book) ⌝ }
     requires { ⌜ (p .0 < told book .sizes .n) × (entryAt (told book .entries) (p .0) .held ≡ false) ⌝ }
     requires { ⌜ length (now print) ≡ printSize ⌝ }

@@ -10,21 +10,25 @@ use super::finding::search;
 use book::entry;
 use book::header;
 use words::PBN;
+use words::limits::MAX_BLOCKS;
+use words::limits::Table;
 
 // No block is linked yet, whatever the tables had.
-pub fn clear(book: &[u8], heads: &mut [u16; 4096], nexts: &mut [u16; 4096])
+pub fn clear(book: &[u8], heads: &mut Table, nexts: &mut Table)
     requires { ⌜ Holds (now book) ⌝ }
-    ensures { λ _. ⌜ IndexedFrom (told (book .entry) .sizes .n) (told (book .entry) .entries) (now (heads .exit)) (now (nexts .exit)) ⌝ }
+    ensures { λ _. ⌜ IndexedFrom (told (book .entry) .sizes .n) (told (book .entry) .entries)
+        (now (heads .exit)) (now (nexts .exit)) ⌝ }
 {
     let n = header::blocks(book);
-    *heads = [n; 4096];
-    *nexts = [n; 4096];
+    *heads = [n; MAX_BLOCKS];
+    *nexts = [n; MAX_BLOCKS];
 }
 
 // A block becomes the first of a bucket.
-fn prepend(heads: &mut [u16; 4096], nexts: &mut [u16; 4096], home: usize, p: PBN)
+fn prepend(heads: &mut Table, nexts: &mut Table, home: usize, p: PBN)
     requires { ⌜ (home < tableSize) × (p .0 < tableSize) ⌝ }
-    ensures { λ _. ⌜ (now (heads .exit) ≡ set (now (heads .entry)) home (p .0)) × (now (nexts .exit) ≡ set (now (nexts .entry)) (p .0) (getD (now (heads .entry)) home 0)) ⌝ }
+    ensures { λ _. ⌜ (now (heads .exit) ≡ set (now (heads .entry)) home (p .0))
+        × (now (nexts .exit) ≡ set (now (nexts .entry)) (p .0) (getD (now (heads .entry)) home 0)) ⌝ }
 {
     let at = p.0 as usize;
     nexts[at] = heads[home];
@@ -32,7 +36,7 @@ fn prepend(heads: &mut [u16; 4096], nexts: &mut [u16; 4096], home: usize, p: PBN
 }
 
 // A held block comes before those above it.
-fn link(book: &[u8], heads: &mut [u16; 4096], nexts: &mut [u16; 4096], p: PBN)
+fn link(book: &[u8], heads: &mut Table, nexts: &mut Table, p: PBN)
     requires { ⌜ Holds (now book) ⌝ }
     requires { ⌜ p .0 < told book .sizes .n ⌝ }
     requires { ⌜ IndexedFrom (p .0 + 1) (told book .entries) (now heads) (now nexts) ⌝ }
@@ -46,7 +50,7 @@ fn link(book: &[u8], heads: &mut [u16; 4096], nexts: &mut [u16; 4096], p: PBN)
 }
 
 // .. which are first asked for its fingerprint. Whether none has it.
-pub fn link_apart(book: &[u8], heads: &mut [u16; 4096], nexts: &mut [u16; 4096], p: PBN) -> bool
+pub fn link_apart(book: &[u8], heads: &mut Table, nexts: &mut Table, p: PBN) -> bool
     requires { ⌜ Holds (now book) ⌝ }
     requires { ⌜ p .0 < told book .sizes .n ⌝ }
     requires { ⌜ IndexedFrom (p .0 + 1) (told book .entries) (now heads) (now nexts) ⌝ }
@@ -64,7 +68,7 @@ pub fn link_apart(book: &[u8], heads: &mut [u16; 4096], nexts: &mut [u16; 4096],
 }
 
 // The index of all held blocks.
-pub fn build(book: &[u8], heads: &mut [u16; 4096], nexts: &mut [u16; 4096])
+pub fn build(book: &[u8], heads: &mut Table, nexts: &mut Table)
     requires { ⌜ Holds (now book) ⌝ }
     ensures { λ _. ⌜ Indexed (told (book .entry) .entries) (now (heads .exit)) (now (nexts .exit)) ⌝ }
 {

@@ -19,6 +19,7 @@ use book::slot;
 use list::Shape;
 use mover::changing::run_changes;
 use mover::moving::Step;
+use words::limits::MAX_BLOCKS;
 
 // The number of a backup that isn't allowed.
 fn allowed_number(allowed: Allowed) -> u16
@@ -64,14 +65,14 @@ fn work_through(
     requires { ⌜ Formed (now book) × (now work ≡ now book) ⌝ }
     requires { ⌜ Job (told book) (now pool) (now list) shape × (v < volumes) ⌝ }
     requires { ⌜ length (told book .slots) < told book .sizes .s ⌝ }
-    ensures { λ r. ⌜ WorkedBy (told (book .entry)) (now (pool .entry)) (now (list .entry)) v day until r (now (pool .exit)) (now (work .exit)) ⌝ }
+    ensures { λ r. ⌜ WorkedBy book pool work list v day until r ⌝ }
 {
-    let mut by = [0u16; 4096];
-    let step = run_changes(book, pool, work, list, shape, &mut by, v, until);
+    let mut taker = [0u16; MAX_BLOCKS];
+    let step = run_changes(book, pool, work, list, shape, &mut taker, v, until);
     let Step::Next(t) = step else {
         return step;
     };
-    store_all(book, work, pool, list, shape, &by);
+    store_all(book, work, pool, list, shape, &taker);
     let first = header::used_records(book);
     close(work, v, day, first, shape.changes);
     Step::Next(t)
@@ -89,10 +90,7 @@ pub fn backup(
     taken: &mut u16,
     touched: &mut u16,
 ) -> u16
-    ensures { λ r. ⌜ BackedUp (now (book .entry)) (now (pool .entry)) (now (spare .entry)) volume day (now (list .entry))
-        (record { number = now (number .entry); taken = now (taken .entry); touched = now (touched .entry) })
-        r (now (book .exit)) (now (pool .exit))
-        (record { number = now (number .exit); taken = now (taken .exit); touched = now (touched .exit) }) ⌝ }
+    ensures { λ r. ⌜ BackedUp book pool spare volume day list number taken touched r ⌝ }
 {
     let allowed = allow(book, pool, spare.len(), volume, day, list);
     let Allowed::Go(plan) = allowed else {

@@ -8,10 +8,12 @@ use native.Mathlib.Numerals.{add-one}
 use native.Mathlib.Omega.{arith}
 use lib.Dec.{eqb}
 use lib.ListN.{length, getD, set}
+use denote.Ref.{now}
 use lib.Seq.{getD-set-same}
 use borrow.Author.Tests.{eq-eqb, ne-eqb, not-true, not-false}
 use Rattle.words.specs.Blocks.{unmapped}
 use Rattle.words.specs.Choice.{if_then_else_}
+use Rattle.words.specs.Lent.{Lent}
 use Rattle.words.specs.Lists.{all}
 use Rattle.words.specs.Outcome.{refused, accepted}
 use Rattle.words.proofs.Places.{all-getD}
@@ -40,16 +42,19 @@ set-twice {A} (x ∷ xs) (suc p) y z = ap (λ (r : List A). x ∷ r) (set-twice 
 
 -- ---- step 3
 
-module _ (until before : ℕ) (b : List ℕ) where
-  pub lower-none : before ≡ unmapped → Holds b → LoweredBy until before b true b
+module _ (work : Lent (List ℕ)) (before until : ℕ) where
+  abbrev b : List ℕ
+  b = now (work .entry)
+
+  pub lower-none : now (work .exit) ≡ b → before ≡ unmapped → Holds b → LoweredBy work before until true
   unfolding lower withEntries
-  lower-none e h = record {
+  lower-none same e h = record {
     goes = rw (eq-eqb before unmapped e);
-    book = λ _. record { holds = h; book = rw (eq-eqb before unmapped e) };
+    book = λ _. rw same (record { holds = h; book = rw (eq-eqb before unmapped e) });
   }
 
-  pub lower-zero : (b′ : List ℕ) → (before ≡ unmapped → ⊥) → entryAt (bookOf b .entries) before .count ≡ 0 → LoweredBy until before b false b′
-  lower-zero b′ e z = record {
+  pub lower-zero : (before ≡ unmapped → ⊥) → entryAt (bookOf b .entries) before .count ≡ 0 → LoweredBy work before until false
+  lower-zero e z = record {
     goes = rw (ne-eqb before unmapped e, eq-eqb (entryAt (bookOf b .entries) before .count) 0 z);
     book = λ f. absurd (let z : _≡_ {A = ℕ} 0 1 = cc in omega arith);
   }
@@ -77,16 +82,16 @@ module _ (until before : ℕ) (b : List ℕ) where
     unfolding countAs
     expiry-down = ap (λ (x : Entry). x .expiry) entry-down
 
-    pub lower-late : until ≤ entryAt (bookOf b₁ .entries) before .expiry → LoweredBy until before b true b₁
+    pub lower-late : now (work .exit) ≡ b₁ → until ≤ entryAt (bookOf b₁ .entries) before .expiry → LoweredBy work before until true
     unfolding lower lowered countAs expiryAs
-    lower-late k = record {
+    lower-late same k = record {
       goes = goes-on;
-      book = λ _. is-same (let m : max (own .expiry) until ≡ own .expiry = omega (arith, expiry-down) in rw (ne-eqb before unmapped e, m)) i;
+      book = λ _. rw same (is-same (let m : max (own .expiry) until ≡ own .expiry = omega (arith, expiry-down) in rw (ne-eqb before unmapped e, m)) i);
     }
 
-    pub lower-early : (b₂ : List ℕ) → entryAt (bookOf b₁ .entries) before .expiry < until → Is b₂ (withEntry (expiryAs until) before (bookOf b₁)) → LoweredBy until before b true b₂
+    pub lower-early : entryAt (bookOf b₁ .entries) before .expiry < until → Is (now (work .exit)) (withEntry (expiryAs until) before (bookOf b₁)) → LoweredBy work before until true
     unfolding lower lowered withEntries
-    lower-early b₂ k j = record {
+    lower-early k j = record {
       goes = goes-on;
       book = λ _.
           is-same (let m : max (own .expiry) until ≡ until = omega (arith, expiry-down) in

@@ -30,10 +30,9 @@ use Rattle.model.specs.Backup.{Work, findHeld, findFree, takeBlock, placeFree, 
 use Rattle.mover.proofs.Finding.{found-held, found-free}
 use Rattle.mover.proofs.MoveLaws.{is-then, is-same}
 use Rattle.mover.proofs.PoolLaws.{Known, block-now, taken-now}
-use Rattle.mover.specs.Stepping.{takenBook, PlacedBy}
+use Rattle.mover.specs.Stepping.{takenBook}
 use Rattle.mover.specs.Working.{heldBlock, blockNow, poolNow, workOf, Job, Standing}
 use Rattle.mover.specs.declared.placing.Tally.{Tally}
-use Rattle.mover.specs.declared.placing.Placed.the-variants.{At, Refused}
 
 -- ---- the model's steps, by what is found
 
@@ -57,16 +56,26 @@ module _ (c : Change) (w : Work) where
 
 -- ---- where a backup stands
 
-pub known : (x y : Book) (pool list by : List ℕ) (shape : Shape) (t : Tally) (m i : ℕ) → Sized x → Job x pool list shape → Standing x y by t m i → m ≤ changeCount list
-    → Known (x .entries) (y .entries) by list pool (changeCount list)
-known x y pool list by shape t m i sx j s h = record {
+-- the block of change i is p, and the working copy is b′ with it: what `PlacedBy` says, between plain values
+abbrev pub PlacedAt : Book → List ℕ → List ℕ → ℕ → List ℕ → List ℕ → Tally → PBN → Tally → List ℕ → List ℕ → Type 0
+PlacedAt x pool list i b taker t p t′ b′ taker′ =
+    (place (changeAt list i) (workOf x pool list (bookOf b) taker t)
+    ≡ accepted (record { pbn = p .0; work = workOf x pool list (bookOf b′) taker′ t′ }))
+    × (bookOf b′ .maps ≡ bookOf b .maps)
+    × (p .0 < x .sizes .n)
+    × Holds b′
+    × Standing x (bookOf b′) taker′ t′ (i + 1) i
+
+pub known : (x y : Book) (pool list taker : List ℕ) (shape : Shape) (t : Tally) (m i : ℕ) → Sized x → Job x pool list shape → Standing x y taker t m i → m ≤ changeCount list
+    → Known (x .entries) (y .entries) taker list pool (changeCount list)
+known x y pool list taker shape t m i sx j s h = record {
   size = rw (sx .entries) (j .size);
   whole = length-block list shape (j .whole);
   marks = λ p f e. let z = s .marks p f e in omega arith;
 }
 
-module _ (x : Book) (pool list : List ℕ) (shape : Shape) (t : Tally) (i : ℕ) (b by : List ℕ)
-    (sx : Sized x) (hb : Holds b) (j : Job x pool list shape) (h : i < changeCount list) (s : Standing x (bookOf b) by t i i) where
+module _ (x : Book) (pool list : List ℕ) (shape : Shape) (t : Tally) (i : ℕ) (b taker : List ℕ)
+    (sx : Sized x) (hb : Holds b) (j : Job x pool list shape) (h : i < changeCount list) (s : Standing x (bookOf b) taker t i i) where
   abbrev y : Book
   y = bookOf b
 
@@ -74,10 +83,10 @@ module _ (x : Book) (pool list : List ℕ) (shape : Shape) (t : Tally) (i : ℕ)
   c = changeAt list i
 
   abbrev w : Work
-  w = workOf x pool list (bookOf b) by t
+  w = workOf x pool list (bookOf b) taker t
 
-  k : Known (x .entries) (bookOf b .entries) by list pool (changeCount list)
-  k = known x y pool list by shape t i i sx j s (omega arith)
+  k : Known (x .entries) (bookOf b .entries) taker list pool (changeCount list)
+  k = known x y pool list taker shape t i i sx j s (omega arith)
 
   bound : (p : ℕ) → p < length (bookOf b .entries) → (p < x .sizes .n) × (p < length (x .entries))
   bound p l =
@@ -88,25 +97,23 @@ module _ (x : Book) (pool list : List ℕ) (shape : Shape) (t : Tally) (i : ℕ)
 
   -- the bytes of a block that is found
   pub found-bytes : (p : ℕ) → findHeld (bookOf b .entries) (changeAt list i .print) ≡ some p
-      → blockAt (poolNow (x .entries) (bookOf b .entries) by list pool) p ≡ heldBlock (x .entries) by list pool p
+      → blockAt (poolNow (x .entries) (bookOf b .entries) taker list pool) p ≡ heldBlock (x .entries) taker list pool p
   unfolding blockNow
   found-bytes p e =
       let f = found-held (y .entries) (c .print) p e in
-      block-now (x .entries) (y .entries) by list pool (changeCount list) k p (bound p (f .0) .1) ∙ rw (f .1)
+      block-now (x .entries) (y .entries) taker list pool (changeCount list) k p (bound p (f .0) .1) ∙ rw (f .1)
 
-  pub twelve-by : (b′ by′ : List ℕ) → findHeld (bookOf b .entries) (changeAt list i .print) ≡ none → findFree (bookOf b .entries) (bookOf b .cursor) ≡ none
-      → PlacedBy x pool list i b by t (Refused 12) b′ by′
-  unfolding PlacedBy
-  twelve-by b′ by′ e f = place-twelve c w e f
+  pub twelve-by : findHeld (bookOf b .entries) (changeAt list i .print) ≡ none → findFree (bookOf b .entries) (bookOf b .cursor) ≡ none
+      → place (changeAt list i) (workOf x pool list (bookOf b) taker t) ≡ refused 12
+  twelve-by e f = place-twelve c w e f
 
-  pub eleven-by : (b′ by′ : List ℕ) (p : ℕ) → findHeld (bookOf b .entries) (changeAt list i .print) ≡ some p
-      → same (heldBlock (x .entries) by list pool p) (changeAt list i .block) ≡ false → PlacedBy x pool list i b by t (Refused 11) b′ by′
-  unfolding PlacedBy
-  eleven-by b′ by′ p e f = place-eleven c w p e (rw (found-bytes p e) f)
+  pub eleven-by : (p : ℕ) → findHeld (bookOf b .entries) (changeAt list i .print) ≡ some p
+      → same (heldBlock (x .entries) taker list pool p) (changeAt list i .block) ≡ false
+      → place (changeAt list i) (workOf x pool list (bookOf b) taker t) ≡ refused 11
+  eleven-by p e f = place-eleven c w p e (rw (found-bytes p e) f)
 
   pub found-by : (q : PBN) → findHeld (bookOf b .entries) (changeAt list i .print) ≡ some (q .0)
-      → same (heldBlock (x .entries) by list pool (q .0)) (changeAt list i .block) ≡ true → PlacedBy x pool list i b by t (At q t) b by
-  unfolding PlacedBy
+      → same (heldBlock (x .entries) taker list pool (q .0)) (changeAt list i .block) ≡ true → PlacedAt x pool list i b taker t q t b taker
   found-by q e f = (
     place-found c w (q .0) e (rw (found-bytes (q .0) e) f),
     refl,
@@ -147,21 +154,21 @@ module _ (x : Book) (pool list : List ℕ) (shape : Shape) (t : Tally) (i : ℕ)
         go true e = absurd (not-both (entryAt (y .entries) p .held) (s .kept p e) free)
         go false e = refl
 
-    fits : p < length by
+    fits : p < length taker
     fits = let n = hb .n in let e = hb .sized .entries in let m = s .table in omega arith
 
-    taken-pool : withBlock (poolNow (x .entries) (bookOf b .entries) by list pool) p (changeAt list i .block)
-        ≡ poolNow (x .entries) (takenBook (changeAt list i .print) p (bookOf b) .entries) (set by p i) list pool
+    taken-pool : withBlock (poolNow (x .entries) (bookOf b .entries) taker list pool) p (changeAt list i .block)
+        ≡ poolNow (x .entries) (takenBook (changeAt list i .print) p (bookOf b) .entries) (set taker p i) list pool
     taken-pool =
-        taken-now (x .entries) (y .entries) (y′ .entries) by list pool (changeCount list) k p i (bound p l .1) fits
+        taken-now (x .entries) (y .entries) (y′ .entries) taker list pool (changeCount list) k p i (bound p l .1) fits
         (length-block list shape (j .whole) i h) free-old taken-here taken-other
 
-    taken-work : takeBlock (changeAt list i) p (workOf x pool list (bookOf b) by t)
-        ≡ workOf x pool list (takenBook (changeAt list i .print) p (bookOf b)) (set by p i) (record { taken = t .taken + 1; touched = t .touched })
+    taken-work : takeBlock (changeAt list i) p (workOf x pool list (bookOf b) taker t)
+        ≡ workOf x pool list (takenBook (changeAt list i .print) p (bookOf b)) (set taker p i) (record { taken = t .taken + 1; touched = t .touched })
     unfolding takeBlock
     taken-work = rw (taken-pool, add-one)
 
-    taken-standing : Standing x (takenBook (changeAt list i .print) p (bookOf b)) (set by p i) (record { taken = t .taken + 1; touched = t .touched }) (i + 1) i
+    taken-standing : Standing x (takenBook (changeAt list i .print) p (bookOf b)) (set taker p i) (record { taken = t .taken + 1; touched = t .touched }) (i + 1) i
     unfolding withCursor withEntries
     taken-standing = record {
       sizes = s .sizes;
@@ -171,7 +178,7 @@ module _ (x : Book) (pool list : List ℕ) (shape : Shape) (t : Tally) (i : ℕ)
       records = s .records;
       kept = λ q e. kept q e (eqb q p) refl;
       marks = λ q f e. marks q f e (eqb q p) refl;
-      table = length-set by p i ∙ s .table;
+      table = length-set taker p i ∙ s .table;
       taken = let z = s .taken in omega arith;
       touched = s .touched;
     }
@@ -180,18 +187,18 @@ module _ (x : Book) (pool list : List ℕ) (shape : Shape) (t : Tally) (i : ℕ)
         kept q e true z = rw (eqb-true q p z) taken-here
         kept q e false z = taken-other q (eqb-false q p z) ∙ s .kept q e
 
-        marks : (q : ℕ) → entryAt (x .entries) q .held ≡ false → entryAt (y′ .entries) q .held ≡ true → (u : Bool) → eqb q p ≡ u → getD (set by p i) q 0 < i + 1
-        marks q f e true z = rw (eqb-true q p z, getD-set-same by p i 0 fits) (omega arith)
+        marks : (q : ℕ) → entryAt (x .entries) q .held ≡ false → entryAt (y′ .entries) q .held ≡ true → (u : Bool) → eqb q p ≡ u → getD (set taker p i) q 0 < i + 1
+        marks q f e true z = rw (eqb-true q p z, getD-set-same taker p i 0 fits) (omega arith)
         marks q f e false z =
             let d = eqb-false q p z in
-            rw (getD-set-other by p q i 0 d) (let m = s .marks q f (sym (taken-other q d) ∙ e) in omega arith)
+            rw (getD-set-other taker p q i 0 d) (let m = s .marks q f (sym (taken-other q d) ∙ e) in omega arith)
 
-  pub taken-by : (q : PBN) (b′ by′ : List ℕ) → findHeld (bookOf b .entries) (changeAt list i .print) ≡ none
+  pub taken-by : (q : PBN) (b′ taker′ : List ℕ) → findHeld (bookOf b .entries) (changeAt list i .print) ≡ none
       → findFree (bookOf b .entries) (bookOf b .cursor) ≡ some (q .0)
-      → Is b′ (takenBook (changeAt list i .print) (q .0) (bookOf b)) → by′ ≡ set by (q .0) i
-      → PlacedBy x pool list i b by t (At q (record { taken = t .taken + 1; touched = t .touched })) b′ by′
-  unfolding PlacedBy withCursor withEntries
-  taken-by q b′ by′ e f is m =
+      → Is b′ (takenBook (changeAt list i .print) (q .0) (bookOf b)) → taker′ ≡ set taker (q .0) i
+      → PlacedAt x pool list i b taker t q (record { taken = t .taken + 1; touched = t .touched }) b′ taker′
+  unfolding withCursor withEntries
+  taken-by q b′ taker′ e f is m =
       let r = found-free (y .entries) (y .cursor) (q .0) f in
       rw (is .book, m) (
         place-taken c w (q .0) e f ∙ ap (λ (u : Work). accepted (record { pbn = q .0; work = u })) (taken-work (q .0) (r .0) (r .1)),

@@ -84,96 +84,96 @@ module _ (pool c : List ℕ) (p n : ℕ) (h : p < n) (l : length pool ≡ poolSi
 
 -- ---- the pool that a backup sees
 
-module _ (old new : List Entry) (by list pool : List ℕ) where
+module _ (old new : List Entry) (taker list pool : List ℕ) where
   -- the bytes of each block are known
   pub record Known (m : ℕ) : Type 0 where
     pub size : length pool ≡ poolSize (length old)
     pub whole : (i : ℕ) → i < m → length (changeAt list i .block) ≡ blockSize
-    pub marks : (p : ℕ) → entryAt old p .held ≡ false → entryAt new p .held ≡ true → getD by p 0 < m
+    pub marks : (p : ℕ) → entryAt old p .held ≡ false → entryAt new p .held ≡ true → getD taker p 0 < m
 
-  block-size : (m : ℕ) → Known m → (p : ℕ) → p < length old → length (blockNow old new by list pool p) ≡ blockSize
+  block-size : (m : ℕ) → Known m → (p : ℕ) → p < length old → length (blockNow old new taker list pool p) ≡ blockSize
   unfolding blockNow heldBlock
   block-size m k p h = go (entryAt new p .held) (entryAt old p .held) refl refl
     where
       go : (s t : Bool) → entryAt new p .held ≡ s → entryAt old p .held ≡ t
-          → length (if s then if t then blockAt pool p else changeAt list (getD by p 0) .block else blockAt pool p) ≡ blockSize
+          → length (if s then if t then blockAt pool p else changeAt list (getD taker p 0) .block else blockAt pool p) ≡ blockSize
       go true true e f = length-part pool (p * blockSize) blockSize (omega (arith, k .size))
-      go true false e f = k .whole (getD by p 0) (k .marks p f e)
+      go true false e f = k .whole (getD taker p 0) (k .marks p f e)
       go false t e f = length-part pool (p * blockSize) blockSize (omega (arith, k .size))
 
-  sized-now : (m : ℕ) → Known m → sized blockSize (blockNow old new by list pool) (upFrom 0 (length old)) ≡ true
+  sized-now : (m : ℕ) → Known m → sized blockSize (blockNow old new taker list pool) (upFrom 0 (length old)) ≡ true
   sized-now m k =
-      all-upFrom (λ p. eqb (length (blockNow old new by list pool p)) blockSize) 0 (length old)
-      (λ p a b. eq-eqb (length (blockNow old new by list pool p)) blockSize (block-size m k p (omega arith)))
+      all-upFrom (λ p. eqb (length (blockNow old new taker list pool p)) blockSize) 0 (length old)
+      (λ p a b. eq-eqb (length (blockNow old new taker list pool p)) blockSize (block-size m k p (omega arith)))
 
-  pub block-now : (m : ℕ) → Known m → (p : ℕ) → p < length old → blockAt (poolNow old new by list pool) p ≡ blockNow old new by list pool p
+  pub block-now : (m : ℕ) → Known m → (p : ℕ) → p < length old → blockAt (poolNow old new taker list pool) p ≡ blockNow old new taker list pool p
   unfolding poolNow
   block-now m k p h =
-      let f = blockNow old new by list pool in
+      let f = blockNow old new taker list pool in
       ap (λ (b : List ℕ). blockAt b p) (sym (append-nil (flat f (upFrom 0 (length old)))))
       ∙ part-sized blockSize f (upFrom 0 (length old)) [] p 0 (sized-now m k) (rw length-upFrom h)
       ∙ ap f (getD-upFrom 0 (length old) p h ∙ zero-add p)
 
-  pub length-now : (m : ℕ) → Known m → length (poolNow old new by list pool) ≡ poolSize (length old)
+  pub length-now : (m : ℕ) → Known m → length (poolNow old new taker list pool) ≡ poolSize (length old)
   unfolding poolNow
-  length-now m k = length-sized blockSize (blockNow old new by list pool) (upFrom 0 (length old)) (sized-now m k) ∙ rw length-upFrom
+  length-now m k = length-sized blockSize (blockNow old new taker list pool) (upFrom 0 (length old)) (sized-now m k) ∙ rw length-upFrom
 
   -- a pool with these blocks is it
-  pub is-now : (b : List ℕ) → length b ≡ poolSize (length old) → ((p : ℕ) → p < length old → blockAt b p ≡ blockNow old new by list pool p) → b ≡ poolNow old new by list pool
+  pub is-now : (b : List ℕ) → length b ≡ poolSize (length old) → ((p : ℕ) → p < length old → blockAt b p ≡ blockNow old new taker list pool p) → b ≡ poolNow old new taker list pool
   unfolding poolNow
-  is-now b l h = by-blocks (length old) b (blockNow old new by list pool) l h
+  is-now b l h = by-blocks (length old) b (blockNow old new taker list pool) l h
 
 -- before the first change
-pub start-now : (old : List Entry) (by list pool : List ℕ) → length pool ≡ poolSize (length old) → poolNow old old by list pool ≡ pool
+pub start-now : (old : List Entry) (taker list pool : List ℕ) → length pool ≡ poolSize (length old) → poolNow old old taker list pool ≡ pool
 unfolding blockNow heldBlock
-start-now old by list pool l = sym (is-now old old by list pool pool l (λ p h. go (entryAt old p .held) p))
+start-now old taker list pool l = sym (is-now old old taker list pool pool l (λ p h. go (entryAt old p .held) p))
   where
-    go : (t : Bool) (p : ℕ) → blockAt pool p ≡ (if t then if t then blockAt pool p else changeAt list (getD by p 0) .block else blockAt pool p)
+    go : (t : Bool) (p : ℕ) → blockAt pool p ≡ (if t then if t then blockAt pool p else changeAt list (getD taker p 0) .block else blockAt pool p)
     go true p = refl
     go false p = refl
 
 -- only which blocks are held shows
-pub same-now : (old new new′ : List Entry) (by list pool : List ℕ) → ((p : ℕ) → entryAt new′ p .held ≡ entryAt new p .held) → poolNow old new by list pool ≡ poolNow old new′ by list pool
+pub same-now : (old new new′ : List Entry) (taker list pool : List ℕ) → ((p : ℕ) → entryAt new′ p .held ≡ entryAt new p .held) → poolNow old new taker list pool ≡ poolNow old new′ taker list pool
 unfolding poolNow blockNow
-same-now old new new′ by list pool h =
+same-now old new new′ taker list pool h =
     ap (λ (bs : List (List ℕ)). joined bs)
-    (map-same (blockNow old new by list pool) (blockNow old new′ by list pool) 0 (length old)
-    (λ p a b. ap (λ (t : Bool). if t then heldBlock old by list pool p else blockAt pool p) (sym (h p))))
+    (map-same (blockNow old new taker list pool) (blockNow old new′ taker list pool) 0 (length old)
+    (λ p a b. ap (λ (t : Bool). if t then heldBlock old taker list pool p else blockAt pool p) (sym (h p))))
 
 -- block p, free until now, is taken by change i
-module _ (old new new′ : List Entry) (by list pool : List ℕ) (m : ℕ) (k : Known old new by list pool m) (p i : ℕ) where
-  pub taken-now : p < length old → p < length by → length (changeAt list i .block) ≡ blockSize → entryAt old p .held ≡ false → entryAt new′ p .held ≡ true
+module _ (old new new′ : List Entry) (taker list pool : List ℕ) (m : ℕ) (k : Known old new taker list pool m) (p i : ℕ) where
+  pub taken-now : p < length old → p < length taker → length (changeAt list i .block) ≡ blockSize → entryAt old p .held ≡ false → entryAt new′ p .held ≡ true
       → ((q : ℕ) → (q ≡ p → ⊥) → entryAt new′ q .held ≡ entryAt new q .held)
-      → withBlock (poolNow old new by list pool) p (changeAt list i .block) ≡ poolNow old new′ (set by p i) list pool
+      → withBlock (poolNow old new taker list pool) p (changeAt list i .block) ≡ poolNow old new′ (set taker p i) list pool
   unfolding blockNow heldBlock
   taken-now hp hb hc f e others =
-      is-now old new′ (set by p i) list pool (withBlock P p c)
+      is-now old new′ (set taker p i) list pool (withBlock P p c)
       (length-with P c p (length old) hc hp l)
       (λ q h. block-with P c p (length old) hp l hc q ∙ go q h (eqb q p) refl)
     where
       P : List ℕ
-      P = poolNow old new by list pool
+      P = poolNow old new taker list pool
 
       c : List ℕ
       c = changeAt list i .block
 
       l : length P ≡ poolSize (length old)
-      l = length-now old new by list pool m k
+      l = length-now old new taker list pool m k
 
       go : (q : ℕ) → q < length old → (t : Bool) → eqb q p ≡ t
           → (if t then c else blockAt P q)
-          ≡ (if entryAt new′ q .held then if entryAt old q .held then blockAt pool q else changeAt list (getD (set by p i) q 0) .block else blockAt pool q)
-      go q h true z = rw (eqb-true q p z, e, f, getD-set-same by p i 0 hb)
+          ≡ (if entryAt new′ q .held then if entryAt old q .held then blockAt pool q else changeAt list (getD (set taker p i) q 0) .block else blockAt pool q)
+      go q h true z = rw (eqb-true q p z, e, f, getD-set-same taker p i 0 hb)
       go q h false z =
           let d = eqb-false q p z in
-          block-now old new by list pool m k q h ∙ rw (others q d, getD-set-other by p q i 0 d)
+          block-now old new taker list pool m k q h ∙ rw (others q d, getD-set-other taker p q i 0 d)
 
 -- where the bytes of a held block stand
-module _ (old : List Entry) (by list pool : List ℕ) (p : ℕ) where
-  pub in-pool : entryAt old p .held ≡ true → heldBlock old by list pool p ≡ blockAt pool p
+module _ (old : List Entry) (taker list pool : List ℕ) (p : ℕ) where
+  pub in-pool : entryAt old p .held ≡ true → heldBlock old taker list pool p ≡ blockAt pool p
   unfolding heldBlock
   in-pool e = rw e
 
-  pub in-list : entryAt old p .held ≡ false → heldBlock old by list pool p ≡ changeAt list (getD by p 0) .block
+  pub in-list : entryAt old p .held ≡ false → heldBlock old taker list pool p ≡ changeAt list (getD taker p 0) .block
   unfolding heldBlock
   in-list e = rw e

@@ -6,7 +6,7 @@ ghost use Rattle.book.specs.Book.{volumes};
 ghost use Rattle.book.specs.Layout.{told, Holds};
 ghost use Rattle.index.specs.Indexed.{Indexed};
 ghost use Rattle.mover.specs.Working.{Job, Standing};
-ghost use Rattle.mover.specs.Stepping.{placedNumber, SteppedBy, StillIndexed, RanBy};
+ghost use Rattle.mover.specs.Stepping.{noTally, placedNumber, SteppedBy, StillIndexed, RanBy};
 use super::moving::Step;
 use super::moving::move_to;
 use super::placing::Placed;
@@ -15,6 +15,8 @@ use super::placing::place;
 use index::build;
 use list::Shape;
 use words::LBN;
+use words::limits::MAX_BLOCKS;
+use words::limits::Table;
 
 // The number of a change that isn't placed.
 fn placed_number(placed: Placed) -> u16
@@ -33,9 +35,9 @@ fn change(
     work: &mut [u8],
     list: &[u8],
     shape: Shape,
-    by: &mut [u16; 4096],
-    heads: &mut [u16; 4096],
-    nexts: &mut [u16; 4096],
+    taker: &mut Table,
+    heads: &mut Table,
+    nexts: &mut Table,
     v: u16,
     until: u16,
     i: usize,
@@ -44,13 +46,13 @@ fn change(
 ) -> Step
     requires { ⌜ Holds (now book) × Holds (now work) ⌝ }
     requires { ⌜ Job (told book) (now pool) (now list) shape × (i < shape .changes) × (v < volumes) ⌝ }
-    requires { ⌜ Standing (told book) (told work) (now by) t i i ⌝ }
+    requires { ⌜ Standing (told book) (told work) (now taker) t i i ⌝ }
     requires { ⌜ lbn .0 ≡ changeAt (now list) i .lbn ⌝ }
     requires { ⌜ Indexed (told work .entries) (now heads) (now nexts) ⌝ }
-    ensures { λ r. ⌜ SteppedBy (told (book .entry)) (now (pool .entry)) (now (list .entry)) v until i (now (work .entry)) (now (by .entry)) t r (now (work .exit)) (now (by .exit)) ⌝ }
-    ensures { λ r. ⌜ StillIndexed r (now (work .exit)) (now (heads .exit)) (now (nexts .exit)) ⌝ }
+    ensures { λ r. ⌜ SteppedBy book pool work list taker v until i t r ⌝ }
+    ensures { λ r. ⌜ StillIndexed work heads nexts r ⌝ }
 {
-    let placed = place(book, pool, work, list, shape, by, heads, nexts, i, t);
+    let placed = place(book, pool, work, list, shape, taker, heads, nexts, i, t);
     let Placed::At(p, u) = placed else {
         return Step::Stop(placed_number(placed));
     };
@@ -64,17 +66,17 @@ pub fn run_changes(
     work: &mut [u8],
     list: &[u8],
     shape: Shape,
-    by: &mut [u16; 4096],
+    taker: &mut Table,
     v: u16,
     until: u16,
 ) -> Step
     requires { ⌜ Holds (now book) × Holds (now work) ⌝ }
     requires { ⌜ Job (told book) (now pool) (now list) shape × (v < volumes) ⌝ }
-    requires { ⌜ Standing (told book) (told work) (now by) (record { taken = 0; touched = 0 }) 0 0 ⌝ }
-    ensures { λ r. ⌜ RanBy (told (book .entry)) (now (pool .entry)) (now (list .entry)) v until (now (work .entry)) (now (by .entry)) r (now (work .exit)) (now (by .exit)) ⌝ }
+    requires { ⌜ Standing (told book) (told work) (now taker) noTally 0 0 ⌝ }
+    ensures { λ r. ⌜ RanBy book pool work list taker v until r ⌝ }
 {
-    let mut heads = [0u16; 4096];
-    let mut nexts = [0u16; 4096];
+    let mut heads = [0u16; MAX_BLOCKS];
+    let mut nexts = [0u16; MAX_BLOCKS];
     build(work, &mut heads, &mut nexts);
     let mut t = Tally {
         taken: 0,
@@ -90,7 +92,7 @@ pub fn run_changes(
             work,
             list,
             shape,
-            by,
+            taker,
             &mut heads,
             &mut nexts,
             v,

@@ -16,19 +16,15 @@ use index::Found;
 use index::find;
 use words::PBN;
 use words::PRINT_SIZE;
+use words::limits::Table;
 
 // The lowest held block with fingerprint i of the fingerprints.
-pub fn find_held(
-    book: &[u8],
-    heads: &[u16; 4096],
-    nexts: &[u16; 4096],
-    prints: &[u8],
-    i: usize,
-) -> Found
+pub fn find_held(book: &[u8], heads: &Table, nexts: &Table, prints: &[u8], i: usize) -> Found
     requires { ⌜ Holds (now book) ⌝ }
     requires { ⌜ Indexed (told book .entries) (now heads) (now nexts) ⌝ }
     requires { ⌜ i * printSize + printSize ≤ length (now prints) ⌝ }
-    ensures { λ r. ⌜ r ≡ foundOf (findHeld (told (book .entry) .entries) (part (now (prints .entry)) (i * printSize) printSize)) ⌝ }
+    ensures { λ r. ⌜ r ≡ foundOf
+        (findHeld (told (book .entry) .entries) (part (now (prints .entry)) (i * printSize) printSize)) ⌝ }
 {
     let from = i * PRINT_SIZE;
     let to = from + PRINT_SIZE;

@@ -20,6 +20,11 @@ use book::record;
 use words::LBN;
 use words::PBN;
 use words::UNMAPPED;
+use words::limits::MAX_COUNT;
+use words::refusals;
+
+// A count that can't rise.
+const FULL: u8 = MAX_COUNT as u8;
 
 // What a change answers: what is counted after it, or the number of its refusal.
 pub enum Step {
@@ -38,7 +43,7 @@ fn touches(before: PBN) -> u16
 fn lower(work: &mut [u8], before: PBN, until: u16) -> bool
     requires { ⌜ Holds (now work) ⌝ }
     requires { ⌜ (before .0 < told work .sizes .n) ⊎ (before .0 ≡ unmapped) ⌝ }
-    ensures { λ r. ⌜ LoweredBy until (before .0) (now (work .entry)) r (now (work .exit)) ⌝ }
+    ensures { λ r. ⌜ LoweredBy work (before .0) until r ⌝ }
 {
     if before.0 == UNMAPPED {
         return true;
@@ -58,9 +63,11 @@ fn lower(work: &mut [u8], before: PBN, until: u16) -> bool
 fn name_block(work: &mut [u8], v: u16, lbn: LBN, before: PBN, p: PBN, count: u8)
     requires { ⌜ Holds (now work) ⌝ }
     requires { ⌜ (v < volumes) × (lbn .0 < told work .sizes .l) × (p .0 < told work .sizes .n) ⌝ }
-    requires { ⌜ (length (told work .records) < told work .sizes .j) × (before .0 ≡ cellAt (told work .maps) v (lbn .0)) ⌝ }
+    requires { ⌜ (length (told work .records) < told work .sizes .j)
+        × (before .0 ≡ cellAt (told work .maps) v (lbn .0)) ⌝ }
     requires { ⌜ (count ≡ entryAt (told work .entries) (p .0) .count) × (count < 255) ⌝ }
-    ensures { λ _. ⌜ Is (now (work .exit)) (nameBlock v (lbn .0) (p .0) (told (work .entry) .entries) (told (work .entry))) ⌝ }
+    ensures { λ _. ⌜ Is (now (work .exit))
+        (nameBlock v (lbn .0) (p .0) (told (work .entry) .entries) (told (work .entry))) ⌝ }
 {
     entry::set_count(work, p, count + 1);
     map::set_cell(work, v, lbn, p);
@@ -73,15 +80,15 @@ pub fn move_to(work: &mut [u8], v: u16, lbn: LBN, p: PBN, until: u16, t: Tally) 
     requires { ⌜ (v < volumes) × (lbn .0 < told work .sizes .l) × (p .0 < told work .sizes .n) ⌝ }
     requires { ⌜ (length (told work .records) < told work .sizes .j) × (t .touched < 65000) ⌝ }
     requires { ⌜ all (all (pbnOk (told work .sizes .n))) (told work .maps) ≡ true ⌝ }
-    ensures { λ r. ⌜ MovedBy v until (lbn .0) (p .0) (now (work .entry)) t r (now (work .exit)) ⌝ }
+    ensures { λ r. ⌜ MovedBy work v (lbn .0) (p .0) until t r ⌝ }
 {
     let before = map::cell(work, v, lbn);
     if !lower(work, before, until) {
-        return Step::Stop(13);
+        return Step::Stop(refusals::COUNT_ZERO);
     }
     let count = entry::count(work, p);
-    if count == 255 {
-        return Step::Stop(14);
+    if count == FULL {
+        return Step::Stop(refusals::COUNT_FULL);
     }
     name_block(work, v, lbn, before, p, count);
     let taken = t.taken;

@@ -21,6 +21,8 @@ use index::hold;
 use list::Shape;
 use words::BLOCK_SIZE;
 use words::PBN;
+use words::limits::Table;
+use words::refusals;
 use words::same_bytes;
 
 // What a backup counts: blocks taken, and entries touched.
@@ -41,15 +43,17 @@ fn same_block(
     pool: &[u8],
     list: &[u8],
     shape: Shape,
-    by: &[u16; 4096],
+    taker: &Table,
     p: PBN,
     i: usize,
 ) -> bool
     requires { ⌜ Holds (now book) ⌝ }
     requires { ⌜ Whole (now list) shape × (i < shape .changes) ⌝ }
     requires { ⌜ (p .0 < told book .sizes .n) × (length (now pool) ≡ poolSize (told book .sizes .n)) ⌝ }
-    requires { ⌜ (entryAt (told book .entries) (p .0) .held ≡ false → getD (now by) (p .0) 0 < shape .changes) ⌝ }
-    ensures { λ r. ⌜ r ≡ same (heldBlock (told (book .entry) .entries) (now (by .entry)) (now (list .entry)) (now (pool .entry)) (p .0)) (changeAt (now (list .entry)) i .block) ⌝ }
+    requires { ⌜ (entryAt (told book .entries) (p .0) .held ≡ false → getD (now taker) (p .0) 0 < shape .changes) ⌝ }
+    ensures { λ r. ⌜ r ≡ same
+        (heldBlock (told (book .entry) .entries) (now (taker .entry)) (now (list .entry)) (now (pool .entry)) (p .0))
+        (changeAt (now (list .entry)) i .block) ⌝ }
 {
     let block = list::block_of(list, shape, i);
     let at = p.0 as usize;
@@ -58,7 +62,7 @@ fn same_block(
         let to = from + BLOCK_SIZE;
         return same_bytes(&pool[from..to], block);
     }
-    same_bytes(list::block_of(list, shape, by[at] as usize), block)
+    same_bytes(list::block_of(list, shape, taker[at] as usize), block)
 }
 
 // A free block becomes held with the fingerprint of change i, and the cursor goes past it.
@@ -66,9 +70,9 @@ fn take_block(
     work: &mut [u8],
     list: &[u8],
     shape: Shape,
-    by: &mut [u16; 4096],
-    heads: &mut [u16; 4096],
-    nexts: &mut [u16; 4096],
+    taker: &mut Table,
+    heads: &mut Table,
+    nexts: &mut Table,
     p: PBN,
     i: usize,
 )
@@ -76,15 +80,16 @@ fn take_block(
     requires { ⌜ Whole (now list) shape × (i < shape .changes) ⌝ }
     requires { ⌜ (p .0 < told work .sizes .n) × (entryAt (told work .entries) (p .0) .held ≡ false) ⌝ }
     requires { ⌜ Indexed (told work .entries) (now heads) (now nexts) ⌝ }
-    ensures { λ _. ⌜ Is (now (work .exit)) (takenBook (changeAt (now (list .entry)) i .print) (p .0) (told (work .entry))) ⌝ }
-    ensures { λ _. ⌜ now (by .exit) ≡ set (now (by .entry)) (p .0) i ⌝ }
+    ensures { λ _. ⌜ Is (now (work .exit))
+        (takenBook (changeAt (now (list .entry)) i .print) (p .0) (told (work .entry))) ⌝ }
+    ensures { λ _. ⌜ now (taker .exit) ≡ set (now (taker .entry)) (p .0) i ⌝ }
     ensures { λ _. ⌜ Indexed (told (work .exit) .entries) (now (heads .exit)) (now (nexts .exit)) ⌝ }
 {
     hold(work, heads, nexts, p, list::print_of(list, shape, i));
     let n = header::blocks(work);
     header::set_cursor(work, (p.0 + 1) % n);
     let at = p.0 as usize;
-    by[at] = i as u16;
+    taker[at] = i as u16;
 }
 
 // The block of change i, with the working copy as it is then.
@@ -94,32 +99,32 @@ pub fn place(
     work: &mut [u8],
     list: &[u8],
     shape: Shape,
-    by: &mut [u16; 4096],
-    heads: &mut [u16; 4096],
-    nexts: &mut [u16; 4096],
+    taker: &mut Table,
+    heads: &mut Table,
+    nexts: &mut Table,
     i: usize,
     t: Tally,
 ) -> Placed
     requires { ⌜ Holds (now book) × Holds (now work) ⌝ }
     requires { ⌜ Job (told book) (now pool) (now list) shape × (i < shape .changes) ⌝ }
-    requires { ⌜ Standing (told book) (told work) (now by) t i i ⌝ }
+    requires { ⌜ Standing (told book) (told work) (now taker) t i i ⌝ }
     requires { ⌜ Indexed (told work .entries) (now heads) (now nexts) ⌝ }
-    ensures { λ r. ⌜ PlacedBy (told (book .entry)) (now (pool .entry)) (now (list .entry)) i (now (work .entry)) (now (by .entry)) t r (now (work .exit)) (now (by .exit)) ⌝ }
+    ensures { λ r. ⌜ PlacedBy book pool work list taker i t r ⌝ }
     ensures { λ _. ⌜ Indexed (told (work .exit) .entries) (now (heads .exit)) (now (nexts .exit)) ⌝ }
 {
     let held = find_held(work, heads, nexts, list::prints(list, shape), i);
     let Found::At(q) = held else {
         let free = find_free(work);
         let Found::At(p) = free else {
-            return Placed::Refused(12);
+            return Placed::Refused(refusals::NO_BLOCK);
         };
-        take_block(work, list, shape, by, heads, nexts, p, i);
+        take_block(work, list, shape, taker, heads, nexts, p, i);
         let taken = t.taken + 1;
         let touched = t.touched;
         return Placed::At(p, Tally { taken, touched });
     };
-    if !same_block(book, pool, list, shape, by, q, i) {
-        return Placed::Refused(11);
+    if !same_block(book, pool, list, shape, taker, q, i) {
+        return Placed::Refused(refusals::OTHER_BYTES);
     }
     Placed::At(q, t)
 }

@@ -10,30 +10,39 @@ use Rattle.index.proofs.FindingLaws.{chain-start, search-start, found-a
 use Rattle.index.proofs.finding.find.Statement.{statement}
 use Rattle.index.proofs.finding.find.Tie as tie
 
-lowest : (c : tie.After-search)
-    → c .search .result ≡ firstFrom (hasPrint (c .before .before .before .before .before .args .print .now)) (bookOf (c .before .before .before .before .before .args .book .now) .entries) 0
+abbrev start : tie.After-bucket-of → tie.Start
+start c = c .before .before .before
+
+-- the bucket that the search goes up
+abbrev bucket : tie.After-search → tie.After-bucket-of
+bucket c = c .before .before
+
+lowest : (c : tie.After-search) →
+    let a = start (bucket c) .args in
+    c .search .result ≡ firstFrom (hasPrint (a .print .now)) (bookOf (a .book .now) .entries) 0
 lowest c =
-    let b = c .before .before in
-    let s = b .before .before .before in
-    c .search .ensures ∙ search-start _ _ 0 (s .pre .1 .0) (omega arith) (b .bucket-of .result) (b .bucket-of .ensures .0) (b .bucket-of .ensures .1)
+    let h = bucket c .bucket-of in
+    c .search .ensures
+    ∙ search-start _ _ 0 (start (bucket c) .pre .1 .0) (omega arith) (h .result) (h .ensures .0) (h .ensures .1)
 
 search-requires : tie.Need-search-requires
 search-requires c κs =
-    let b = c .before in
-    let s = b .before .before .before in
-    (s .pre .0, (s .pre .1 .1, chain-start _ _ 0 (s .pre .1 .0) (omega arith) (b .bucket-of .result) (b .bucket-of .ensures .0) (b .bucket-of .ensures .1)))
+    let h = c .before .bucket-of in
+    let s = start (c .before) in
+    let chain = chain-start _ _ 0 (s .pre .1 .0) (omega arith) (h .result) (h .ensures .0) (h .ensures .1) in
+    (s .pre .0, (s .pre .1 .1, chain))
 
 returns : tie.Need-returns
 returns c =
     let b = c .before in
-    let z = b .before .before .before .before .before .before .pre .0 in
-    sym (ap foundOf (found-at _ _ _ (lowest (b .before)) (omega (arith, z .sized .entries, b .blocks2 .ensures, c .if1 .taken))))
+    let z = start (bucket (b .before)) .pre .0 .sized .entries in
+    sym (ap foundOf (found-at _ _ _ (lowest (b .before)) (omega (arith, b .blocks2 .ensures, c .if1 .taken))))
 
 returns-2 : tie.Need-returns-2
 returns-2 c =
     let b = c .before in
-    let z = b .before .before .before .before .before .before .pre .0 in
-    sym (ap foundOf (found-nowhere _ _ _ (lowest (b .before)) (omega (arith, z .sized .entries, b .blocks2 .ensures, c .if1 .left))))
+    let z = start (bucket (b .before)) .pre .0 .sized .entries in
+    sym (ap foundOf (found-nowhere _ _ _ (lowest (b .before)) (omega (arith, b .blocks2 .ensures, c .if1 .left))))
 
 pub find-spec : {M : Type 1} → statement M
 find-spec =

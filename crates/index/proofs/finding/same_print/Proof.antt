@@ -23,12 +23,14 @@ loop-holds c = (omega arith, refl)
 loop-again : tie.Need-loop-again Inv-loop μ-loop
 loop-again c =
     let l = c .before .before .before .loop in
-    (omega arith, l .inv .1 ∙ same-turn _ _ (l .i) (l .good) (omega (arith, c .before .before .before .before .pre .0)) (omega (arith, c .before .before .before .before .pre .1)))
+    let p = c .before .before .before .before .pre in
+    (omega arith, l .inv .1 ∙ same-turn _ _ (l .i) (l .good) (omega (arith, p .0)) (omega (arith, p .1)))
 
 returns : tie.Need-returns Inv-loop μ-loop
 returns c =
     let l = c .before .loop in
-    sym (l .inv .1 ∙ same-end _ _ (l .i) (l .good) (omega (arith, c .before .before .pre .0)) (omega (arith, c .before .before .pre .1)))
+    let p = c .before .before .pre in
+    sym (l .inv .1 ∙ same-end _ _ (l .i) (l .good) (omega (arith, p .0)) (omega (arith, p .1)))
 
 pub same-print-spec : {M : Type 1} → statement M
 same-print-spec =

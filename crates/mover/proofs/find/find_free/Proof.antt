@@ -11,24 +11,31 @@ use borrow.Author.Needs.{needs}
 use Rattle.mover.proofs.find.find_free.Statement.{statement}
 use Rattle.mover.proofs.find.find_free.Tie as tie
 
+abbrev start : tie.After-first-free → tie.Start
+start c = c .before .before .before .before
+
+-- what the search from the cursor up found
+up : (c : tie.After-first-free) →
+    let x = bookOf (start c .args .book .now) in
+    foundOf (placeIn isFree (x .entries) (x .cursor) (length (x .entries))) ≡ c .first-free .result
+up c =
+    let es = bookOf (start c .args .book .now) .entries in
+    let n = c .before .blocks2 .ensures ∙ sym (start c .pre .0 .sized .entries) in
+    ap₂ (λ (i n : ℕ). foundOf (placeIn isFree es i n)) (sym (c .before .before .cursor .ensures)) (sym n)
+    ∙ sym (c .first-free .ensures)
+
 returns : tie.Need-returns
 returns c =
-    let b = c .before .before .before .before .before .before .before in
-    let es = bookOf (b .args .book .now) .entries in
-    let up = c .before .before .before .first-free in
-    let n : c .before .before .before .before .blocks2 .result ≡ length es = c .before .before .before .before .blocks2 .ensures ∙ sym (b .pre .0 .sized .entries) in
-    let k = c .before .before .before .before .before .cursor .ensures in
-    let none = ap₂ (λ (i n : ℕ). foundOf (placeIn isFree es i n)) (sym k) (sym n) ∙ sym (up .ensures) ∙ c .before .enum-told .given .1 in
-    (rw k at (c .first-free2 .ensures)) ∙ free-round es (bookOf (b .args .book .now) .cursor) none
+    let f = c .before .before .before in
+    let x = bookOf (start f .args .book .now) in
+    (rw (f .before .before .cursor .ensures) at (c .first-free2 .ensures))
+    ∙ free-round (x .entries) (x .cursor) (up f ∙ c .before .enum-told .given .1)
 
 returns-2 : tie.Need-returns-2
 returns-2 c =
-    let b = c .before .before .before .before .before .before .before in
-    let es = bookOf (b .args .book .now) .entries in
-    let n : c .before .before .before .before .blocks2 .result ≡ length es = c .before .before .before .before .blocks2 .ensures ∙ sym (b .pre .0 .sized .entries) in
-    let k = c .before .before .before .before .before .cursor .ensures in
-    free-up es (bookOf (b .args .book .now) .cursor) (c .before .up .given .0 .0)
-    (ap₂ (λ (i n : ℕ). foundOf (placeIn isFree es i n)) (sym k) (sym n) ∙ sym (c .before .before .before .first-free .ensures) ∙ c .before .up .given .1)
+    let f = c .before .before .before in
+    let x = bookOf (start f .args .book .now) in
+    free-up (x .entries) (x .cursor) (c .before .up .given .0 .0) (up f ∙ c .before .up .given .1)
 
 pub find-free-spec : {M : Type 1} → statement M
 find-free-spec =

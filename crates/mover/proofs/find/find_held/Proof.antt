@@ -16,12 +16,17 @@ use Rattle.mover.proofs.find.find_held.Tie as tie
 find-requires : tie.Need-find-requires
 find-requires c κs =
     let s = c .before .before .before in
-    (s .pre .0, (s .pre .1 .0, ap length (lent (s .args .prints .now) (s .args .i * printSize) printSize) ∙ length-part (s .args .prints .now) (s .args .i * printSize) printSize (s .pre .1 .1)))
+    let prints = s .args .prints .now in
+    let from = s .args .i * printSize in
+    let size = length-part prints from printSize (s .pre .1 .1) in
+    (s .pre .0, (s .pre .1 .0, ap length (lent prints from printSize) ∙ size))
 
 returns : tie.Need-returns
 returns c =
     let a = c .before .before .before .before .args in
-    c .find .ensures ∙ ap (λ (f : List ℕ). foundOf (findHeld (bookOf (a .book .now) .entries) f)) (lent (a .prints .now) (a .i * printSize) printSize)
+    c .find .ensures
+    ∙ ap (λ (f : List ℕ). foundOf (findHeld (bookOf (a .book .now) .entries) f))
+    (lent (a .prints .now) (a .i * printSize) printSize)
 
 pub find-held-spec : {M : Type 1} → statement M
 find-held-spec =

@@ -1,4 +1,4 @@
--- The loop's invariant: the search from `from` is the search from the place reached.
+-- The loop's invariant: the search from `from` is the search from the block reached.
 use Prim.Native.Nat.{_-_, _≤_}
 use mathlib.Core.Path.{_≡_, refl, ap, sym, _∙_}
 use borrow.Author.Needs.{needs}
@@ -41,14 +41,16 @@ loop-again c =
       search needs,
       search needs,
       l .inv .2 ∙ place-more isFree (bookOf (a .book .now) .entries) freeEntry (l .p) (a .to)
-          (c .before .before .loop-test .taken) (omega arith) (rw (passed (c .before .is-held .ensures) (c .if1 .left))),
+          (c .before .before .loop-test .taken) (omega arith)
+          (rw (passed (c .before .is-held .ensures) (c .if1 .left))),
     )
 
 returns-2 : tie.Need-returns-2 Inv-loop μ-loop
 returns-2 c =
     let a = c .before .before .before .args in
     let l = c .before .loop in
-    sym (ap foundOf (l .inv .2 ∙ place-end isFree (bookOf (a .book .now) .entries) freeEntry (l .p) (a .to) (c .loop-test .left)))
+    sym (ap foundOf (l .inv .2
+    ∙ place-end isFree (bookOf (a .book .now) .entries) freeEntry (l .p) (a .to) (c .loop-test .left)))
 
 pub first-free-spec : {M : Type 1} → statement M
 first-free-spec =

@@ -16,6 +16,7 @@ use Rattle.index.specs.Answers.{foundOf}
 use Rattle.index.proofs.AnswerLaws.{found-some, found-none}
 use Rattle.mover.proofs.Finding.{found-held, found-free}
 use Rattle.mover.proofs.PlaceLaws.{prints-size, twelve-by, eleven-by, found-by, taken-by}
+use Rattle.mover.specs.Stepping.{PlacedBy}
 use borrow.Author.Needs.{needs}
 use Rattle.mover.proofs.placing.place.Statement.{statement}
 use Rattle.mover.proofs.placing.place.Tie as tie
@@ -24,62 +25,98 @@ use Rattle.mover.proofs.placing.place.Tie as tie
 below : (c : tie.Start) → c .args .i < changeCount (c .args .list .now)
 below c = omega (arith, c .pre .1 .0 .1, c .pre .1 .0 .0 .whole .changes)
 
-abbrev start : tie.After-find-held → tie.Start
-start c = c .before .before .before .before .before .before .before .before .before
+-- what is lent is known
+abbrev known : tie.After-prints → tie.After-shared-slice-known3
+known c = c .before .before .before .before
+
+abbrev start : tie.After-prints → tie.Start
+start c = known c .before .before .before .before
+
+-- no held block was found, and one was
+abbrev unheld : tie.After-find-free → tie.After-enum-told
+unheld c = c .before .before
+
+abbrev lookup : tie.After-enum-told → tie.After-find-held
+lookup c = c .before .before
+
+abbrev match : tie.After-held → tie.After-find-held
+match c = c .before .before
+
+-- a free block was found, which is taken
+abbrev free : tie.After-take-block-arg4 → tie.After-free
+free c = c .before .before .before .before .before
 
 -- what step 1 found
-looked : (c : tie.After-find-held) → foundOf (findHeld (bookOf (start c .args .work .now) .entries) (changeAt (start c .args .list .now) (start c .args .i) .print)) ≡ c .find-held .result
+looked : (c : tie.After-find-held) →
+    let a = start (c .before) .args in
+    foundOf (findHeld (bookOf (a .work .now) .entries) (changeAt (a .list .now) (a .i) .print)) ≡ c .find-held .result
 looked c =
-    let a = start c .args in
+    let s = start (c .before) in
+    let a = s .args in
     sym (c .find-held .ensures
     ∙ ap (λ (f : List ℕ). foundOf (findHeld (bookOf (a .work .now) .entries) f))
-    (ap (λ (f : List ℕ). part f (a .i * printSize) printSize) (c .before .prints .ensures) ∙ print-part (a .list .now) (a .shape .changes) (a .i) (start c .pre .1 .0 .1)))
+    (ap (λ (f : List ℕ). part f (a .i * printSize) printSize) (c .before .prints .ensures)
+    ∙ print-part (a .list .now) (a .shape .changes) (a .i) (s .pre .1 .0 .1)))
 
 find-held-requires : tie.Need-find-held-requires
 find-held-requires c κs =
-    let s = c .before .before .before .before .before .before .before .before in
-    (s .pre .0 .1, (s .pre .1 .1 .1, omega (arith, ap length (c .prints .ensures), prints-size (s .args .list .now) (s .args .shape) (s .pre .1 .0 .0 .whole), s .pre .1 .0 .1)))
+    let s = start c in
+    let size = prints-size (s .args .list .now) (s .args .shape) (s .pre .1 .0 .0 .whole) in
+    (s .pre .0 .1, (s .pre .1 .1 .1, omega (arith, ap length (c .prints .ensures), size, s .pre .1 .0 .1)))
 
 find-free-requires : tie.Need-find-free-requires
 find-free-requires c κs =
-    let s = start (c .before .before .before) in
+    let s = start (lookup (c .before) .before) in
     (s .pre .0 .1, s .pre .1 .1 .0 .cursor)
 
 returns : tie.Need-returns
+unfolding PlacedBy
 returns c =
-    let f = c .before .before .before .before .before .before in
-    let s = start f in
+    let u = unheld (c .before .before) in
+    let f = lookup u in
+    let s = start (f .before) in
     let a = s .args in (
-      twelve-by (bookOf (a .book .now)) (a .pool .now) (a .list .now) (a .shape) (a .t) (a .i) (a .work .now) (a .by .now)
-          (s .pre .0 .0 .sized) (s .pre .0 .1) (s .pre .1 .0 .0) (below s) (s .pre .1 .1 .0) _ _
-          (found-none _ (looked f ∙ c .before .before .before .before .enum-told .given .1))
+      twelve-by _ _ _ _ _ _ _ _ (s .pre .0 .0 .sized) (s .pre .0 .1) (s .pre .1 .0 .0) (below s) (s .pre .1 .1 .0)
+          (found-none _ (looked f ∙ u .enum-told .given .1))
           (found-none _ (sym (c .before .before .find-free .ensures) ∙ c .enum-told2 .given .1)),
       s .pre .1 .1 .1,
     )
 
 take-block-requires : tie.Need-take-block-requires
 take-block-requires c κs =
-    let s = start (c .before .before .before .before .before .before .before .before .before .before .before) in
-    let a = s .args in
-    let f = found-free (bookOf (a .work .now) .entries) (bookOf (a .work .now) .cursor) _ (found-some _ _ (sym (c .before .before .before .before .before .before .before .find-free .ensures) ∙ c .before .before .before .before .before .free .given .1)) in
-    (s .pre .0 .1, ((s .pre .1 .0 .0 .whole, s .pre .1 .0 .1), ((omega (arith, f .0, s .pre .0 .1 .sized .entries), f .1), s .pre .1 .1 .1)))
+    let g = free c in
+    let o = g .before .before in
+    let s = start (lookup (unheld o) .before) in
+    let x = bookOf (s .args .work .now) in
+    let q = found-some _ _ (sym (o .find-free .ensures) ∙ g .free .given .1) in
+    let f = found-free (x .entries) (x .cursor) _ q in (
+      s .pre .0 .1,
+      (
+        (s .pre .1 .0 .0 .whole, s .pre .1 .0 .1),
+        ((omega (arith, f .0, s .pre .0 .1 .sized .entries), f .1), s .pre .1 .1 .1),
+      ),
+    )
 
 add-taken : tie.Need-add-taken
 add-taken c =
-    let s = start (c .before .before .before .before .before .before .before .before .before .before .before .before .before .before .before) in
-    omega (arith, s .pre .1 .1 .0 .taken, below s, changes-within (bookOf (s .args .book .now) .sizes .l) (s .args .list .now) (s .pre .1 .0 .0 .good), s .pre .0 .0 .l)
+    let g = free (c .before .before .before .before) in
+    let s = start (lookup (unheld (g .before .before)) .before) in
+    let small = changes-within (bookOf (s .args .book .now) .sizes .l) (s .args .list .now) (s .pre .1 .0 .0 .good) in
+    omega (arith, s .pre .1 .1 .0 .taken, below s, s .pre .0 .0 .l)
 
 returns-2 : tie.Need-returns-2
+unfolding PlacedBy
 returns-2 c =
-    let e = c .before .before .before .before .before .before .before .before .before .before .before .before .before in
-    let f = e .before .before in
-    let s = start f in
-    let a = s .args in
-    let k = c .before .before .before .take-block in (
-      taken-by (bookOf (a .book .now)) (a .pool .now) (a .list .now) (a .shape) (a .t) (a .i) (a .work .now) (a .by .now)
-          (s .pre .0 .0 .sized) (s .pre .0 .1) (s .pre .1 .0 .0) (below s) (s .pre .1 .1 .0) _ _ _
-          (found-none _ (looked f ∙ e .enum-told .given .1))
-          (found-some _ _ (sym (c .before .before .before .before .before .before .before .before .before .before .before .find-free .ensures) ∙ c .before .before .before .before .before .before .before .before .before .free .given .1))
+    let k = c .before .before .before .take-block in
+    let g = free (c .before .before .before .before) in
+    let o = g .before .before in
+    let u = unheld o in
+    let f = lookup u in
+    let s = start (f .before) in
+    let a = s .args in (
+      taken-by _ _ _ _ _ _ _ _ (s .pre .0 .0 .sized) (s .pre .0 .1) (s .pre .1 .0 .0) (below s) (s .pre .1 .1 .0) _ _ _
+          (found-none _ (looked f ∙ u .enum-told .given .1))
+          (found-some _ _ (sym (o .find-free .ensures) ∙ g .free .given .1))
           (k .ensures .0)
           (k .ensures .1 .0),
       k .ensures .1 .1,
@@ -87,10 +124,12 @@ returns-2 c =
 
 same-block-requires : tie.Need-same-block-requires
 same-block-requires c κs =
-    let o = c .before .before .before .before in
-    let s = start o in
+    let h = c .before .before in
+    let o = match h in
+    let s = start (o .before) in
     let a = s .args in
-    let f = found-held (bookOf (a .work .now) .entries) (changeAt (a .list .now) (a .i) .print) _ (found-some _ _ (looked o ∙ c .before .before .held .given .1)) in
+    let q = found-some _ _ (looked o ∙ h .held .given .1) in
+    let f = found-held (bookOf (a .work .now) .entries) (changeAt (a .list .now) (a .i) .print) _ q in
     let n = ap (λ (z : Sizes). z .n) (s .pre .1 .1 .0 .sizes) in (
       s .pre .0 .0,
       (
@@ -103,25 +142,27 @@ same-block-requires c κs =
     )
 
 returns-3 : tie.Need-returns-3
+unfolding PlacedBy
 returns-3 c =
-    let f = c .before .before .before .before .before .before in
-    let s = start f in
+    let h = c .before .before .before .before in
+    let f = match h in
+    let s = start (f .before) in
     let a = s .args in (
-      eleven-by (bookOf (a .book .now)) (a .pool .now) (a .list .now) (a .shape) (a .t) (a .i) (a .work .now) (a .by .now)
-          (s .pre .0 .0 .sized) (s .pre .0 .1) (s .pre .1 .0 .0) (below s) (s .pre .1 .1 .0) _ _ _
-          (found-some _ _ (looked f ∙ c .before .before .before .before .held .given .1))
+      eleven-by _ _ _ _ _ _ _ _ (s .pre .0 .0 .sized) (s .pre .0 .1) (s .pre .1 .0 .0) (below s) (s .pre .1 .1 .0) _
+          (found-some _ _ (looked f ∙ h .held .given .1))
           (failed (c .before .same-block .ensures) (c .if1 .taken)),
       s .pre .1 .1 .1,
     )
 
 returns-4 : tie.Need-returns-4
+unfolding PlacedBy
 returns-4 c =
-    let f = c .before .before .before .before .before .before in
-    let s = start f in
+    let h = c .before .before .before .before in
+    let f = match h in
+    let s = start (f .before) in
     let a = s .args in (
-      found-by (bookOf (a .book .now)) (a .pool .now) (a .list .now) (a .shape) (a .t) (a .i) (a .work .now) (a .by .now)
-          (s .pre .0 .0 .sized) (s .pre .0 .1) (s .pre .1 .0 .0) (below s) (s .pre .1 .1 .0) _
-          (found-some _ _ (looked f ∙ c .before .before .before .before .held .given .1))
+      found-by _ _ _ _ _ _ _ _ (s .pre .0 .0 .sized) (s .pre .0 .1) (s .pre .1 .0 .0) (below s) (s .pre .1 .1 .0) _
+          (found-some _ _ (looked f ∙ h .held .given .1))
           (passed (c .before .same-block .ensures) (c .if1 .left)),
       s .pre .1 .1 .1,
     )
