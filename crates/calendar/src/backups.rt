@@ -18,6 +18,7 @@ use figures::volume::count_backups;
 use restorer::image::is_kept;
 use words::put_three;
 use words::put_u16;
+use words::refusals;
 
 const ROW_SIZE: usize = 8;
 
@@ -54,7 +55,8 @@ fn kept_until(book: &[u8], at: u16, days: u16) -> u16
     slot.day + days
 }
 
-// The row of the backup in slot q, where slot `next` holds the one that replaced it, if any. It answers the place past the row.
+// The row of the backup in slot q, where slot `next` holds the one that replaced it, if any. It answers the offset past
+// the row.
 fn put_row(book: &[u8], q: u16, next: u16, days: u16, out: &mut [u8], at: usize) -> usize
     requires { ⌜ Formed (now book) ⌝ }
     requires { ⌜ (q < length (told book .slots)) × (days ≤ 5000) ⌝ }
@@ -87,7 +89,7 @@ fn put_rows(book: &[u8], v: u16, out: &mut [u8])
 }
 
 pub fn backups(book: &[u8], volume: u16, out: &mut [u8], count: &mut u16) -> u16
-    ensures { λ r. ⌜ BackupsTold (now (book .entry)) volume (now (out .entry)) (now (count .entry)) r (now (out .exit)) (now (count .exit)) ⌝ }
+    ensures { λ r. ⌜ BackupsTold book volume out count r ⌝ }
 {
     let refusal = enrolled_number(book, volume);
     if refusal != 0 {
@@ -95,7 +97,7 @@ pub fn backups(book: &[u8], volume: u16, out: &mut [u8], count: &mut u16) -> u16
     }
     let n = count_backups(book, volume);
     if out.len() < (n as usize) * ROW_SIZE {
-        return 20;
+        return refusals::SHORT_OUTPUT;
     }
     put_rows(book, volume, out);
     *count = n;

@@ -26,7 +26,7 @@ pub fn count_backups(book: &[u8], v: u16) -> u16
 }
 
 pub fn volume(book: &[u8], volume: u16, retention: &mut u16, backups: &mut u16) -> u16
-    ensures { λ r. ⌜ VolumeTold (now (book .entry)) volume (now (retention .entry)) (now (backups .entry)) r (now (retention .exit)) (now (backups .exit)) ⌝ }
+    ensures { λ r. ⌜ VolumeTold book volume retention backups r ⌝ }
 {
     let refusal = enrolled_number(book, volume);
     if refusal != 0 {

@@ -52,3 +52,6 @@ pub record Valid (b : List ℕ) (c : Cursor) : Type 0 where
   pub pair : c .pair ≤ pairCount b
   pub inside : c .pair < pairCount b → c .within < pairAt b (c .pair) .many
   pub end : c .pair ≡ pairCount b → c .within ≡ 0
+
+abbrev pub StandsAt : List ℕ → Cursor → ℕ → Type 0
+StandsAt b c i = Valid b c × (indexOf b c ≡ i)

@@ -7,7 +7,9 @@ use Rattle.list.proofs.block_of.Tie as tie
 
 returns : tie.Need-returns
 unfolding changeAt blocksFrom printsFrom
-returns c = rw (add-sub-cancel-left, c .before .before .before .pre .0 .pairs, c .before .before .before .pre .0 .changes)
+returns c =
+    let whole = c .before .before .before .pre .0 in
+    rw (add-sub-cancel-left, whole .pairs, whole .changes)
 
 pub block-of-spec : {M : Type 1} → statement M
 block-of-spec =

@@ -24,7 +24,9 @@ retention-requires c κs =
     (holds-form _ (λ i. f .before .before .shared-slice-known .given i .fits) (in-form f), omega arith)
 
 returns-3 : tie.Need-returns-3
-returns-3 c = let k = c .before in enrolled-not _ _ (in-form (k .before .before)) (sym (k .retention .ensures) ∙ c .if3 .taken)
+returns-3 c =
+    let k = c .before in
+    enrolled-not _ _ (in-form (k .before .before)) (sym (k .retention .ensures) ∙ c .if3 .taken)
 
 returns-4 : tie.Need-returns-4
 returns-4 c =
