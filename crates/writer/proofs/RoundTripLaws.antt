@@ -8,7 +8,9 @@ use native.Mathlib.Omega.{arith}
 use lib.ListN.{length, take, drop}
 use lib.Seq.{take-at}
 use lib.Dec.{ltb}
+use denote.Ref.{now}
 use Rattle.words.specs.Choice.{if_then_else_}
+use Rattle.words.specs.Lent.{Lent}
 use Rattle.words.specs.Lists.{allZero}
 use Rattle.writer.proofs.ListBytes.{changes-back, listNumber-back}
 use Rattle.writer.proofs.Marked.{input-facts, marked-fitting}
@@ -36,16 +38,21 @@ input-written L marks prints image out h = go (inputOk L marks prints image) h
     go true h = refl
     go false h = absurd (omega arith)
 
-pub recovered-written : (L : ℕ) (marks prints image out : List ℕ) (answer : ℕ) (out′ : List ℕ) (answer′ : ℕ)
-    → Wrote L marks prints image out answer 0 out′ answer′ → Recovered L marks prints image (take answer′ out′)
-unfolding answerAfter outputAfter
-recovered-written L marks prints image out answer out′ answer′ w =
-    let n : writeNumber L marks prints image out ≡ 0 = sym (w .number) in
-    let list = markedList marks prints image in
-    let a : answer′ ≡ length list = rw n at (w .answered) in
-    let o : out′ ≡ list ++ drop (length list) out = rw n at (w .output) in
-    let e : take answer′ out′ ≡ list = rw (a, o) (take-at list (drop (length list) out) (length list) refl) in
-    rw e (recovered L marks prints image (input-written L marks prints image out n))
+module _ (L : ℕ) (marks prints image out : Lent (List ℕ)) (answer : Lent ℕ) where
+  pub recovered-written : Wrote L marks prints image out answer 0
+      → Recovered L (now (marks .entry)) (now (prints .entry)) (now (image .entry)) (take (now (answer .exit)) (now (out .exit)))
+  unfolding answerAfter outputAfter
+  recovered-written w =
+      let ms = now (marks .entry) in
+      let ps = now (prints .entry) in
+      let bs = now (image .entry) in
+      let before = now (out .entry) in
+      let n : writeNumber L ms ps bs before ≡ 0 = sym (w .number) in
+      let list = markedList ms ps bs in
+      let a : now (answer .exit) ≡ length list = w .answered in
+      let o : now (out .exit) ≡ list ++ drop (length list) before = w .output in
+      let e : take (now (answer .exit)) (now (out .exit)) ≡ list = rw (a, o) (take-at list (drop (length list) before) (length list) refl) in
+      rw e (recovered L ms ps bs (input-written L ms ps bs before n))
 
 -- "E = 0 is a backup without changes"
 pub nothing-written : (marks prints image : List ℕ) → allZero marks ≡ true → markedList marks prints image ≡ 0 ∷ 0 ∷ []

@@ -17,7 +17,7 @@ use Rattle.words.proofs.LayingLaws.{Left, left-room, left-more, left-last, left
 use Rattle.list.specs.Changes.{Pair}
 use Rattle.writer.specs.Writer.{runs, markedFrom, pairBytes}
 use Rattle.writer.specs.Passes.{endedRun, rowAfter, pairOf, pairsFrom, ifMarked, element, markedElements, Passed}
-use Rattle.writer.specs.declared.Place.{Place}
+use Rattle.writer.specs.declared.Progress.{Progress}
 use Rattle.writer.proofs.Marks.{runs-more, runs-end}
 
 -- ---- pairs
@@ -34,7 +34,7 @@ module _ (ms : List ℕ) (i k : ℕ) where
   unfolding pairOf pairsFrom
   pairs-end m h n = ap (λ (ps : List Pair). flat pairBytes ps) (runs-end ms i k m h n)
 
-module _ (ms : List ℕ) (p : Place) (i : ℕ) {old section out : List ℕ} {start : ℕ}
+module _ (ms : List ℕ) (p : Progress) (i : ℕ) {old section out : List ℕ} {start : ℕ}
     (l : Left old start section out (p .at) (pairsFrom i (p .row) (drop i ms))) where
   pub next-room : i < length ms → p .at + length (pairOf i (p .row) (getD ms i 0)) ≤ length out
   next-room h =
@@ -44,19 +44,19 @@ module _ (ms : List ℕ) (p : Place) (i : ℕ) {old section out : List ℕ} {sta
   pub last-room : (m : ℕ) → length ms ≤ i → (m ≡ 1 → ⊥) → p .at + length (pairOf i (p .row) m) ≤ length out
   last-room m h n = rw (pairs-end ms i (p .row) m h n) at (l .room)
 
-  pub next-stored : {out′ : List ℕ} {r : Place} → i < length ms → Passed out p i (getD ms i 0) out′ r
+  pub next-stored : {out′ : List ℕ} {r : Progress} → i < length ms → Passed out p i (getD ms i 0) out′ r
       → Left old start section out′ (r .at) (pairsFrom (i + 1) (r .row) (drop (i + 1) ms))
   next-stored {out′} {r} h s =
       let m = getD ms i 0 in
       subst (λ (k : ℕ). Left old start section out′ (r .at) (pairsFrom (i + 1) k (drop (i + 1) ms))) (sym (s .row))
       (left-more l (pairOf i (p .row) m) (pairsFrom (i + 1) (rowAfter (p .row) m) (drop (i + 1) ms)) (pairs-more ms i (p .row) h) (s .pair))
 
-  pub last-stored : {m : ℕ} {out′ : List ℕ} {r : Place} → length ms ≤ i → (m ≡ 1 → ⊥) → Passed out p i m out′ r
+  pub last-stored : {m : ℕ} {out′ : List ℕ} {r : Progress} → length ms ≤ i → (m ≡ 1 → ⊥) → Passed out p i m out′ r
       → Stored old start section out′ (r .at)
   last-stored {m} {out′} {r} h n s =
       left-last l (subst (λ (b : List ℕ). Stored out (p .at) b out′ (r .at)) (sym (pairs-end ms i (p .row) m h n)) (s .pair))
 
-pub row-room : {out out′ : List ℕ} {p r : Place} {i m : ℕ} → Passed out p i m out′ r → p .row ≤ i → r .row ≤ i + 1
+pub row-room : {out out′ : List ℕ} {p r : Progress} {i m : ℕ} → Passed out p i m out′ r → p .row ≤ i → r .row ≤ i + 1
 unfolding rowAfter
 row-room {p = p} {i = i} {m = m} s h = rw (s .row) (go (eqb m 1))
   where

@@ -5,7 +5,9 @@ use mathlib.Core.Bool.{Bool, not, _&&_}
 use mathlib.Core.List.{List, [], _∷_, _++_, map}
 use lib.ListN.{length, drop}
 use lib.Dec.{leb, ltb, eqb}
+use denote.Ref.{now}
 use Rattle.words.specs.Choice.{if_then_else_}
+use Rattle.words.specs.Lent.{Lent}
 use Rattle.words.specs.Lists.{all}
 use Rattle.words.specs.Numbers.{two}
 use Rattle.words.specs.Sections.{flat, part}
@@ -68,8 +70,11 @@ answerAfter number list answer = if eqb number 0 then length list else answer
 unfoldable pub outputAfter : ℕ → List ℕ → List ℕ → List ℕ
 outputAfter number list out = if eqb number 0 then list ++ drop (length list) out else out
 
+abbrev pub listOf : Lent (List ℕ) → Lent (List ℕ) → Lent (List ℕ) → List ℕ
+listOf marks prints image = markedList (now (marks .entry)) (now (prints .entry)) (now (image .entry))
+
 -- all that a call of the writer leaves: number, answer and output
-pub record Wrote (L : ℕ) (marks prints image out : List ℕ) (answer r : ℕ) (out′ : List ℕ) (answer′ : ℕ) : Type 0 where
-  pub number : r ≡ writeNumber L marks prints image out
-  pub answered : answer′ ≡ answerAfter (writeNumber L marks prints image out) (markedList marks prints image) answer
-  pub output : out′ ≡ outputAfter (writeNumber L marks prints image out) (markedList marks prints image) out
+pub record Wrote (L : ℕ) (marks prints image out : Lent (List ℕ)) (answer : Lent ℕ) (r : ℕ) : Type 0 where
+  pub number : r ≡ writeNumber L (now (marks .entry)) (now (prints .entry)) (now (image .entry)) (now (out .entry))
+  pub answered : now (answer .exit) ≡ answerAfter r (listOf marks prints image) (now (answer .entry))
+  pub output : now (out .exit) ≡ outputAfter r (listOf marks prints image) (now (out .entry))
