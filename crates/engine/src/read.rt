@@ -1,4 +1,4 @@
-// Read: a block of a backup. Rattle callers get the block itself, C callers its place in the pool.
+// Read: a block of a backup. Rattle callers get the block itself, C callers its offset in the pool.
 ghost use Rattle.restorer.specs.Contracts.{Located};
 pub use restorer::read::read;
 pub use restorer::read::read_number;
