@@ -1,4 +1,4 @@
--- Laws of a list of calls that is read from a place on: its end, its next call, and what a call in it is.
+-- Laws of a list of calls that is read from an offset on: its end, its next call, and what a call in it is.
 use Prim.Native.Nat.{ℕ}
 use mathlib.Core.Path.{_≡_}
 use mathlib.Core.List.{List, []}
@@ -9,7 +9,7 @@ use Rattle.model.specs.OnBytes.{after}
 use Rattle.calls.specs.Coding.{callsFrom}
 
 module _ (b : List ℕ) where
-  -- ---- the calls from a place on, and that they are calls to the end
+  -- ---- the calls from an offset on, and that they are calls to the end
 
   abbrev pub restOf : ℕ → List Call
   restOf at = after (λ cs. cs) (callsFrom (length b) b at) []

@@ -12,16 +12,16 @@ use Rattle.words.specs.Numbers.{two, put}
 use Rattle.words.proofs.Parts.{length-part}
 use Rattle.words.specs.Sections.{flat}
 
-pub told : (out : List ℕ) (to tag v : ℕ) {o₁ : List ℕ} → o₁ ≡ put (set out to tag) (to + 1) v → Stored out to (tag ∷ two v) o₁ (to + 3)
-told out to tag v e = record { list = rw e (simp towards-suc); place = refl }
+pub answered : (out : List ℕ) (to tag v : ℕ) {o₁ : List ℕ} → o₁ ≡ put (set out to tag) (to + 1) v → Stored out to (tag ∷ two v) o₁ (to + 3)
+answered out to tag v e = record { list = rw e (simp towards-suc); place = refl }
 
-pub told-three : (out : List ℕ) (to tag x y z : ℕ) {o₁ : List ℕ} → o₁ ≡ sets (set out to tag) (to + 1) (flat two (x ∷ y ∷ z ∷ []))
+pub answered-three : (out : List ℕ) (to tag x y z : ℕ) {o₁ : List ℕ} → o₁ ≡ sets (set out to tag) (to + 1) (flat two (x ∷ y ∷ z ∷ []))
     → Stored out to (tag ∷ two x ++ (two y ++ two z)) o₁ (to + 7)
-told-three out to tag x y z e = record { list = rw e (simp towards-suc); place = refl }
+answered-three out to tag x y z e = record { list = rw e (simp towards-suc); place = refl }
 
-pub told-block : (out : List ℕ) (to tag : ℕ) (bl : List ℕ) {o₂ : List ℕ} → length bl ≡ 512 → o₂ ≡ sets (set out to tag) (to + 1) bl
+pub answered-block : (out : List ℕ) (to tag : ℕ) (bl : List ℕ) {o₂ : List ℕ} → length bl ≡ 512 → o₂ ≡ sets (set out to tag) (to + 1) bl
     → Stored out to (tag ∷ bl) o₂ (to + 1 + 512)
-told-block out to tag bl n e = record { list = rw e (simp towards-suc); place = omega arith }
+answered-block out to tag bl n e = record { list = rw e (simp towards-suc); place = omega arith }
 
 -- the block as it is lent
 pub lent-length : (pool : List ℕ) (p : ℕ) → p + 512 ≤ length pool → length (take (p + 512 - p) (drop p pool)) ≡ 512

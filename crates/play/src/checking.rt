@@ -10,6 +10,7 @@ use super::heads::READ;
 use super::heads::call_end;
 use super::heads::is_call;
 use words::BLOCK_SIZE;
+use words::refusals;
 
 // The most bytes of answers: their length is told in 32 bits.
 const MOST_ROOM: usize = 4294967295;
@@ -56,13 +57,13 @@ pub fn check(calls: &[u8], room: usize) -> u16
     let mut most = 0;
     while at < calls.len() {
         if !is_call(calls, at) {
-            return 19;
+            return refusals::BAD_INPUT;
         }
         most = added(room, most, longest(calls[at]));
         at = call_end(calls, at);
     }
     if room < most {
-        return 20;
+        return refusals::SHORT_OUTPUT;
     }
     0
 }

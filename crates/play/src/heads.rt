@@ -77,7 +77,7 @@ pub fn is_call(calls: &[u8], at: usize) -> bool
     data_size(calls, at) <= calls.len() - at - HEAD_SIZE
 }
 
-// The place past the call at `at`.
+// The offset past the call at `at`.
 pub fn call_end(calls: &[u8], at: usize) -> usize
     requires { ⌜ isCall (now calls) at ≡ true ⌝ }
     ensures { λ r. ⌜ (r ≡ at + callSize (now (calls .entry)) at) × (at < r) × (r ≤ length (now (calls .entry))) ⌝ }

@@ -9,14 +9,16 @@ use Rattle.model.specs.OnBytes.{numberOf}
 use Rattle.calls.specs.Coding.{callAt}
 use Rattle.calls.specs.Answers.{longest}
 use Rattle.calls.specs.Bound.{addedTo}
-use Rattle.calls.proofs.BoundLaws.{numberFrom, number-begin, number-broken, number-more, number-end, room-passed, room-enough}
+use Rattle.calls.proofs.BoundLaws.{numberFrom, number-begin, number-broken, number-more, number-end}
+use Rattle.calls.proofs.BoundLaws.{room-passed, room-enough}
 use Rattle.calls.specs.Contracts.{playable}
 use Rattle.calls.proofs.Short.{longest-at}
 use Rattle.play.proofs.checking.check.Statement.{statement}
 use Rattle.play.proofs.checking.check.Tie as tie
 
 abbrev Inv-loop : tie.InvT-loop
-Inv-loop calls room at₀ most₀ at most = (at ≤ length calls) × (numberOf (playable calls room) ≡ numberFrom room calls at most)
+Inv-loop calls room at₀ most₀ at most =
+    (at ≤ length calls) × (numberOf (playable calls room) ≡ numberFrom room calls at most)
 
 abbrev μ-loop : tie.MeasureT-loop
 μ-loop calls room at₀ most₀ at most = length calls - at
@@ -29,10 +31,10 @@ returns c =
     let is-call = c .before in
     let turn = is-call .before in
     let top = turn .before in
-    let start = top .before .before in
+    let a = top .before .before .args in
     let l = top .loop in
-    sym (l .inv .1 ∙ number-broken (start .args .room) (start .args .calls .now) (l .at) (l .most) (turn .loop-test .taken)
-    (failed (is-call .is-call .ensures) (c .if1 .taken)))
+    let no = failed (is-call .is-call .ensures) (c .if1 .taken) in
+    sym (l .inv .1 ∙ number-broken (a .room) (a .calls .now) (l .at) (l .most) (turn .loop-test .taken) no)
 
 added-requires : tie.Need-added-requires Inv-loop μ-loop
 added-requires c κs = (omega arith, c .longest .ensures .1)
@@ -73,8 +75,8 @@ returns-2 c =
     let start = top .before .before in
     let l = top .loop in
     let a = start .args in
-    sym (l .inv .1 ∙ number-end (a .room) (a .calls .now) (l .at) (l .most) (turn .loop-test .left) ∙ room-passed (a .room) (l .most)
-    (omega arith))
+    let end = number-end (a .room) (a .calls .now) (l .at) (l .most) (turn .loop-test .left) in
+    sym (l .inv .1 ∙ end ∙ room-passed (a .room) (l .most) (omega arith))
 
 returns-3 : tie.Need-returns-3 Inv-loop μ-loop
 returns-3 c =
@@ -83,8 +85,8 @@ returns-3 c =
     let start = top .before .before in
     let l = top .loop in
     let a = start .args in
-    sym (l .inv .1 ∙ number-end (a .room) (a .calls .now) (l .at) (l .most) (turn .loop-test .left) ∙ room-enough (a .room) (l .most)
-    (omega arith))
+    let end = number-end (a .room) (a .calls .now) (l .at) (l .most) (turn .loop-test .left) in
+    sym (l .inv .1 ∙ end ∙ room-enough (a .room) (l .most) (omega arith))
 
 pub check-spec : {M : Type 1} → statement M
 check-spec =

@@ -11,7 +11,9 @@ returns c = rw (eq-eqb (c .before .args .kind) 0 (omega arith))
 
 returns-2 : tie.Need-returns-2
 unfolding unusedZero
-returns-2 c = rw (ne-eqb (c .before .before .args .kind) 0 (c .before .if1 .left), eq-eqb (c .before .before .args .kind) 1 (omega arith))
+returns-2 c =
+    let k = c .before .before .args .kind in
+    rw (ne-eqb k 0 (c .before .if1 .left), eq-eqb k 1 (omega arith))
 
 returns-3 : tie.Need-returns-3
 unfolding unusedZero
