@@ -58,3 +58,10 @@ bounds-in i = record { n = i .n; l = i .l; s = i .s; j = i .j }
 
 pub bounds-ok : (z : Sizes) → sizesOk z ≡ true → Bounds z
 bounds-ok z e = bounds-in (sizes-facts z e)
+
+-- one writer after another
+pub is-then : (g : Book → Book) {b₁ b₂ : List ℕ} {x : Book} → Is b₁ x → Is b₂ (g (bookOf b₁)) → Is b₂ (g x)
+is-then g i j = record { holds = j .holds; book = j .book ∙ ap g (i .book) }
+
+pub is-same : {b : List ℕ} {x y : Book} → x ≡ y → Is b x → Is b y
+is-same e i = record { holds = i .holds; book = i .book ∙ e }

@@ -12,8 +12,8 @@ use Rattle.book.specs.Layout.{told, Is}
 use Rattle.book.proofs.Holding.{bytes-is}
 use Rattle.model.specs.Backup.{Work, runChanges, begun, closed}
 use Rattle.model.specs.OnBytes.{backedBytes}
-use Rattle.mover.specs.Working.{workAt}
-use Rattle.mover.specs.declared.placing.Tally.{Tally}
+use Rattle.placer.specs.Working.{workAt}
+use Rattle.placer.specs.declared.placing.Tally.{Tally}
 use Rattle.intake.specs.Allowing.{Ready, AllowedBy}
 use Rattle.intake.specs.Closing.{closedBook}
 use Rattle.intake.specs.Contracts.{outcome, BackedUp}

@@ -14,11 +14,11 @@ use Rattle.book.specs.Book.{Book, entryAt}
 use Rattle.book.specs.Layout.{bookOf, told, Holds, Is}
 use Rattle.book.specs.Formed.{Formed}
 use Rattle.model.specs.Backup.{Work, runChanges, begun}
-use Rattle.mover.proofs.MoveLaws.{is-same}
-use Rattle.mover.proofs.PoolLaws.{start-now}
+use Rattle.book.proofs.Holding.{is-same}
+use Rattle.placer.proofs.PoolLaws.{start-now}
 use Rattle.mover.specs.Stepping.{noTally, RanBy}
-use Rattle.mover.specs.Working.{poolNow, workAt, workOf, Job, Standing, Storable}
-use Rattle.mover.specs.declared.placing.Tally.{Tally}
+use Rattle.placer.specs.Working.{poolNow, workAt, workOf, Job, Standing, Storable}
+use Rattle.placer.specs.declared.placing.Tally.{Tally}
 use Rattle.mover.specs.declared.moving.Step.{Step}
 use Rattle.mover.specs.declared.moving.Step.the-variants.{Next, Stop}
 use Rattle.intake.specs.Closing.{closedBook, WorkedBy}

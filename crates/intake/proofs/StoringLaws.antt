@@ -13,8 +13,8 @@ use Rattle.list.specs.Changes.{changeAt}
 use Rattle.book.specs.Book.{Entry, entryAt}
 use Rattle.model.specs.Pool.{poolSize, blockAt, withBlock}
 use Rattle.model.proofs.agreement.BlockLaws.{length-with}
-use Rattle.mover.proofs.PoolLaws.{Known, block-with, is-now}
-use Rattle.mover.specs.Working.{heldBlock, blockNow, poolNow}
+use Rattle.placer.proofs.PoolLaws.{Known, block-with, is-now}
+use Rattle.placer.specs.Working.{heldBlock, blockNow, poolNow}
 use Rattle.intake.specs.Storing.{storedBlock}
 
 module _ (old new : List Entry) (taker list pool₀ : List ℕ) where

@@ -18,7 +18,7 @@ use Rattle.model.specs.Journal.{days}
 use Rattle.model.specs.Backup.{Work, runChanges, begun, closed}
 use Rattle.model.specs.OnBytes.{spareNumber, BackedBytes, backedBytes, backupBytes}
 use Rattle.buffers.specs.Buffers.{orNumber, buffersNumber}
-use Rattle.mover.specs.Working.{Job}
+use Rattle.placer.specs.Working.{Job}
 use Rattle.intake.specs.declared.allowing.Plan.{Plan}
 use Rattle.intake.specs.declared.allowing.Allowed.{Allowed}
 use Rattle.intake.specs.declared.allowing.Allowed.the-variants.{Go, Refused}

@@ -11,8 +11,8 @@ use Rattle.book.specs.Book.{Book}
 use Rattle.book.specs.Layout.{told, Is}
 use Rattle.book.specs.Next.{withDay, withSlot}
 use Rattle.model.specs.Backup.{runChanges, begun}
-use Rattle.mover.specs.Working.{workAt}
-use Rattle.mover.specs.declared.placing.Tally.{Tally}
+use Rattle.placer.specs.Working.{workAt}
+use Rattle.placer.specs.declared.placing.Tally.{Tally}
 use Rattle.mover.specs.declared.moving.Step.{Step}
 use Rattle.mover.specs.declared.moving.Step.the-variants.{Next, Stop}
 

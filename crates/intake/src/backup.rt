@@ -6,7 +6,7 @@ ghost use Rattle.book.specs.Book.{volumes};
 ghost use Rattle.book.specs.Layout.{told, Holds, Is};
 ghost use Rattle.book.specs.Formed.{Formed};
 ghost use Rattle.mover.specs.Stepping.{stepNumber};
-ghost use Rattle.mover.specs.Working.{Job};
+ghost use Rattle.placer.specs.Working.{Job};
 ghost use Rattle.intake.specs.Allowing.{allowedNumber};
 ghost use Rattle.intake.specs.Contracts.{BackedUp};
 ghost use Rattle.intake.specs.Closing.{closedBook, WorkedBy};

@@ -7,7 +7,7 @@ ghost use Rattle.list.specs.Answers.{Whole};
 ghost use Rattle.book.specs.Book.{entryAt};
 ghost use Rattle.book.specs.Layout.{told, Holds};
 ghost use Rattle.model.specs.Pool.{poolSize};
-ghost use Rattle.mover.specs.Working.{poolNow, Storable};
+ghost use Rattle.placer.specs.Working.{poolNow, Storable};
 ghost use Rattle.intake.specs.Storing.{storedBlock};
 use book::entry;
 use book::header;

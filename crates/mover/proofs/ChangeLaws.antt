@@ -27,15 +27,16 @@ use Rattle.book.specs.Next.{withEntries, withMaps, withRecord}
 use Rattle.model.proofs.agreement.Moving.{moved-held}
 use Rattle.model.specs.Backup.{Work, Placed, place, lower, nameBlock, moveNumber, moved, moveTo, changeStep, runChanges}
 use Rattle.index.specs.Indexed.{Indexed}
-use Rattle.mover.proofs.Indexing.{moved-indexed}
+use Rattle.placer.proofs.Indexing.{moved-indexed}
 use Rattle.mover.proofs.MoveLaws.{at-most-two}
-use Rattle.mover.proofs.PlaceLaws.{PlacedAt}
-use Rattle.mover.proofs.PoolLaws.{same-now}
-use Rattle.mover.specs.Stepping.{workFrom, workTo, PlacedBy, MovedBy, SteppedBy, StillIndexed, noTally, RanBy, placedNumber}
-use Rattle.mover.specs.Working.{poolNow, workAt, workOf, Standing}
-use Rattle.mover.specs.declared.placing.Tally.{Tally}
-use Rattle.mover.specs.declared.placing.Placed.{Placed as Answer}
-use Rattle.mover.specs.declared.placing.Placed.the-variants.{At, Refused}
+use Rattle.placer.proofs.PlaceLaws.{PlacedAt}
+use Rattle.placer.proofs.PoolLaws.{same-now}
+use Rattle.mover.specs.Stepping.{MovedBy, SteppedBy, StillIndexed, noTally, RanBy}
+use Rattle.placer.specs.Placing.{workFrom, workTo, PlacedBy, placedNumber}
+use Rattle.placer.specs.Working.{poolNow, workAt, workOf, Standing}
+use Rattle.placer.specs.declared.placing.Tally.{Tally}
+use Rattle.placer.specs.declared.placing.Placement.{Placement as Answer}
+use Rattle.placer.specs.declared.placing.Placement.the-variants.{At, Refused}
 use Rattle.mover.specs.declared.moving.Step.{Step}
 use Rattle.mover.specs.declared.moving.Step.the-variants.{Next, Stop}
 

@@ -19,21 +19,15 @@ use Rattle.words.specs.Outcome.{refused, accepted}
 use Rattle.words.proofs.Places.{all-getD}
 use Rattle.book.specs.Book.{Entry, Book, freeEntry, entryAt, cellAt}
 use Rattle.book.proofs.Conditions.{pbn-cases}
+use Rattle.book.proofs.Holding.{is-then, is-same}
 use Rattle.book.specs.Form.{pbnOk}
 use Rattle.book.specs.Layout.{bookOf, Holds, Is}
 use Rattle.book.specs.Next.{withEntries, withEntry, withCell, withRecord, countAs, expiryAs}
 use Rattle.model.proofs.form.Bounds.{unmapped-ok}
 use Rattle.model.specs.Backup.{lowered, lower, raised, nameBlock, moveNumber, moved, moveTo}
-use Rattle.mover.specs.Working.{workAt}
+use Rattle.placer.specs.Working.{workAt}
 use Rattle.mover.specs.Stepping.{LoweredBy}
-use Rattle.mover.specs.declared.placing.Tally.{Tally}
-
--- one writer after another
-pub is-then : (g : Book → Book) {b₁ b₂ : List ℕ} {x : Book} → Is b₁ x → Is b₂ (g (bookOf b₁)) → Is b₂ (g x)
-is-then g i j = record { holds = j .holds; book = j .book ∙ ap g (i .book) }
-
-pub is-same : {b : List ℕ} {x y : Book} → x ≡ y → Is b x → Is b y
-is-same e i = record { holds = i .holds; book = i .book ∙ e }
+use Rattle.placer.specs.declared.placing.Tally.{Tally}
 
 set-twice : {A : Type 0} (xs : List A) (p : ℕ) (y z : A) → set (set xs p y) p z ≡ set xs p z
 set-twice [] p y z = refl

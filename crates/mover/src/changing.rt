@@ -5,26 +5,27 @@ ghost use Rattle.list.specs.Changes.{changeAt};
 ghost use Rattle.book.specs.Book.{volumes};
 ghost use Rattle.book.specs.Layout.{told, Holds};
 ghost use Rattle.index.specs.Indexed.{Indexed};
-ghost use Rattle.mover.specs.Working.{Job, Standing};
-ghost use Rattle.mover.specs.Stepping.{noTally, placedNumber, SteppedBy, StillIndexed, RanBy};
+ghost use Rattle.placer.specs.Working.{Job, Standing};
+ghost use Rattle.mover.specs.Stepping.{noTally, SteppedBy, StillIndexed, RanBy};
+ghost use Rattle.placer.specs.Placing.{placedNumber};
 use super::moving::Step;
 use super::moving::move_to;
-use super::placing::Placed;
-use super::placing::Tally;
-use super::placing::place;
 use index::build;
 use list::Shape;
+use placer::placing::Placement;
+use placer::placing::Tally;
+use placer::placing::place;
 use words::LBN;
 use words::limits::MAX_BLOCKS;
 use words::limits::Table;
 
 // The number of a change that isn't placed.
-fn placed_number(placed: Placed) -> u16
+fn placed_number(placed: Placement) -> u16
     ensures { λ r. ⌜ r ≡ placedNumber placed ⌝ }
 {
     match placed {
-        Placed::At(_, _) => 0,
-        Placed::Refused(k) => k,
+        Placement::At(_, _) => 0,
+        Placement::Refused(k) => k,
     }
 }
 
@@ -53,7 +54,7 @@ fn change(
     ensures { λ r. ⌜ StillIndexed work heads nexts r ⌝ }
 {
     let placed = place(book, pool, work, list, shape, taker, heads, nexts, i, t);
-    let Placed::At(p, u) = placed else {
+    let Placement::At(p, u) = placed else {
         return Step::Stop(placed_number(placed));
     };
     move_to(work, v, lbn, p, until, u)

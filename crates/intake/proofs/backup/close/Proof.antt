@@ -1,6 +1,6 @@
 -- One writer after the other.
 use Rattle.book.specs.Next.{withDay}
-use Rattle.mover.proofs.MoveLaws.{is-then}
+use Rattle.book.proofs.Holding.{is-then}
 use borrow.Author.Needs.{needs}
 use Rattle.intake.proofs.backup.close.Statement.{statement}
 use Rattle.intake.proofs.backup.close.Tie as tie

@@ -7,7 +7,7 @@ use Rattle.list.specs.Changes.{changeCount}
 use Rattle.list.proofs.Laws.{length-block}
 use Rattle.book.specs.Book.{Sizes}
 use Rattle.book.specs.Layout.{bookOf}
-use Rattle.mover.proofs.PoolLaws.{Known}
+use Rattle.placer.proofs.PoolLaws.{Known}
 use Rattle.intake.proofs.StoringLaws.{Stored, stored-none, stored-more, stored-all}
 use borrow.Author.Needs.{needs}
 use Rattle.intake.proofs.storing.store_all.Statement.{statement}

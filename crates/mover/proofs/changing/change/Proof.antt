@@ -7,8 +7,9 @@ use Rattle.list.proofs.Laws.{changes-within, change-below}
 use Rattle.book.specs.Book.{Sizes}
 use Rattle.book.specs.Layout.{bookOf}
 use Rattle.mover.proofs.ChangeLaws.{placed-as, change-unplaced, change-by, move-indexed}
-use Rattle.mover.proofs.PlaceLaws.{PlacedAt}
-use Rattle.mover.specs.Stepping.{PlacedBy, SteppedBy, StillIndexed}
+use Rattle.placer.proofs.PlaceLaws.{PlacedAt}
+use Rattle.mover.specs.Stepping.{SteppedBy, StillIndexed}
+use Rattle.placer.specs.Placing.{PlacedBy}
 use borrow.Author.Needs.{needs}
 use Rattle.mover.proofs.changing.change.Statement.{statement}
 use Rattle.mover.proofs.changing.change.Tie as tie

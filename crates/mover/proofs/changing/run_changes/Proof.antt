@@ -10,7 +10,7 @@ use Rattle.model.specs.Backup.{runChanges}
 use Rattle.index.specs.Indexed.{Indexed}
 use Rattle.mover.proofs.ChangeLaws.{stepped-as, indexed-as, run-more, run-refused, run-done}
 use Rattle.mover.specs.Stepping.{SteppedBy, StillIndexed, noTally}
-use Rattle.mover.specs.Working.{workOf, Standing}
+use Rattle.placer.specs.Working.{workOf, Standing}
 use borrow.Author.Needs.{needs}
 use Rattle.mover.proofs.changing.run_changes.Statement.{statement}
 use Rattle.mover.proofs.changing.run_changes.Tie as tie

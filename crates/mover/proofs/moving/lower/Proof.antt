@@ -7,7 +7,8 @@ use lib.ListN.{length}
 use Rattle.book.specs.Book.{Book, entryAt}
 use Rattle.book.specs.Layout.{bookOf, Is}
 use Rattle.book.specs.Next.{withEntries, withEntry, countAs}
-use Rattle.mover.proofs.MoveLaws.{is-same, lower-none, lower-zero, lower-late, lower-early}
+use Rattle.mover.proofs.MoveLaws.{lower-none, lower-zero, lower-late, lower-early}
+use Rattle.book.proofs.Holding.{is-same}
 use borrow.Author.Needs.{needs}
 use Rattle.mover.proofs.moving.lower.Statement.{statement}
 use Rattle.mover.proofs.moving.lower.Tie as tie

@@ -14,12 +14,12 @@ use Rattle.book.specs.Layout.{bookOf}
 use Rattle.model.specs.Backup.{findHeld}
 use Rattle.index.specs.Answers.{foundOf}
 use Rattle.index.proofs.AnswerLaws.{found-some, found-none}
-use Rattle.mover.proofs.Finding.{found-held, found-free}
-use Rattle.mover.proofs.PlaceLaws.{prints-size, twelve-by, eleven-by, found-by, taken-by}
-use Rattle.mover.specs.Stepping.{PlacedBy}
+use Rattle.placer.proofs.Finding.{found-held, found-free}
+use Rattle.placer.proofs.PlaceLaws.{prints-size, twelve-by, eleven-by, found-by, taken-by}
+use Rattle.placer.specs.Placing.{PlacedBy}
 use borrow.Author.Needs.{needs}
-use Rattle.mover.proofs.placing.place.Statement.{statement}
-use Rattle.mover.proofs.placing.place.Tie as tie
+use Rattle.placer.proofs.placing.place.Statement.{statement}
+use Rattle.placer.proofs.placing.place.Tie as tie
 
 -- change i is one of the list's
 below : (c : tie.Start) → c .args .i < changeCount (c .args .list .now)

@@ -8,10 +8,10 @@ use Rattle.words.specs.Blocks.{blockSize}
 use Rattle.words.specs.Lists.{same}
 use Rattle.words.proofs.Lending.{lent}
 use Rattle.book.specs.Layout.{bookOf}
-use Rattle.mover.proofs.PoolLaws.{in-pool, in-list}
+use Rattle.placer.proofs.PoolLaws.{in-pool, in-list}
 use borrow.Author.Needs.{needs}
-use Rattle.mover.proofs.placing.same_block.Statement.{statement}
-use Rattle.mover.proofs.placing.same_block.Tie as tie
+use Rattle.placer.proofs.placing.same_block.Statement.{statement}
+use Rattle.placer.proofs.placing.same_block.Tie as tie
 
 abbrev start : tie.After-block-of → tie.Start
 start c = c .before .before .before .before

@@ -7,10 +7,10 @@ use Rattle.words.proofs.ChoiceLaws.{failed, passed}
 use Rattle.book.specs.Book.{freeEntry, isFree}
 use Rattle.book.specs.Layout.{bookOf}
 use Rattle.index.specs.Answers.{foundOf}
-use Rattle.mover.specs.Search.{placeIn}
-use Rattle.mover.proofs.SearchLaws.{place-stop, place-more, place-end}
-use Rattle.mover.proofs.find.first_free.Statement.{statement}
-use Rattle.mover.proofs.find.first_free.Tie as tie
+use Rattle.placer.specs.Search.{placeIn}
+use Rattle.placer.proofs.SearchLaws.{place-stop, place-more, place-end}
+use Rattle.placer.proofs.find.first_free.Statement.{statement}
+use Rattle.placer.proofs.find.first_free.Tie as tie
 
 abbrev Inv-loop : tie.InvT-loop
 Inv-loop book from to p₀ p =

@@ -10,8 +10,8 @@ use Rattle.book.specs.Layout.{bookOf}
 use Rattle.model.specs.Backup.{findHeld}
 use Rattle.index.specs.Answers.{foundOf}
 use borrow.Author.Needs.{needs}
-use Rattle.mover.proofs.find.find_held.Statement.{statement}
-use Rattle.mover.proofs.find.find_held.Tie as tie
+use Rattle.placer.proofs.find.find_held.Statement.{statement}
+use Rattle.placer.proofs.find.find_held.Tie as tie
 
 find-requires : tie.Need-find-requires
 find-requires c κs =

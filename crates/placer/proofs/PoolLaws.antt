@@ -22,7 +22,7 @@ use Rattle.list.specs.Changes.{changeAt}
 use Rattle.book.specs.Book.{Entry, entryAt}
 use Rattle.model.specs.Pool.{poolSize, blockAt, withBlock}
 use Rattle.model.proofs.agreement.BlockLaws.{length-with}
-use Rattle.mover.specs.Working.{heldBlock, blockNow, poolNow}
+use Rattle.placer.specs.Working.{heldBlock, blockNow, poolNow}
 
 -- ---- a pool by its blocks
 

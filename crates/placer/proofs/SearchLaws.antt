@@ -11,7 +11,7 @@ use lib.ListN.{length, getD, take, drop, length-drop}
 use lib.Seq.{drop-cons, take-all}
 use Rattle.words.specs.Choice.{if_then_else_}
 use Rattle.words.specs.Lists.{placeFrom}
-use Rattle.mover.specs.Search.{placeIn}
+use Rattle.placer.specs.Search.{placeIn}
 
 module _ {A : Type 0} (f : A → Bool) (xs : List A) where
   module _ (d : A) (i n : ℕ) where

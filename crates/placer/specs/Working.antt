@@ -13,7 +13,7 @@ use Rattle.book.specs.Book.{Entry, Book, entryAt}
 use Rattle.book.specs.Form.{pbnOk}
 use Rattle.model.specs.Pool.{poolSize, blockAt}
 use Rattle.model.specs.Backup.{Work}
-use Rattle.mover.specs.declared.placing.Tally.{Tally}
+use Rattle.placer.specs.declared.placing.Tally.{Tally}
 
 -- `taker` has for a block that the changes took the change that took it.
 -- the bytes of a held block: the pool's where the old book holds it, else those of the change that took it

@@ -9,7 +9,7 @@ ghost use Rattle.book.specs.Layout.{told, Holds};
 ghost use Rattle.model.specs.Backup.{findHeld, findFree};
 ghost use Rattle.index.specs.Answers.{foundOf};
 ghost use Rattle.index.specs.Indexed.{Indexed};
-ghost use Rattle.mover.specs.Search.{placeIn};
+ghost use Rattle.placer.specs.Search.{placeIn};
 use book::entry;
 use book::header;
 use index::Found;

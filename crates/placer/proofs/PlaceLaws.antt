@@ -27,12 +27,12 @@ use Rattle.book.specs.Layout.{bookOf, Holds, Is}
 use Rattle.book.specs.Next.{withCursor, withEntries, withEntry, heldAs}
 use Rattle.model.specs.Pool.{blockAt, withBlock}
 use Rattle.model.specs.Backup.{Work, findHeld, findFree, takeBlock, placeFree, placeHeld, place}
-use Rattle.mover.proofs.Finding.{found-held, found-free}
-use Rattle.mover.proofs.MoveLaws.{is-then, is-same}
-use Rattle.mover.proofs.PoolLaws.{Known, block-now, taken-now}
-use Rattle.mover.specs.Stepping.{takenBook}
-use Rattle.mover.specs.Working.{heldBlock, blockNow, poolNow, workOf, Job, Standing}
-use Rattle.mover.specs.declared.placing.Tally.{Tally}
+use Rattle.placer.proofs.Finding.{found-held, found-free}
+use Rattle.book.proofs.Holding.{is-then, is-same}
+use Rattle.placer.proofs.PoolLaws.{Known, block-now, taken-now}
+use Rattle.placer.specs.Placing.{takenBook}
+use Rattle.placer.specs.Working.{heldBlock, blockNow, poolNow, workOf, Job, Standing}
+use Rattle.placer.specs.declared.placing.Tally.{Tally}
 
 -- ---- the model's steps, by what is found
 

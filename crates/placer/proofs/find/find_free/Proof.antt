@@ -5,11 +5,11 @@ use lib.ListN.{length}
 use Rattle.book.specs.Book.{isFree}
 use Rattle.book.specs.Layout.{bookOf}
 use Rattle.index.specs.Answers.{foundOf}
-use Rattle.mover.specs.Search.{placeIn}
-use Rattle.mover.proofs.Finding.{free-up, free-round}
+use Rattle.placer.specs.Search.{placeIn}
+use Rattle.placer.proofs.Finding.{free-up, free-round}
 use borrow.Author.Needs.{needs}
-use Rattle.mover.proofs.find.find_free.Statement.{statement}
-use Rattle.mover.proofs.find.find_free.Tie as tie
+use Rattle.placer.proofs.find.find_free.Statement.{statement}
+use Rattle.placer.proofs.find.find_free.Tie as tie
 
 abbrev start : tie.After-first-free → tie.Start
 start c = c .before .before .before .before

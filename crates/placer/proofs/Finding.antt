@@ -16,8 +16,8 @@ use Rattle.book.specs.Book.{Entry, freeEntry, entryAt, isFree}
 use Rattle.model.specs.Backup.{findHeld, findFree}
 use Rattle.index.specs.Answers.{foundOf}
 use Rattle.index.specs.declared.finding.Found.the-variants.{At, Nothing}
-use Rattle.mover.specs.Search.{placeIn}
-use Rattle.mover.proofs.SearchLaws.{place-up, place-below}
+use Rattle.placer.specs.Search.{placeIn}
+use Rattle.placer.proofs.SearchLaws.{place-up, place-below}
 
 -- found from the cursor up, or only below it
 module _ (es : List Entry) (c : ℕ) where

@@ -10,8 +10,8 @@ ghost use Rattle.book.specs.Book.{entryAt};
 ghost use Rattle.book.specs.Layout.{told, Holds, Is};
 ghost use Rattle.model.specs.Pool.{poolSize};
 ghost use Rattle.index.specs.Indexed.{Indexed};
-ghost use Rattle.mover.specs.Working.{heldBlock, Job, Standing};
-ghost use Rattle.mover.specs.Stepping.{takenBook, PlacedBy};
+ghost use Rattle.placer.specs.Working.{heldBlock, Job, Standing};
+ghost use Rattle.placer.specs.Placing.{takenBook, PlacedBy};
 use super::find::find_free;
 use super::find::find_held;
 use book::entry;
@@ -32,7 +32,7 @@ pub struct Tally {
 }
 
 // What the lookup and allocation of a change answer.
-pub enum Placed {
+pub enum Placement {
     At(PBN, Tally),
     Refused(u16),
 }
@@ -104,7 +104,7 @@ pub fn place(
     nexts: &mut Table,
     i: usize,
     t: Tally,
-) -> Placed
+) -> Placement
     requires { ⌜ Holds (now book) × Holds (now work) ⌝ }
     requires { ⌜ Job (told book) (now pool) (now list) shape × (i < shape .changes) ⌝ }
     requires { ⌜ Standing (told book) (told work) (now taker) t i i ⌝ }
@@ -116,15 +116,15 @@ pub fn place(
     let Found::At(q) = held else {
         let free = find_free(work);
         let Found::At(p) = free else {
-            return Placed::Refused(refusals::NO_BLOCK);
+            return Placement::Refused(refusals::NO_BLOCK);
         };
         take_block(work, list, shape, taker, heads, nexts, p, i);
         let taken = t.taken + 1;
         let touched = t.touched;
-        return Placed::At(p, Tally { taken, touched });
+        return Placement::At(p, Tally { taken, touched });
     };
     if !same_block(book, pool, list, shape, taker, q, i) {
-        return Placed::Refused(refusals::OTHER_BYTES);
+        return Placement::Refused(refusals::OTHER_BYTES);
     }
-    Placed::At(q, t)
+    Placement::At(q, t)
 }

@@ -8,11 +8,11 @@ use Rattle.list.proofs.Laws.{length-print}
 use Rattle.book.specs.Book.{Book}
 use Rattle.book.specs.Layout.{bookOf, Is}
 use Rattle.book.specs.Next.{withEntries, withEntry, heldAs}
-use Rattle.mover.proofs.Indexing.{cursor-indexed}
-use Rattle.mover.proofs.PlaceLaws.{taken-is}
+use Rattle.placer.proofs.Indexing.{cursor-indexed}
+use Rattle.placer.proofs.PlaceLaws.{taken-is}
 use borrow.Author.Needs.{needs}
-use Rattle.mover.proofs.placing.take_block.Statement.{statement}
-use Rattle.mover.proofs.placing.take_block.Tie as tie
+use Rattle.placer.proofs.placing.take_block.Statement.{statement}
+use Rattle.placer.proofs.placing.take_block.Tie as tie
 
 -- what is lent is known
 abbrev known : tie.After-print-of → tie.After-shared-slice-known
