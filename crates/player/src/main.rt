@@ -1,5 +1,5 @@
-// Reads N, L, S, J and a list of calls from standard input (docs/FORMAT.md), plays the list on a fresh book and prints the answers, a line for each
-// call.
+// Reads N, L, S, J and a list of calls from standard input (docs/FORMAT.md), plays the list on a fresh book and prints
+// the answers, a line for each call.
 mod printing;
 
 use book::sizes::size;
