@@ -10,8 +10,8 @@ ghost use Rattle.auditor.specs.Counts.{poolBlocks, Counted};
 ghost use Rattle.auditor.specs.MapsTaken.{AtMost, RowTaken, MapsTaken};
 ghost use Rattle.auditor.specs.Table.{rowSize};
 use super::notes::ROW;
-use book::header;
-use book::map::cell;
+use fields::header;
+use fields::map::cell;
 use words::LBN;
 use words::PBN;
 

@@ -7,7 +7,7 @@ ghost use Rattle.book.specs.Book.{volumes};
 ghost use Rattle.auditor.specs.Counts.{poolBlocks};
 ghost use Rattle.auditor.specs.Expiries.{Raised, untilOne};
 ghost use Rattle.auditor.specs.Table.{rowSize};
-use book::record::Record;
+use journal::record::Record;
 use words::LBN;
 use words::PBN;
 

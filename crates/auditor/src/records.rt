@@ -19,12 +19,12 @@ ghost use Rattle.auditor.specs.Table.{rowSize};
 use super::notes::meet;
 use super::notes::raise;
 use super::notes::replace;
-use book::entry::is_held;
-use book::header;
-use book::header::retention;
-use book::header::used_slots;
-use book::record::record_at;
-use book::slot::slot_at;
+use entries::entry::is_held;
+use fields::header;
+use fields::header::retention;
+use fields::header::used_slots;
+use journal::record::record_at;
+use journal::slot::slot_at;
 use words::PBN;
 use words::UNMAPPED;
 

@@ -1,8 +1,8 @@
 // Format: a fresh book.
 ghost use Rattle.engine.specs.Contracts.{Formatted};
-use book::fresh;
-use book::sizes::size;
-use book::sizes::sizes_ok;
+use fields::fresh;
+use fields::sizes::size;
+use fields::sizes::sizes_ok;
 
 #[no_mangle]
 pub extern "C" fn aspen_format(book: &mut [u8], n: u16, l: u16, s: u16, j: u16) -> u16

@@ -1,7 +1,7 @@
 // What refuses a call that shows a volume, before the output is looked at: the book's form, and that the volume is enrolled.
 ghost use mathlib.Core.Path.{_≡_};
 ghost use Rattle.model.specs.Views.{enrolledNumber};
-use book::header;
+use fields::header;
 use form::form_number;
 
 pub fn enrolled_number(book: &[u8], volume: u16) -> u16

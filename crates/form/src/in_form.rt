@@ -1,21 +1,21 @@
 // Whether a book is in form (document 01, numbers 1 and 2), in one pass over each section.
-use book::header::B_PLACE;
-use book::header::CURSOR_PLACE;
-use book::header::DAY_PLACE;
-use book::header::HEADER_SIZE;
-use book::header::J_PLACE;
-use book::header::L_PLACE;
-use book::header::N_PLACE;
-use book::header::S_PLACE;
-use book::header::U_PLACE;
-use book::header::ZERO_PLACE;
-use book::place::ENTRIES_FROM;
-use book::place::ENTRY_SIZE;
-use book::place::REC_SIZE;
-use book::place::SLOT_SIZE;
-use book::place::VOLUMES;
-use book::sizes::size;
-use book::sizes::sizes_ok;
+use fields::header::B_OFFSET;
+use fields::header::CURSOR_OFFSET;
+use fields::header::DAY_OFFSET;
+use fields::header::HEADER_SIZE;
+use fields::header::J_OFFSET;
+use fields::header::L_OFFSET;
+use fields::header::N_OFFSET;
+use fields::header::S_OFFSET;
+use fields::header::U_OFFSET;
+use fields::header::ZERO_OFFSET;
+use fields::offsets::ENTRIES_FROM;
+use fields::offsets::ENTRY_SIZE;
+use fields::offsets::REC_SIZE;
+use fields::offsets::SLOT_SIZE;
+use fields::offsets::VOLUMES;
+use fields::sizes::size;
+use fields::sizes::sizes_ok;
 use words::UNMAPPED;
 use words::u16_at;
 use words::wide;
@@ -24,7 +24,7 @@ ghost use mathlib.Core.Path.{_≡_};
 ghost use mathlib.Core.Bool.{_&&_};
 ghost use lib.ListN.{length};
 ghost use Rattle.words.specs.Numbers.{num};
-ghost use Rattle.book.specs.Layout.{nPlace, lPlace, dayPlace, headerSize, entriesFrom, entryPlace, entrySize, slotsFrom, slotSize, recSize, entryOf, recOf, sizesOf};
+ghost use Rattle.book.specs.Layout.{nOffset, lOffset, dayOffset, headerSize, entriesFrom, entryOffset, entrySize, slotsFrom, slotSize, recSize, entryOf, recOf, sizesOf};
 ghost use Rattle.book.specs.Form.{layoutOk, stateOk, entryOk, pbnOk, recOk, formNumber};
 ghost use Rattle.book.specs.Formed.{Laid};
 ghost use Rattle.form.specs.Passes.{blocksOk, slotsOk, journalOk};
@@ -52,10 +52,10 @@ fn layout_ok(b: &[u8]) -> bool
     if b.len() < HEADER_SIZE {
         return false;
     }
-    let n = u16_at(b, N_PLACE);
-    let l = u16_at(b, L_PLACE);
-    let s = u16_at(b, S_PLACE);
-    let j = u16_at(b, J_PLACE);
+    let n = u16_at(b, N_OFFSET);
+    let l = u16_at(b, L_OFFSET);
+    let s = u16_at(b, S_OFFSET);
+    let j = u16_at(b, J_OFFSET);
     (u16_at(b, 0) == 1) & sizes_ok(n, l, s, j) & (b.len() == size(n, l, s, j))
 }
 
@@ -64,11 +64,11 @@ fn head_ok(b: &[u8]) -> bool
     requires { ⌜ headerSize ≤ length (now b) ⌝ }
     ensures { λ r. ⌜ r ≡ headOk (now (b .entry)) ⌝ }
 {
-    let slots = u16_at(b, B_PLACE) <= u16_at(b, S_PLACE);
-    let records = u16_at(b, U_PLACE) <= u16_at(b, J_PLACE);
-    let day = u16_at(b, DAY_PLACE) <= 60000;
-    let cursor = u16_at(b, CURSOR_PLACE) < u16_at(b, N_PLACE);
-    slots & records & day & cursor & (u16_at(b, ZERO_PLACE) == 0)
+    let slots = u16_at(b, B_OFFSET) <= u16_at(b, S_OFFSET);
+    let records = u16_at(b, U_OFFSET) <= u16_at(b, J_OFFSET);
+    let day = u16_at(b, DAY_OFFSET) <= 60000;
+    let cursor = u16_at(b, CURSOR_OFFSET) < u16_at(b, N_OFFSET);
+    slots & records & day & cursor & (u16_at(b, ZERO_OFFSET) == 0)
 }
 
 fn retentions_ok(b: &[u8]) -> bool
@@ -85,7 +85,7 @@ fn retentions_ok(b: &[u8]) -> bool
 }
 
 fn entry_ok(b: &[u8], p: usize) -> bool
-    requires { ⌜ entryPlace p + entrySize ≤ length (now b) ⌝ }
+    requires { ⌜ entryOffset p + entrySize ≤ length (now b) ⌝ }
     ensures { λ r. ⌜ r ≡ (stateOk (now (b .entry)) p && entryOk (entryOf (now (b .entry)) p)) ⌝ }
 {
     let at = ENTRIES_FROM + p * ENTRY_SIZE;
@@ -106,7 +106,7 @@ fn entry_ok(b: &[u8], p: usize) -> bool
 }
 
 fn entries_ok(b: &[u8], n: usize) -> bool
-    requires { ⌜ entryPlace n ≤ length (now b) ⌝ }
+    requires { ⌜ entryOffset n ≤ length (now b) ⌝ }
     ensures { λ r. ⌜ r ≡ entriesOk (now (b .entry)) n ⌝ }
 {
     let mut p = 0;
@@ -142,7 +142,7 @@ fn maps_ok(b: &[u8], from: usize, cells: usize, n: u16) -> bool
 // The slot at `at`, after those passed: each volume's last day + 1, the last slot's day, and the record where it has to start.
 fn slot_ok(b: &[u8], at: usize, today: u16, lasts: &[u16; 8], prev: u16, next: usize) -> bool
     requires { ⌜ (entriesFrom ≤ length (now b)) × (at + slotSize ≤ length (now b)) ⌝ }
-    requires { ⌜ today ≡ num (now b) dayPlace ⌝ }
+    requires { ⌜ today ≡ num (now b) dayOffset ⌝ }
     ensures { λ r. ⌜ r ≡ slotHere (now (b .entry)) at (now (lasts .entry)) prev next ⌝ }
 {
     let v = wide(b[at]) as usize;
@@ -181,7 +181,7 @@ fn used_slots_ok(b: &[u8], from: usize, used: usize, records: usize, today: u16)
 
 fn rec_ok(b: &[u8], at: usize, n: u16, l: u16) -> bool
     requires { ⌜ at + recSize ≤ length (now b) ⌝ }
-    requires { ⌜ (n ≡ num (now b) nPlace) × (l ≡ num (now b) lPlace) ⌝ }
+    requires { ⌜ (n ≡ num (now b) nOffset) × (l ≡ num (now b) lOffset) ⌝ }
     ensures { λ r. ⌜ r ≡ recOk (sizesOf (now (b .entry))) (recOf (now (b .entry)) at) ⌝ }
 {
     (u16_at(b, at) < l) & pbn_ok(u16_at(b, at + 2), n) & (u16_at(b, at + 4) < n)
@@ -189,7 +189,7 @@ fn rec_ok(b: &[u8], at: usize, n: u16, l: u16) -> bool
 
 fn used_records_ok(b: &[u8], from: usize, used: usize, n: u16, l: u16) -> bool
     requires { ⌜ from + used * recSize ≤ length (now b) ⌝ }
-    requires { ⌜ (n ≡ num (now b) nPlace) × (l ≡ num (now b) lPlace) ⌝ }
+    requires { ⌜ (n ≡ num (now b) nOffset) × (l ≡ num (now b) lOffset) ⌝ }
     ensures { λ r. ⌜ r ≡ recordsOk (now (b .entry)) from used ⌝ }
 {
     let mut good = true;
@@ -206,8 +206,8 @@ fn blocks_ok(b: &[u8]) -> bool
     requires { ⌜ Laid (now b) ⌝ }
     ensures { λ r. ⌜ r ≡ blocksOk (now (b .entry)) ⌝ }
 {
-    let n = u16_at(b, N_PLACE);
-    let cells = VOLUMES * (u16_at(b, L_PLACE) as usize);
+    let n = u16_at(b, N_OFFSET);
+    let cells = VOLUMES * (u16_at(b, L_OFFSET) as usize);
     retentions_ok(b)
         & entries_ok(b, n as usize)
         & maps_ok(b, ENTRIES_FROM + n as usize * ENTRY_SIZE, cells, n)
@@ -218,8 +218,8 @@ fn slots_from(b: &[u8]) -> usize
     ensures { λ r. ⌜ r ≡ slotsFrom (sizesOf (now (b .entry))) ⌝ }
 {
     ENTRIES_FROM
-        + u16_at(b, N_PLACE) as usize * ENTRY_SIZE
-        + VOLUMES * (u16_at(b, L_PLACE) as usize * 2)
+        + u16_at(b, N_OFFSET) as usize * ENTRY_SIZE
+        + VOLUMES * (u16_at(b, L_OFFSET) as usize * 2)
 }
 
 fn slots_ok(b: &[u8]) -> bool
@@ -228,10 +228,10 @@ fn slots_ok(b: &[u8]) -> bool
     ensures { λ r. ⌜ r ≡ slotsOk (now (b .entry)) ⌝ }
 {
     let from = slots_from(b);
-    let used = u16_at(b, B_PLACE) as usize;
-    let records = u16_at(b, U_PLACE) as usize;
-    let end = from + u16_at(b, S_PLACE) as usize * SLOT_SIZE;
-    used_slots_ok(b, from, used, records, u16_at(b, DAY_PLACE))
+    let used = u16_at(b, B_OFFSET) as usize;
+    let records = u16_at(b, U_OFFSET) as usize;
+    let end = from + u16_at(b, S_OFFSET) as usize * SLOT_SIZE;
+    used_slots_ok(b, from, used, records, u16_at(b, DAY_OFFSET))
         & zeros(b, from + used * SLOT_SIZE, end)
 }
 
@@ -240,9 +240,9 @@ fn journal_ok(b: &[u8]) -> bool
     requires { ⌜ HeadIn (now b) ⌝ }
     ensures { λ r. ⌜ r ≡ journalOk (now (b .entry)) ⌝ }
 {
-    let from = slots_from(b) + u16_at(b, S_PLACE) as usize * SLOT_SIZE;
-    let used = u16_at(b, U_PLACE) as usize;
-    used_records_ok(b, from, used, u16_at(b, N_PLACE), u16_at(b, L_PLACE))
+    let from = slots_from(b) + u16_at(b, S_OFFSET) as usize * SLOT_SIZE;
+    let used = u16_at(b, U_OFFSET) as usize;
+    used_records_ok(b, from, used, u16_at(b, N_OFFSET), u16_at(b, L_OFFSET))
         & zeros(b, from + used * REC_SIZE, b.len())
 }
 

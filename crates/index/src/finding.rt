@@ -11,8 +11,8 @@ ghost use Rattle.index.specs.Bucket.{bucketOf, hasPrint};
 ghost use Rattle.index.specs.Finding.{Chain};
 ghost use Rattle.index.specs.Indexed.{Indexed};
 use super::bucket::bucket_of;
-use book::entry;
-use book::header;
+use entries::entry;
+use fields::header;
 use words::PBN;
 use words::PRINT_SIZE;
 

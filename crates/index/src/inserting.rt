@@ -9,7 +9,7 @@ ghost use Rattle.book.specs.Layout.{told, Holds, Is};
 ghost use Rattle.book.specs.Next.{heldAs, withEntry};
 ghost use Rattle.index.specs.Indexed.{Indexed};
 use super::bucket::bucket_of;
-use book::entry;
+use entries::entry;
 use words::PBN;
 
 // A free block becomes held with this fingerprint; its count and expiry stay. It goes after the last block of its bucket below it, so that a lookup

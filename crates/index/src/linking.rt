@@ -7,8 +7,8 @@ ghost use Rattle.index.specs.Bucket.{tableSize, apart};
 ghost use Rattle.index.specs.Indexed.{IndexedFrom, Indexed};
 use super::bucket::bucket_of;
 use super::finding::search;
-use book::entry;
-use book::header;
+use entries::entry;
+use fields::header;
 use words::PBN;
 
 // No block is linked yet, whatever the tables had.

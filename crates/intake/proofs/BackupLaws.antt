@@ -5,7 +5,7 @@ use mathlib.Core.List.{List}
 use native.Mathlib.Omega.{arith}
 use lib.ListN.{length}
 use Rattle.words.specs.Outcome.{Outcome, refused, accepted, andThen}
-use Rattle.list.specs.Changes.{changeCount, changes}
+use Rattle.runs.specs.Changes.{changeCount, changes}
 use Rattle.book.specs.Book.{Book}
 use Rattle.book.specs.Layout.{bookOf}
 use Rattle.book.proofs.Holding.{bytes-is}

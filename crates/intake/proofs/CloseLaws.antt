@@ -6,7 +6,7 @@ use native.Mathlib.Omega.{arith}
 use lib.ListN.{length, replicate, length-replicate}
 use Rattle.words.proofs.ChoiceLaws.{not-both}
 use Rattle.words.specs.Outcome.{Outcome, accepted}
-use Rattle.list.specs.Changes.{changeCount, changes}
+use Rattle.runs.specs.Changes.{changeCount, changes}
 use Rattle.list.specs.declared.Shape.{Shape}
 use Rattle.book.specs.Book.{Book, entryAt}
 use Rattle.book.specs.Layout.{bookOf, Holds, Is}

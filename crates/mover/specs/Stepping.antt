@@ -6,7 +6,7 @@ use mathlib.Core.List.{List}
 use lib.Dec.{eqb}
 use Rattle.words.specs.Blocks.{unmapped}
 use Rattle.words.specs.Outcome.{refused, accepted}
-use Rattle.list.specs.Changes.{changeCount, changeAt, changes}
+use Rattle.runs.specs.Changes.{changeCount, changeAt, changes}
 use Rattle.book.specs.Book.{Book, entryAt, cellAt}
 use Rattle.book.specs.Layout.{bookOf, Holds, Is}
 use Rattle.book.specs.Next.{withCursor, withEntries, withEntry, heldAs}

@@ -2,7 +2,7 @@
 ghost use lib.ListN.{length};
 ghost use Rattle.model.specs.Views.{cellsBytes};
 ghost use Rattle.model.specs.Written.{Written};
-use book::map;
+use fields::map;
 use figures::enrolled::enrolled_number;
 use words::put_bytes;
 

@@ -7,7 +7,7 @@ ghost use lib.Seq.{sets};
 ghost use Rattle.words.specs.Lists.{all};
 ghost use Rattle.words.specs.Laying.{Stored};
 ghost use Rattle.writer.specs.Passes.{rowAfter, pairOf, pairsFrom, ifMarked, markedElements, counted, Counted, Passed, Room};
-ghost use Rattle.writer.specs.Writer.{Wrote, markedList, inputOk};
+ghost use Rattle.runs.specs.Writer.{Wrote, markedList, inputOk};
 use words::BLOCK_SIZE;
 use words::PRINT_SIZE;
 

@@ -8,7 +8,7 @@ use lib.ListN.{getD}
 use denote.Ref.{now}
 use Rattle.words.proofs.ChoiceLaws.{failed, passed}
 use Rattle.words.specs.Numbers.{num}
-use Rattle.book.specs.Layout.{dayPlace}
+use Rattle.book.specs.Layout.{dayOffset}
 use Rattle.form.specs.Days.{noLasts}
 use Rattle.form.specs.Slots.{slotHere, slotsLeft}
 use Rattle.form.proofs.SlotLaws.{slots-more, slots-stop, slots-end, slot-bounds}
@@ -52,7 +52,7 @@ here c = passed (c .before .slot-ok .ensures) (c .if1 .left)
 bounds : (c : tie.Else1 Inv-loop μ-loop)
     → let m = c .before .before .before .before in
     let a = m .before .before .args in
-    (getD (now (a .b)) (a .from + m .loop .q * 8) 0 < 8) × (num (now (a .b)) (a .from + m .loop .q * 8 + 2) ≤ num (now (a .b)) dayPlace)
+    (getD (now (a .b)) (a .from + m .loop .q * 8) 0 < 8) × (num (now (a .b)) (a .from + m .loop .q * 8 + 2) ≤ num (now (a .b)) dayOffset)
 bounds c = slot-bounds _ _ _ _ _ (here c)
 
 add-lasts : tie.Need-add-lasts Inv-loop μ-loop
