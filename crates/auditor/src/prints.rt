@@ -4,7 +4,7 @@ ghost use mathlib.Core.Path.{_≡_};
 ghost use Rattle.book.specs.Layout.{told};
 ghost use Rattle.book.specs.Formed.{Formed};
 ghost use Rattle.model.specs.Audit.{printsSound};
-use book::header::blocks;
+use fields::header::blocks;
 use index::clear;
 use index::link_apart;
 use words::PBN;

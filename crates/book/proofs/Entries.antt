@@ -11,7 +11,7 @@ use Rattle.words.specs.Numbers.{two}
 use Rattle.words.specs.Sections.{fit}
 use Rattle.words.proofs.SectionLaws.{sets-cons, sets-whole, length-fit, fit-all}
 use Rattle.book.specs.Book.{Entry, Book, noPrint, freeEntry, entryAt}
-use Rattle.book.specs.Layout.{entryPlace, stateByte, entryBytes, bytes}
+use Rattle.book.specs.Layout.{entryOffset, stateByte, entryBytes, bytes}
 use Rattle.book.specs.Next.{withEntries, countAs, expiryAs, heldAs, freed, withEntry}
 use Rattle.book.proofs.Store.{set-entry}
 
@@ -52,7 +52,7 @@ print-stored e f hf =
 
 -- ---- the book
 
-module _ (x : Book) (p i : ℕ) (hp : p < x .sizes .n) (hs : length (x .entries) ≡ x .sizes .n) (e : i ≡ entryPlace p) where
+module _ (x : Book) (p i : ℕ) (hp : p < x .sizes .n) (hs : length (x .entries) ≡ x .sizes .n) (e : i ≡ entryOffset p) where
   pub set-count : (c : ℕ) → set (bytes x) i c ≡ bytes (withEntry (countAs c) p x)
   set-count c =
       set-entry x p 0 i (c ∷ []) (countAs c (entryAt (x .entries) p)) hp hs (omega arith) (omega arith) (count-stored (entryAt (x .entries) p) c)

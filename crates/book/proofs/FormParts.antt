@@ -12,7 +12,7 @@ use Rattle.words.specs.Lists.{all, allZero, upFrom}
 use Rattle.words.specs.Numbers.{num}
 use Rattle.words.specs.Sections.{part}
 use Rattle.book.specs.Book.{Book}
-use Rattle.book.specs.Layout.{nPlace, sPlace, jPlace, bPlace, uPlace, zeroPlace, slotSize, recSize, slotPlace, recPlace, sizesOf}
+use Rattle.book.specs.Layout.{nOffset, sOffset, jOffset, bOffset, uOffset, zeroOffset, slotSize, recSize, slotOffset, recOffset, sizesOf}
 use Rattle.book.specs.Form.{retentionOk, entryOk, pbnOk, recOk, slotOk, daysOk, pairsOk, bookOk, stateOk, secondOk, rawOk}
 use Rattle.book.specs.Formed.{BookParts}
 
@@ -54,34 +54,34 @@ parts-book x p =
 
 -- what only the bytes show
 pub record RawParts (b : List ℕ) : Type 0 where
-  pub slots : num b bPlace ≤ num b sPlace
-  pub records : num b uPlace ≤ num b jPlace
-  pub spare : num b zeroPlace ≡ 0
-  pub states : all (stateOk b) (upFrom 0 (num b nPlace)) ≡ true
-  pub seconds : all (secondOk b) (upFrom 0 (num b bPlace)) ≡ true
-  pub restSlots : allZero (part b (slotPlace (sizesOf b) (num b bPlace)) ((num b sPlace - num b bPlace) * slotSize)) ≡ true
-  pub restRecords : allZero (part b (recPlace (sizesOf b) (num b uPlace)) ((num b jPlace - num b uPlace) * recSize)) ≡ true
+  pub slots : num b bOffset ≤ num b sOffset
+  pub records : num b uOffset ≤ num b jOffset
+  pub spare : num b zeroOffset ≡ 0
+  pub states : all (stateOk b) (upFrom 0 (num b nOffset)) ≡ true
+  pub seconds : all (secondOk b) (upFrom 0 (num b bOffset)) ≡ true
+  pub restSlots : allZero (part b (slotOffset (sizesOf b) (num b bOffset)) ((num b sOffset - num b bOffset) * slotSize)) ≡ true
+  pub restRecords : allZero (part b (recOffset (sizesOf b) (num b uOffset)) ((num b jOffset - num b uOffset) * recSize)) ≡ true
 
 pub raw-parts : (b : List ℕ) → rawOk b ≡ true → RawParts b
 unfolding rawOk
 raw-parts b e =
-    let rest = allZero (part b (slotPlace (sizesOf b) (num b bPlace)) ((num b sPlace - num b bPlace) * slotSize)) in
-    let last = allZero (part b (recPlace (sizesOf b) (num b uPlace)) ((num b jPlace - num b uPlace) * recSize)) in
-    let c₁ = leb (num b bPlace) (num b sPlace) in
-    let c₂ = c₁ && leb (num b uPlace) (num b jPlace) in
-    let c₃ = c₂ && eqb (num b zeroPlace) 0 in
-    let c₄ = c₃ && all (stateOk b) (upFrom 0 (num b nPlace)) in
-    let c₅ = c₄ && all (secondOk b) (upFrom 0 (num b bPlace)) in
+    let rest = allZero (part b (slotOffset (sizesOf b) (num b bOffset)) ((num b sOffset - num b bOffset) * slotSize)) in
+    let last = allZero (part b (recOffset (sizesOf b) (num b uOffset)) ((num b jOffset - num b uOffset) * recSize)) in
+    let c₁ = leb (num b bOffset) (num b sOffset) in
+    let c₂ = c₁ && leb (num b uOffset) (num b jOffset) in
+    let c₃ = c₂ && eqb (num b zeroOffset) 0 in
+    let c₄ = c₃ && all (stateOk b) (upFrom 0 (num b nOffset)) in
+    let c₅ = c₄ && all (secondOk b) (upFrom 0 (num b bOffset)) in
     let t₇ = and-true (c₅ && rest) last e in
     let t₆ = and-true c₅ rest (t₇ .0) in
-    let t₅ = and-true c₄ (all (secondOk b) (upFrom 0 (num b bPlace))) (t₆ .0) in
-    let t₄ = and-true c₃ (all (stateOk b) (upFrom 0 (num b nPlace))) (t₅ .0) in
-    let t₃ = and-true c₂ (eqb (num b zeroPlace) 0) (t₄ .0) in
-    let t₂ = and-true c₁ (leb (num b uPlace) (num b jPlace)) (t₃ .0) in
+    let t₅ = and-true c₄ (all (secondOk b) (upFrom 0 (num b bOffset))) (t₆ .0) in
+    let t₄ = and-true c₃ (all (stateOk b) (upFrom 0 (num b nOffset))) (t₅ .0) in
+    let t₃ = and-true c₂ (eqb (num b zeroOffset) 0) (t₄ .0) in
+    let t₂ = and-true c₁ (leb (num b uOffset) (num b jOffset)) (t₃ .0) in
     record {
-      slots = leb-true (num b bPlace) (num b sPlace) (t₂ .0);
-      records = leb-true (num b uPlace) (num b jPlace) (t₂ .1);
-      spare = eqb-true (num b zeroPlace) 0 (t₃ .1);
+      slots = leb-true (num b bOffset) (num b sOffset) (t₂ .0);
+      records = leb-true (num b uOffset) (num b jOffset) (t₂ .1);
+      spare = eqb-true (num b zeroOffset) 0 (t₃ .1);
       states = t₄ .1;
       seconds = t₅ .1;
       restSlots = t₆ .1;
@@ -91,4 +91,4 @@ raw-parts b e =
 pub parts-raw : (b : List ℕ) → RawParts b → rawOk b ≡ true
 unfolding rawOk
 parts-raw b p =
-    rw (le-leb (num b bPlace) (num b sPlace) (p .slots), le-leb (num b uPlace) (num b jPlace) (p .records), eq-eqb (num b zeroPlace) 0 (p .spare), p .states, p .seconds, p .restSlots) (p .restRecords)
+    rw (le-leb (num b bOffset) (num b sOffset) (p .slots), le-leb (num b uOffset) (num b jOffset) (p .records), eq-eqb (num b zeroOffset) 0 (p .spare), p .states, p .seconds, p .restSlots) (p .restRecords)

@@ -12,7 +12,7 @@ use Rattle.words.specs.Lists.{allZero}
 use Rattle.words.specs.Numbers.{num}
 use Rattle.words.specs.Sections.{part}
 use Rattle.book.specs.Book.{Book, Sized}
-use Rattle.book.specs.Layout.{layoutNumber, headerSize, nPlace, sPlace, jPlace, bPlace, uPlace, entryPlace, slotSize, slotPlace, recSize, recPlace, bookSize, bytes, sizesOf, bookOf, Holds}
+use Rattle.book.specs.Layout.{layoutNumber, headerSize, nOffset, sOffset, jOffset, bOffset, uOffset, entryOffset, slotSize, slotOffset, recSize, recOffset, bookSize, bytes, sizesOf, bookOf, Holds}
 use Rattle.book.specs.Form.{sizesOk, layoutOk, stateOk, secondOk, bookOk, formNumber}
 use Rattle.book.proofs.SizesIn.{sizes-in}
 use Rattle.book.specs.Formed.{Laid}
@@ -23,7 +23,7 @@ use Rattle.book.proofs.Shape.{Shape}
 use Rattle.book.proofs.Shaped.{shape-bytes}
 use Rattle.book.proofs.Holding.{holds-shape, bounds-in}
 
--- ---- zero bytes, as one test and place by place
+-- ---- zero bytes, as one test and offset by offset
 
 zero-byte : (b : List ℕ) (o m : ℕ) → o + m ≤ length b → allZero (part b o m) ≡ true → (i : ℕ) → o ≤ i → i < o + m → getD b i 0 ≡ 0
 zero-byte b o m h e i lo hi =
@@ -47,10 +47,10 @@ shape-parts b l r =
       spare = r .spare;
       slots = slots;
       records = records;
-      states = λ p h. leb-true (getD b (entryPlace p + 1) 0) 1 (each-at (stateOk b) 0 (num b nPlace) (sym (all-each (stateOk b) (num b nPlace)) ∙ r .states) p (omega arith) h);
-      seconds = λ q h. eqb-true (getD b (slotPlace (sizesOf b) q + 1) 0) 0 (each-at (secondOk b) 0 (num b bPlace) (sym (all-each (secondOk b) (num b bPlace)) ∙ r .seconds) q (omega arith) h);
-      freeSlots = λ i lo hi. zero-byte b (slotPlace (sizesOf b) (num b bPlace)) ((num b sPlace - num b bPlace) * slotSize) (omega arith) (r .restSlots) i lo (omega arith);
-      freeRecords = λ i lo hi. zero-byte b (recPlace (sizesOf b) (num b uPlace)) ((num b jPlace - num b uPlace) * recSize) (omega arith) (r .restRecords) i lo (omega arith);
+      states = λ p h. leb-true (getD b (entryOffset p + 1) 0) 1 (each-at (stateOk b) 0 (num b nOffset) (sym (all-each (stateOk b) (num b nOffset)) ∙ r .states) p (omega arith) h);
+      seconds = λ q h. eqb-true (getD b (slotOffset (sizesOf b) q + 1) 0) 0 (each-at (secondOk b) 0 (num b bOffset) (sym (all-each (secondOk b) (num b bOffset)) ∙ r .seconds) q (omega arith) h);
+      freeSlots = λ i lo hi. zero-byte b (slotOffset (sizesOf b) (num b bOffset)) ((num b sOffset - num b bOffset) * slotSize) (omega arith) (r .restSlots) i lo (omega arith);
+      freeRecords = λ i lo hi. zero-byte b (recOffset (sizesOf b) (num b uOffset)) ((num b jOffset - num b uOffset) * recSize) (omega arith) (r .restRecords) i lo (omega arith);
     }
 
 pub parts-shape : (b : List ℕ) → Shape b → RawParts b
@@ -63,10 +63,10 @@ parts-shape b h =
       slots = slots;
       records = records;
       spare = h .spare;
-      states = all-each (stateOk b) (num b nPlace) ∙ at-each (stateOk b) 0 (num b nPlace) (λ p _ l. le-leb (getD b (entryPlace p + 1) 0) 1 (h .states p l));
-      seconds = all-each (secondOk b) (num b bPlace) ∙ at-each (secondOk b) 0 (num b bPlace) (λ q _ l. eq-eqb (getD b (slotPlace (sizesOf b) q + 1) 0) 0 (h .seconds q l));
-      restSlots = byte-zero b (slotPlace (sizesOf b) (num b bPlace)) ((num b sPlace - num b bPlace) * slotSize) (omega arith) (λ i lo hi. h .freeSlots i lo (omega arith));
-      restRecords = byte-zero b (recPlace (sizesOf b) (num b uPlace)) ((num b jPlace - num b uPlace) * recSize) (omega arith) (λ i lo hi. h .freeRecords i lo (omega arith));
+      states = all-each (stateOk b) (num b nOffset) ∙ at-each (stateOk b) 0 (num b nOffset) (λ p _ l. le-leb (getD b (entryOffset p + 1) 0) 1 (h .states p l));
+      seconds = all-each (secondOk b) (num b bOffset) ∙ at-each (secondOk b) 0 (num b bOffset) (λ q _ l. eq-eqb (getD b (slotOffset (sizesOf b) q + 1) 0) 0 (h .seconds q l));
+      restSlots = byte-zero b (slotOffset (sizesOf b) (num b bOffset)) ((num b sOffset - num b bOffset) * slotSize) (omega arith) (λ i lo hi. h .freeSlots i lo (omega arith));
+      restRecords = byte-zero b (recOffset (sizesOf b) (num b uOffset)) ((num b jOffset - num b uOffset) * recSize) (omega arith) (λ i lo hi. h .freeRecords i lo (omega arith));
     }
 
 layout-shape : (b : List ℕ) → Shape b → sizesOk (sizesOf b) ≡ true → layoutOk b ≡ true

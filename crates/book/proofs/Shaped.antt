@@ -6,7 +6,7 @@ use Prim.Native.Nat.{ℕ, _+_, _-_, _≤_, _<_, _/_, _%_}
 use native.Mathlib.Omega.{arith}
 use lib.ListN.{length, getD, getD-replicate, List·getD-eq-default}
 use Rattle.book.specs.Book.{Sizes, Slot, Rec, Book, noSlot, noRec, entryAt, slotAt, recAt, Sized}
-use Rattle.book.specs.Layout.{slotSize, recSize, entryPlace, slotsFrom, slotPlace, recordsFrom, recPlace, bookSize, stateByte, slotBytes, recBytes, bytes}
+use Rattle.book.specs.Layout.{slotSize, recSize, entryOffset, slotsFrom, slotOffset, recordsFrom, recOffset, bookSize, stateByte, slotBytes, recBytes, bytes}
 use Rattle.book.proofs.Bytes.{length-bytes, get-entry, get-slot, get-rec}
 use Rattle.book.proofs.Laws.{num-layout, num-n, num-l, num-s, num-j, num-b, num-u, num-zero}
 use Rattle.book.proofs.Shape.{Shape}
@@ -20,7 +20,7 @@ module _ (x : Book) (s : Sized x) where
   abbrev z : Sizes
   z = x .sizes
 
-  free-slots : (i : ℕ) → slotPlace z (length (x .slots)) ≤ i → i < recordsFrom z → getD (bytes x) i 0 ≡ 0
+  free-slots : (i : ℕ) → slotOffset z (length (x .slots)) ≤ i → i < recordsFrom z → getD (bytes x) i 0 ≡ 0
   free-slots i h k =
       let q = (i - slotsFrom z) / slotSize in
       let j = (i - slotsFrom z) % slotSize in
@@ -30,7 +30,7 @@ module _ (x : Book) (s : Sized x) where
       ∙ ap (λ (l : List ℕ). getD l j 0) slot-zero
       ∙ getD-replicate slotSize j 0 0 (omega arith)
 
-  free-records : (i : ℕ) → recPlace z (length (x .records)) ≤ i → i < bookSize z → getD (bytes x) i 0 ≡ 0
+  free-records : (i : ℕ) → recOffset z (length (x .records)) ≤ i → i < bookSize z → getD (bytes x) i 0 ≡ 0
   free-records i h k =
       let q = (i - recordsFrom z) / recSize in
       let j = (i - recordsFrom z) % recSize in
@@ -48,8 +48,8 @@ module _ (x : Book) (s : Sized x) where
         spare = num-zero x;
         slots = rw (num-b x, num-s x) (s .slots);
         records = rw (num-u x, num-j x) (s .records);
-        states = λ p. rw (num-n x) (λ hp. rw (get-entry x p 1 (entryPlace p + 1) hp (omega arith) refl) (state-small (entryAt (x .entries) p .held)));
-        seconds = λ q. rw (num-n x, num-l x, num-b x) (λ hq. get-slot x q 1 (slotPlace z q + 1) (omega (arith, s .slots)) (omega arith) refl);
+        states = λ p. rw (num-n x) (λ hp. rw (get-entry x p 1 (entryOffset p + 1) hp (omega arith) refl) (state-small (entryAt (x .entries) p .held)));
+        seconds = λ q. rw (num-n x, num-l x, num-b x) (λ hq. get-slot x q 1 (slotOffset z q + 1) (omega (arith, s .slots)) (omega arith) refl);
         freeSlots = λ i. rw (num-n x, num-l x, num-s x, num-b x) (free-slots i);
         freeRecords = λ i. rw (num-n x, num-l x, num-s x, num-j x, num-u x) (free-records i);
       }

@@ -12,7 +12,7 @@ use Rattle.words.specs.Numbers.{two}
 use Rattle.words.proofs.SectionLaws.{start, sets-joined, sets-sect, sets-end, inside}
 use Rattle.words.specs.Sections.{flat, fit}
 use Rattle.book.specs.Book.{volumes, Entry, Slot, Rec, Book, freeEntry, noSlot, noRec, entryAt}
-use Rattle.book.specs.Layout.{headerSize, entrySize, slotSize, recSize, bPlace, uPlace, dayPlace, cursorPlace, retentionPlace, entriesFrom, entryPlace, mapsFrom, cellPlace, slotsFrom, slotPlace, recordsFrom, recPlace, entryBytes, mapBytes, slotBytes, recBytes, headerWords, sections, bytes}
+use Rattle.book.specs.Layout.{headerSize, entrySize, slotSize, recSize, bOffset, uOffset, dayOffset, cursorOffset, retentionOffset, entriesFrom, entryOffset, mapsFrom, cellOffset, slotsFrom, slotOffset, recordsFrom, recOffset, entryBytes, mapBytes, slotBytes, recBytes, headerWords, sections, bytes}
 use Rattle.book.specs.Next.{withDay, withCursor, withRetention, withEntries, withMaps, withSlot, withRecord, withCell}
 use Rattle.book.proofs.Bytes.{two-size, entry-size, map-size, slot-size, rec-size, retentions-long, entries-long, maps-long, slots-long, records-long, start-entries, start-maps, start-slots, start-records}
 
@@ -25,19 +25,19 @@ module _ (x : Book) where
 
   -- ---- the header and the retentions
 
-  pub set-day : (d : ℕ) → sets (bytes x) dayPlace (two d) ≡ bytes (withDay d x)
+  pub set-day : (d : ℕ) → sets (bytes x) dayOffset (two d) ≡ bytes (withDay d x)
   unfolding bytes withDay
-  set-day d = set-in 0 0 headerSize dayPlace dayPlace (two d) (omega arith) refl refl (omega arith) (omega arith)
+  set-day d = set-in 0 0 headerSize dayOffset dayOffset (two d) (omega arith) refl refl (omega arith) (omega arith)
 
-  pub set-cursor : (k : ℕ) → sets (bytes x) cursorPlace (two k) ≡ bytes (withCursor k x)
+  pub set-cursor : (k : ℕ) → sets (bytes x) cursorOffset (two k) ≡ bytes (withCursor k x)
   unfolding bytes withCursor
-  set-cursor k = set-in 0 0 headerSize cursorPlace cursorPlace (two k) (omega arith) refl refl (omega arith) (omega arith)
+  set-cursor k = set-in 0 0 headerSize cursorOffset cursorOffset (two k) (omega arith) refl refl (omega arith) (omega arith)
 
   pub set-retention : (v r : ℕ) → v < volumes → length (x .retentions) ≡ volumes
-      → sets (bytes x) (retentionPlace v) (two r) ≡ bytes (withRetention v r x)
+      → sets (bytes x) (retentionOffset v) (two r) ≡ bytes (withRetention v r x)
   unfolding bytes withRetention
   set-retention v r hv hs =
-      set-in 1 headerSize (volumes * 2) (v * 2 + 0) (retentionPlace v) (two r) (omega arith) refl (retentions-long x) (omega arith) (omega arith)
+      set-in 1 headerSize (volumes * 2) (v * 2 + 0) (retentionOffset v) (two r) (omega arith) refl (retentions-long x) (omega arith) (omega arith)
       ∙ ap (λ (s : List ℕ). joined (set (sections x) 1 s))
       (sets-sect 2 two two-size 0 volumes (x .retentions) v 0 (two r) r hv (omega arith) (omega arith) refl)
 
@@ -45,7 +45,7 @@ module _ (x : Book) where
 
   -- a store within entry p that makes it y
   pub set-entry : (p j i : ℕ) (vs : List ℕ) (y : Entry) → p < x .sizes .n → length (x .entries) ≡ x .sizes .n → j + length vs ≤ entrySize
-      → i ≡ entryPlace p + j → sets (entryBytes (entryAt (x .entries) p)) j vs ≡ entryBytes y → sets (bytes x) i vs ≡ bytes (withEntries (set (x .entries) p y) x)
+      → i ≡ entryOffset p + j → sets (entryBytes (entryAt (x .entries) p)) j vs ≡ entryBytes y → sets (bytes x) i vs ≡ bytes (withEntries (set (x .entries) p y) x)
   unfolding bytes withEntries
   set-entry p j i vs y hp hs hj e q =
       set-in 2 entriesFrom (x .sizes .n * entrySize) (p * entrySize + j) i vs (omega arith) (start-entries x) (entries-long x) (omega arith) (omega arith)
@@ -55,7 +55,7 @@ module _ (x : Book) where
   -- ---- maps
 
   pub set-cell : (v l p i : ℕ) → v < volumes → l < x .sizes .l → length (x .maps) ≡ volumes → length (getD (x .maps) v []) ≡ x .sizes .l
-      → i ≡ cellPlace (x .sizes) v l → sets (bytes x) i (two p) ≡ bytes (withCell v l p x)
+      → i ≡ cellOffset (x .sizes) v l → sets (bytes x) i (two p) ≡ bytes (withCell v l p x)
   unfolding bytes withMaps
   set-cell v l p i hv hl hm hr e =
       let w = x .sizes .l * 2 in
@@ -71,8 +71,8 @@ module _ (x : Book) where
 
   -- ---- the next slot with B, the next record with U
 
-  pub add-slot : (t : Slot) (i b : ℕ) → length (x .slots) < x .sizes .s → i ≡ slotPlace (x .sizes) (length (x .slots))
-      → b ≡ length (x .slots) + 1 → sets (sets (bytes x) i (slotBytes t)) bPlace (two b) ≡ bytes (withSlot t x)
+  pub add-slot : (t : Slot) (i b : ℕ) → length (x .slots) < x .sizes .s → i ≡ slotOffset (x .sizes) (length (x .slots))
+      → b ≡ length (x .slots) + 1 → sets (sets (bytes x) i (slotBytes t)) bOffset (two b) ≡ bytes (withSlot t x)
   unfolding bytes withSlot
   add-slot t i b h e eb =
       let ts : List ℕ = flat slotBytes (fit noSlot (x .sizes .s) (x .slots ++ t ∷ [])) in
@@ -83,12 +83,12 @@ module _ (x : Book) where
       ∙ ap (λ (s : List ℕ). joined (set (sections x) 4 s))
       (sets-end slotSize slotBytes slot-size noSlot (x .sizes .s) (x .slots) (slotBytes t) t h (omega arith) refl)
       in
-      ap (λ (b₁ : List ℕ). sets b₁ bPlace (two b)) here
-      ∙ sets-joined (set (sections x) 4 ts) 0 bPlace (two b) (omega arith) (omega arith)
-      ∙ ap (λ (k : ℕ). joined (set (set (sections x) 4 ts) 0 (sets (flat two (headerWords x)) bPlace (two k)))) eb′
+      ap (λ (b₁ : List ℕ). sets b₁ bOffset (two b)) here
+      ∙ sets-joined (set (sections x) 4 ts) 0 bOffset (two b) (omega arith) (omega arith)
+      ∙ ap (λ (k : ℕ). joined (set (set (sections x) 4 ts) 0 (sets (flat two (headerWords x)) bOffset (two k)))) eb′
 
-  pub add-record : (r : Rec) (i u : ℕ) → length (x .records) < x .sizes .j → i ≡ recPlace (x .sizes) (length (x .records))
-      → u ≡ length (x .records) + 1 → sets (sets (bytes x) i (recBytes r)) uPlace (two u) ≡ bytes (withRecord r x)
+  pub add-record : (r : Rec) (i u : ℕ) → length (x .records) < x .sizes .j → i ≡ recOffset (x .sizes) (length (x .records))
+      → u ≡ length (x .records) + 1 → sets (sets (bytes x) i (recBytes r)) uOffset (two u) ≡ bytes (withRecord r x)
   unfolding bytes withRecord
   add-record r i u h e eu =
       let rs : List ℕ = flat recBytes (fit noRec (x .sizes .j) (x .records ++ r ∷ [])) in
@@ -99,6 +99,6 @@ module _ (x : Book) where
       ∙ ap (λ (s : List ℕ). joined (set (sections x) 5 s))
       (sets-end recSize recBytes rec-size noRec (x .sizes .j) (x .records) (recBytes r) r h (omega arith) refl)
       in
-      ap (λ (b₁ : List ℕ). sets b₁ uPlace (two u)) here
-      ∙ sets-joined (set (sections x) 5 rs) 0 uPlace (two u) (omega arith) (omega arith)
-      ∙ ap (λ (k : ℕ). joined (set (set (sections x) 5 rs) 0 (sets (flat two (headerWords x)) uPlace (two k)))) eu′
+      ap (λ (b₁ : List ℕ). sets b₁ uOffset (two u)) here
+      ∙ sets-joined (set (sections x) 5 rs) 0 uOffset (two u) (omega arith) (omega arith)
+      ∙ ap (λ (k : ℕ). joined (set (set (sections x) 5 rs) 0 (sets (flat two (headerWords x)) uOffset (two k)))) eu′

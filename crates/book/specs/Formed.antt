@@ -20,7 +20,7 @@ pub record SizesIn (z : Sizes) : Type 0 where
   pub j₀ : 1 ≤ z .j
   pub j : z .j ≤ 16384
 
--- "N pool blocks, 1 to 4,096" and so on: the upper bounds alone, which keep every place below 2¹⁸
+-- "N pool blocks, 1 to 4,096" and so on: the upper bounds alone, which keep every offset below 2¹⁸
 pub record Bounds (z : Sizes) : Type 0 where
   pub n : z .n ≤ 4096
   pub l : z .l ≤ 1024

@@ -1,7 +1,7 @@
 // Book and pool as a call is lent them: numbers 1 to 3, which read and backup check first.
 ghost use mathlib.Core.Path.{_≡_};
 ghost use Rattle.buffers.specs.Buffers.{buffersNumber};
-use book::header;
+use fields::header;
 use form::form_number;
 use words::BLOCK_SIZE;
 use words::refusals;

@@ -1,4 +1,4 @@
--- Laws of a list of calls that is read from an offset on: its end, its next call, and what a call in it is.
+-- A list of calls that is read from an offset on: its calls, and that they are calls to the end. Its laws are in proofs/ReadingLaws.antt.
 use Prim.Native.Nat.{ℕ}
 use mathlib.Core.Path.{_≡_}
 use mathlib.Core.List.{List, []}

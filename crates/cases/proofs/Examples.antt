@@ -5,7 +5,7 @@ use mathlib.Core.Bool.{true, false, not}
 use mathlib.Core.List.{List, [], _∷_, _++_, map}
 use native.Mathlib.Omega.{arith}
 use lib.ListN.{getD, take, drop, replicate}
-use Rattle.list.specs.Changes.{changeCount}
+use Rattle.runs.specs.Changes.{changeCount}
 use Rattle.book.specs.Book.{isFree}
 use Rattle.book.specs.Layout.{bytes}
 use Rattle.book.specs.Next.{fresh}

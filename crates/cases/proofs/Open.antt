@@ -1,6 +1,6 @@
 -- One name that opens every definition of the model, for proofs by computation: `unfolding model`.
 use Prim.Native.Nat.{ℕ}
-use Rattle.list.specs.Changes
+use Rattle.runs.specs.Changes
 use Rattle.book.specs.Book
 use Rattle.book.specs.Layout
 use Rattle.book.specs.Form

@@ -4,7 +4,7 @@ use mathlib.Core.Path.{_≡_, refl}
 use mathlib.Core.List.{List, [], _∷_, _++_, map}
 use lib.ListN.{take, drop, replicate}
 use Rattle.words.specs.Numbers.{two, put}
-use Rattle.book.specs.Layout.{bytes, bPlace, zeroPlace}
+use Rattle.book.specs.Layout.{bytes, bOffset, zeroOffset}
 use Rattle.book.specs.Next.{fresh}
 use Rattle.model.specs.OnBytes.{numberOf, formatBytes, enrolBytes, backupBytes, collectBytes, readNumberBytes, readPlaceBytes, auditBytes}
 use Rattle.model.specs.Calls.{Call, enrol, backup, collect, read, Answer, number, backed, freed}
@@ -86,10 +86,10 @@ unfoldable pub short : List ℕ
 short = drop 1 good
 
 unfoldable pub odd : List ℕ
-odd = put good zeroPlace 1
+odd = put good zeroOffset 1
 
 unfoldable pub more : List ℕ
-more = put good bPlace 5
+more = put good bOffset 5
 
 abbrev pub pool : List ℕ
 pool = replicate 1024 0

@@ -3,7 +3,7 @@ ghost use mathlib.Core.Path.{_≡_};
 ghost use Rattle.book.specs.Layout.{told, Holds};
 ghost use Rattle.model.specs.Enrol.{enrolNumber};
 ghost use Rattle.engine.specs.Contracts.{Enrolled};
-use book::header;
+use fields::header;
 use form::form_number;
 use words::limits::LAST_VOLUME;
 use words::limits::MAX_RETENTION;

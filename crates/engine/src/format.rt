@@ -1,8 +1,8 @@
 // Format: a fresh book.
 ghost use Rattle.engine.specs.Contracts.{Formatted};
-use book::fresh;
-use book::sizes::size;
-use book::sizes::sizes_ok;
+use fields::fresh;
+use fields::sizes::size;
+use fields::sizes::sizes_ok;
 use words::refusals;
 
 #[no_mangle]

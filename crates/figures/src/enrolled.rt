@@ -2,7 +2,7 @@
 // enrolled.
 ghost use mathlib.Core.Path.{_≡_};
 ghost use Rattle.model.specs.Views.{enrolledNumber};
-use book::header;
+use fields::header;
 use form::form_number;
 use words::limits::LAST_VOLUME;
 use words::refusals;

@@ -1,6 +1,6 @@
 // The sizes of a book, and how much of it is used.
 ghost use Rattle.figures.specs.Contracts.{SizesTold, UsedTold};
-use book::header;
+use fields::header;
 use form::form_number;
 
 // Pool blocks, logical blocks of a volume, backup slots and journal slots.

@@ -5,8 +5,8 @@ ghost use Rattle.book.specs.Layout.{told, Holds};
 ghost use Rattle.model.specs.Journal.{backups};
 ghost use Rattle.figures.specs.Contracts.{VolumeTold};
 use super::enrolled::enrolled_number;
-use book::header;
-use book::slot;
+use fields::header;
+use journal::slot;
 
 pub fn count_backups(book: &[u8], v: u16) -> u16
     requires { ⌜ Holds (now book) ⌝ }

@@ -8,23 +8,23 @@ ghost use Rattle.book.specs.Form.{layoutOk, formNumber};
 ghost use Rattle.book.specs.Formed.{Laid};
 ghost use Rattle.form.specs.Passes.{blocksOk, slotsOk, journalOk};
 ghost use Rattle.sections.specs.Checks.{headOk, HeadIn};
-use book::header::B_PLACE;
-use book::header::CURSOR_PLACE;
-use book::header::DAY_PLACE;
-use book::header::HEADER_SIZE;
-use book::header::J_PLACE;
-use book::header::L_PLACE;
-use book::header::N_PLACE;
-use book::header::S_PLACE;
-use book::header::U_PLACE;
-use book::header::ZERO_PLACE;
-use book::place::ENTRIES_FROM;
-use book::place::ENTRY_SIZE;
-use book::place::REC_SIZE;
-use book::place::SLOT_SIZE;
-use book::place::VOLUMES;
-use book::sizes::size;
-use book::sizes::sizes_ok;
+use fields::header::B_OFFSET;
+use fields::header::CURSOR_OFFSET;
+use fields::header::DAY_OFFSET;
+use fields::header::HEADER_SIZE;
+use fields::header::J_OFFSET;
+use fields::header::L_OFFSET;
+use fields::header::N_OFFSET;
+use fields::header::S_OFFSET;
+use fields::header::U_OFFSET;
+use fields::header::ZERO_OFFSET;
+use fields::offsets::ENTRIES_FROM;
+use fields::offsets::ENTRY_SIZE;
+use fields::offsets::REC_SIZE;
+use fields::offsets::SLOT_SIZE;
+use fields::offsets::VOLUMES;
+use fields::sizes::size;
+use fields::sizes::sizes_ok;
 use sections::blocks::entries_ok;
 use sections::blocks::maps_ok;
 use sections::blocks::retentions_ok;
@@ -41,10 +41,10 @@ fn layout_ok(b: &[u8]) -> bool
     if b.len() < HEADER_SIZE {
         return false;
     }
-    let n = u16_at(b, N_PLACE);
-    let l = u16_at(b, L_PLACE);
-    let s = u16_at(b, S_PLACE);
-    let j = u16_at(b, J_PLACE);
+    let n = u16_at(b, N_OFFSET);
+    let l = u16_at(b, L_OFFSET);
+    let s = u16_at(b, S_OFFSET);
+    let j = u16_at(b, J_OFFSET);
     (u16_at(b, 0) == 1) & sizes_ok(n, l, s, j) & (b.len() == size(n, l, s, j))
 }
 
@@ -53,11 +53,11 @@ fn head_ok(b: &[u8]) -> bool
     requires { ⌜ headerSize ≤ length (now b) ⌝ }
     ensures { λ r. ⌜ r ≡ headOk (now (b .entry)) ⌝ }
 {
-    let slots = u16_at(b, B_PLACE) <= u16_at(b, S_PLACE);
-    let records = u16_at(b, U_PLACE) <= u16_at(b, J_PLACE);
-    let day = u16_at(b, DAY_PLACE) <= MAX_DAY;
-    let cursor = u16_at(b, CURSOR_PLACE) < u16_at(b, N_PLACE);
-    slots & records & day & cursor & (u16_at(b, ZERO_PLACE) == 0)
+    let slots = u16_at(b, B_OFFSET) <= u16_at(b, S_OFFSET);
+    let records = u16_at(b, U_OFFSET) <= u16_at(b, J_OFFSET);
+    let day = u16_at(b, DAY_OFFSET) <= MAX_DAY;
+    let cursor = u16_at(b, CURSOR_OFFSET) < u16_at(b, N_OFFSET);
+    slots & records & day & cursor & (u16_at(b, ZERO_OFFSET) == 0)
 }
 
 // Retentions, block entries and maps.
@@ -65,8 +65,8 @@ fn blocks_ok(b: &[u8]) -> bool
     requires { ⌜ Laid (now b) ⌝ }
     ensures { λ r. ⌜ r ≡ blocksOk (now (b .entry)) ⌝ }
 {
-    let n = u16_at(b, N_PLACE);
-    let cells = VOLUMES * (u16_at(b, L_PLACE) as usize);
+    let n = u16_at(b, N_OFFSET);
+    let cells = VOLUMES * (u16_at(b, L_OFFSET) as usize);
     retentions_ok(b)
         & entries_ok(b, n as usize)
         & maps_ok(b, ENTRIES_FROM + n as usize * ENTRY_SIZE, cells, n)
@@ -77,8 +77,8 @@ fn slots_from(b: &[u8]) -> usize
     ensures { λ r. ⌜ r ≡ slotsFrom (sizesOf (now (b .entry))) ⌝ }
 {
     ENTRIES_FROM
-        + u16_at(b, N_PLACE) as usize * ENTRY_SIZE
-        + VOLUMES * (u16_at(b, L_PLACE) as usize * 2)
+        + u16_at(b, N_OFFSET) as usize * ENTRY_SIZE
+        + VOLUMES * (u16_at(b, L_OFFSET) as usize * 2)
 }
 
 fn slots_ok(b: &[u8]) -> bool
@@ -87,10 +87,10 @@ fn slots_ok(b: &[u8]) -> bool
     ensures { λ r. ⌜ r ≡ slotsOk (now (b .entry)) ⌝ }
 {
     let from = slots_from(b);
-    let used = u16_at(b, B_PLACE) as usize;
-    let records = u16_at(b, U_PLACE) as usize;
-    let end = from + u16_at(b, S_PLACE) as usize * SLOT_SIZE;
-    used_slots_ok(b, from, used, records, u16_at(b, DAY_PLACE))
+    let used = u16_at(b, B_OFFSET) as usize;
+    let records = u16_at(b, U_OFFSET) as usize;
+    let end = from + u16_at(b, S_OFFSET) as usize * SLOT_SIZE;
+    used_slots_ok(b, from, used, records, u16_at(b, DAY_OFFSET))
         & zeros(b, from + used * SLOT_SIZE, end)
 }
 
@@ -99,9 +99,9 @@ fn journal_ok(b: &[u8]) -> bool
     requires { ⌜ HeadIn (now b) ⌝ }
     ensures { λ r. ⌜ r ≡ journalOk (now (b .entry)) ⌝ }
 {
-    let from = slots_from(b) + u16_at(b, S_PLACE) as usize * SLOT_SIZE;
-    let used = u16_at(b, U_PLACE) as usize;
-    used_records_ok(b, from, used, u16_at(b, N_PLACE), u16_at(b, L_PLACE))
+    let from = slots_from(b) + u16_at(b, S_OFFSET) as usize * SLOT_SIZE;
+    let used = u16_at(b, U_OFFSET) as usize;
+    used_records_ok(b, from, used, u16_at(b, N_OFFSET), u16_at(b, L_OFFSET))
         & zeros(b, from + used * REC_SIZE, b.len())
 }
 

@@ -9,7 +9,7 @@ ghost use Rattle.book.specs.Layout.{told, Holds, Is};
 ghost use Rattle.book.specs.Next.{heldAs, withEntry};
 ghost use Rattle.index.specs.Indexed.{Indexed};
 use super::bucket::bucket_of;
-use book::entry;
+use entries::entry;
 use words::PBN;
 use words::limits::Table;
 

@@ -12,7 +12,7 @@ use Rattle.words.specs.Blocks.{blockSize}
 use Rattle.words.specs.Choice.{if_then_else_}
 use Rattle.words.specs.Lists.{those, lastOf}
 use Rattle.words.specs.Outcome.{Outcome, refused, accepted, andThen, unless}
-use Rattle.list.specs.Changes.{changeCount, changes, listNumber}
+use Rattle.runs.specs.Changes.{changeCount, changes, listNumber}
 use Rattle.book.specs.Book.{Book, retentionOf}
 use Rattle.book.specs.Layout.{bookOf}
 use Rattle.book.specs.Form.{formNumber}

@@ -9,7 +9,7 @@ use lib.Dec.{eqb}
 use lib.ListN.{length, getD}
 use borrow.Author.Tests.{eqb-true, eqb-false, ne-eqb}
 use Rattle.words.specs.Choice.{if_then_else_}
-use Rattle.list.specs.Changes.{changeAt}
+use Rattle.runs.specs.Changes.{changeAt}
 use Rattle.book.specs.Book.{Entry, entryAt}
 use Rattle.model.specs.Pool.{poolSize, blockAt, withBlock}
 use Rattle.model.proofs.agreement.BlockLaws.{length-with}

@@ -9,7 +9,7 @@ use denote.Ref.{now}
 use Rattle.words.specs.Choice.{if_then_else_}
 use Rattle.words.specs.Lent.{Lent}
 use Rattle.words.specs.Outcome.{Outcome, refused, accepted, andThen}
-use Rattle.list.specs.Changes.{changeCount, changes}
+use Rattle.runs.specs.Changes.{changeCount, changes}
 use Rattle.book.specs.Book.{volumes, Book, retentionOf}
 use Rattle.book.specs.Layout.{bookOf}
 use Rattle.book.specs.Formed.{Formed}

@@ -6,7 +6,7 @@ use lib.ListN.{length}
 use denote.Ref.{now}
 use Rattle.words.specs.Lent.{Lent}
 use Rattle.words.specs.Outcome.{refused, accepted}
-use Rattle.list.specs.Changes.{changeCount, changes}
+use Rattle.runs.specs.Changes.{changeCount, changes}
 use Rattle.book.specs.Book.{Book}
 use Rattle.book.specs.Layout.{told, Is}
 use Rattle.book.specs.Next.{withDay, withSlot}

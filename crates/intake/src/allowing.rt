@@ -5,8 +5,8 @@ ghost use Rattle.intake.specs.Allowing.{lentNumber, dayRefused, roomNumb
 ghost use Rattle.intake.specs.Backups.{BackupsAre};
 use super::slots::Backups;
 use super::slots::backups_of;
-use book::header;
 use buffers::buffers_number;
+use fields::header;
 use list::Checked;
 use list::Shape;
 use words::limits::LAST_VOLUME;

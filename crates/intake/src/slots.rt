@@ -1,8 +1,8 @@
 // The backups of a volume, by the used slots.
 ghost use Rattle.book.specs.Layout.{told, Holds};
 ghost use Rattle.intake.specs.Backups.{BackupsAre};
-use book::header;
-use book::slot;
+use fields::header;
+use journal::slot;
 
 // How many backups a volume has, and the day of the last one, 0 where there is none.
 pub struct Backups {

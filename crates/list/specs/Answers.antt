@@ -7,7 +7,7 @@ use mathlib.Core.Bool.{Bool, not, _&&_}
 use lib.Dec.{leb, eqb}
 use Rattle.words.specs.Choice.{if_then_else_}
 use Rattle.words.specs.Lists.{sum}
-use Rattle.list.specs.Changes.{pairSize, lengths, pairAt, pairs, pairCount, changeCount, pairsFit, listNumber}
+use Rattle.runs.specs.Changes.{pairSize, lengths, pairAt, pairs, pairCount, changeCount, pairsFit, listNumber}
 use Rattle.words.specs.Blocks.{blockSize, printSize}
 use Rattle.list.specs.declared.Shape.{Shape}
 use Rattle.list.specs.declared.Cursor.{Cursor}

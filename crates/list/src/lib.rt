@@ -3,7 +3,7 @@ ghost use mathlib.Core.Path.{_≡_};
 ghost use Prim.Native.Nat.{_+_, _*_, _≤_, _<_};
 ghost use lib.ListN.{length};
 ghost use Rattle.words.specs.Sections.{part};
-ghost use Rattle.list.specs.Changes.{pairCount, changeAt, pairSize, printsFrom};
+ghost use Rattle.runs.specs.Changes.{pairCount, changeAt, pairSize, printsFrom};
 ghost use Rattle.words.specs.Blocks.{printSize};
 ghost use Rattle.list.specs.Answers.{pairFits, countedOf, checkedOf, Whole, indexOf, Valid, StandsAt};
 use words::BLOCK_SIZE;

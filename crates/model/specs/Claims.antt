@@ -11,7 +11,7 @@ use Rattle.words.specs.Blocks.{unmapped}
 use Rattle.words.specs.Choice.{if_then_else_}
 use Rattle.words.specs.Lists.{all, someOf, countOf, joined}
 use Rattle.words.specs.Outcome.{accepted}
-use Rattle.list.specs.Changes.{lbns, changeCount}
+use Rattle.runs.specs.Changes.{lbns, changeCount}
 use Rattle.book.specs.Book.{volumes, Sizes, Entry, Rec, Book, entryAt, isFree, cellAt, retentionOf}
 use Rattle.book.specs.Layout.{bookSize, bookOf}
 use Rattle.model.specs.Pool.{poolSize, blockAt}

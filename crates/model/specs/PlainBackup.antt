@@ -9,7 +9,7 @@ use Rattle.words.specs.Blocks.{unmapped}
 use Rattle.words.specs.Choice.{if_then_else_}
 use Rattle.words.specs.Lists.{countOf, placeFrom, orElse, joined, same, sum}
 use Rattle.words.specs.Outcome.{Outcome, refused, accepted, andThen, unless}
-use Rattle.list.specs.Changes.{Change, changes, changeCount, listNumber}
+use Rattle.runs.specs.Changes.{Change, changes, changeCount, listNumber}
 use Rattle.model.specs.Days.{badDay, notAfter}
 use Rattle.model.specs.Plain.{Block, free, held, Image, Volume, Plain, withDay, withBlocks, withVolume, volumeAt, isEnrolled, daysOf, current, currentMaps, isFree, bytesOf}
 

@@ -18,8 +18,8 @@ use Rattle.words.specs.Lists.{all}
 use Rattle.words.specs.Outcome.{refused, accepted}
 use Rattle.words.proofs.Places.{all-getD, all-set}
 use Rattle.words.specs.declared.PBN.{PBN}
-use Rattle.list.specs.Changes.{Change, changeCount, changeAt, changes}
-use Rattle.list.proofs.Laws.{length-changes, getD-changes}
+use Rattle.runs.specs.Changes.{Change, changeCount, changeAt, changes}
+use Rattle.runs.proofs.Laws.{length-changes, getD-changes}
 use Rattle.book.specs.Book.{Sizes, Book, entryAt, cellAt}
 use Rattle.book.specs.Form.{pbnOk}
 use Rattle.book.specs.Layout.{bookOf, told, Holds}

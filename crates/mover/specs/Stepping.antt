@@ -8,7 +8,7 @@ use denote.Ref.{now}
 use Rattle.words.specs.Blocks.{unmapped}
 use Rattle.words.specs.Lent.{Lent}
 use Rattle.words.specs.Outcome.{refused, accepted}
-use Rattle.list.specs.Changes.{changeCount, changeAt, changes}
+use Rattle.runs.specs.Changes.{changeCount, changeAt, changes}
 use Rattle.book.specs.Book.{entryAt, cellAt}
 use Rattle.book.specs.Layout.{told, Holds, Is}
 use Rattle.book.specs.Next.{withEntries}

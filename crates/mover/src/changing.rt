@@ -1,7 +1,7 @@
 // The changes of a list, one after another, on the working copy of the book.
 ghost use mathlib.Core.Path.{_≡_};
 ghost use Prim.Native.Nat.{_<_};
-ghost use Rattle.list.specs.Changes.{changeAt};
+ghost use Rattle.runs.specs.Changes.{changeAt};
 ghost use Rattle.book.specs.Book.{volumes};
 ghost use Rattle.book.specs.Layout.{told, Holds};
 ghost use Rattle.index.specs.Indexed.{Indexed};

@@ -19,7 +19,7 @@ pub fn count(
         return refusal;
     }
     let t = count_entries(book);
-    *blocks = book::header::blocks(book);
+    *blocks = fields::header::blocks(book);
     *held = t.held as u16;
     *waiting = t.waiting as u16;
     *references = t.references;

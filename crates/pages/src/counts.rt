@@ -2,8 +2,8 @@
 ghost use mathlib.Core.Path.{_≡_};
 ghost use Rattle.book.specs.Layout.{told, Holds};
 ghost use Rattle.pages.specs.Counts.{countsOf, counted, Few};
-use book::entry;
-use book::header;
+use entries::entry;
+use fields::header;
 use words::PBN;
 use words::wide;
 

@@ -49,6 +49,6 @@ pub fn tally(input: &[u8], page: &mut [u8; 64]) -> usize
     if number != 0 {
         return put_line(page, 0, b"refused", number);
     }
-    let n = book::header::blocks(input);
+    let n = fields::header::blocks(input);
     put_counts(page, n, count_entries(input))
 }

@@ -18,7 +18,7 @@ use Rattle.words.proofs.Pieces.{sized, part-sized, length-sized, all-pieces}
 use Rattle.words.proofs.Places.{all-upFrom}
 use Rattle.words.proofs.Runs.{below-or-not, length-upFrom, getD-upFrom}
 use Rattle.words.specs.Sections.{part, flat}
-use Rattle.list.specs.Changes.{changeAt}
+use Rattle.runs.specs.Changes.{changeAt}
 use Rattle.book.specs.Book.{Entry, entryAt}
 use Rattle.model.specs.Pool.{poolSize, blockAt, withBlock}
 use Rattle.model.proofs.agreement.BlockLaws.{length-with}

@@ -5,7 +5,7 @@ use mathlib.Core.List.{List}
 use denote.Ref.{now}
 use Rattle.words.specs.Lent.{Lent}
 use Rattle.words.specs.Outcome.{refused, accepted}
-use Rattle.list.specs.Changes.{changeAt}
+use Rattle.runs.specs.Changes.{changeAt}
 use Rattle.book.specs.Book.{Book}
 use Rattle.book.specs.Layout.{told, Holds}
 use Rattle.book.specs.Next.{withCursor, withEntry, heldAs}

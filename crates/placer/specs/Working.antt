@@ -6,7 +6,7 @@ use mathlib.Core.List.{List, map}
 use lib.ListN.{length, getD}
 use Rattle.words.specs.Choice.{if_then_else_}
 use Rattle.words.specs.Lists.{all, joined, upFrom}
-use Rattle.list.specs.Changes.{changeCount, changeAt, listNumber}
+use Rattle.runs.specs.Changes.{changeCount, changeAt, listNumber}
 use Rattle.list.specs.Answers.{Whole}
 use Rattle.list.specs.declared.Shape.{Shape}
 use Rattle.book.specs.Book.{Entry, Book, entryAt}

@@ -12,15 +12,15 @@ use super::answering::answer_backup;
 use super::answering::answer_collect;
 use super::answering::answer_enrol;
 use super::answering::answer_read;
-use super::checking::check;
-use super::checking::room_of;
-use super::heads::BACKUP;
-use super::heads::COLLECT;
-use super::heads::ENROL;
-use super::heads::HEAD_SIZE;
-use super::heads::READ;
-use super::heads::call_end;
-use super::heads::data_size;
+use heads::checking::check;
+use heads::checking::room_of;
+use heads::head::BACKUP;
+use heads::head::COLLECT;
+use heads::head::ENROL;
+use heads::head::HEAD_SIZE;
+use heads::head::READ;
+use heads::head::call_end;
+use heads::head::data_size;
 use words::u16_at;
 
 // The backup at `at`, whose change list is its data.

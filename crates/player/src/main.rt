@@ -2,8 +2,8 @@
 // the answers, a line for each call.
 mod printing;
 
-use book::sizes::size;
-use book::sizes::sizes_ok;
+use fields::sizes::size;
+use fields::sizes::sizes_ok;
 use libc::STDIN_FILENO;
 use play::fresh::play_fresh;
 use printing::answers_of;

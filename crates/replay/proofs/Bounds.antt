@@ -14,8 +14,8 @@ use Rattle.book.specs.Form.{enrolled}
 use Rattle.book.specs.Formed.{BookParts}
 use Rattle.book.specs.Formed.{Formed}
 use Rattle.book.proofs.Conditions.{slot-in, rec-in, retention-in, pairs-in}
-use Rattle.book.specs.Struct.{RecordIs}
-use Rattle.book.specs.declared.record.Record.{Record}
+use Rattle.journal.specs.Struct.{RecordIs}
+use Rattle.journal.specs.declared.record.Record.{Record}
 
 -- a used slot of the book x
 pub record SlotIn (x : Book) (t : Slot) : Type 0 where

@@ -17,8 +17,8 @@ use Rattle.book.specs.Form.{recOk}
 use Rattle.book.specs.Formed.{Formed}
 use Rattle.book.specs.Formed.{BookParts}
 use Rattle.book.specs.Layout.{bookOf}
-use Rattle.book.specs.Struct.{SlotIs}
-use Rattle.book.specs.declared.slot.Slot as read
+use Rattle.journal.specs.Struct.{SlotIs}
+use Rattle.journal.specs.declared.slot.Slot as read
 use Rattle.model.specs.Journal.{Backup, journal}
 use Rattle.model.specs.JournalAt.{noBackup, backupAt}
 use Rattle.model.proofs.kept.JournalAtLaws.{length-journal, volume-at, day-at, records-at}

@@ -10,8 +10,8 @@ use lib.ListN.{length, getD, set}
 use lib.Seq.{slice, slice-cons, slice-empty}
 use Rattle.words.proofs.ChoiceLaws.{and-assoc, and-swap, and-yes}
 use Rattle.book.specs.Book.{Rec, Book, noRec, recAt}
-use Rattle.book.specs.Struct.{RecordIs}
-use Rattle.book.specs.declared.record.Record.{Record}
+use Rattle.journal.specs.Struct.{RecordIs}
+use Rattle.journal.specs.declared.record.Record.{Record}
 use Rattle.model.specs.Audit.{cellSound}
 use Rattle.replay.specs.Expiries.{Raised, untilOne, untilEach}
 use Rattle.replay.proofs.ExpiryLaws.{Raising, raising-start, raising-more, raising-end, until-more, until-end}

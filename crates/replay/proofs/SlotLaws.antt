@@ -16,8 +16,8 @@ use Rattle.book.specs.Book.{Book, slotAt, retentionOf}
 use Rattle.book.specs.Form.{recOk}
 use Rattle.book.specs.Formed.{Formed}
 use Rattle.book.specs.Layout.{bookOf}
-use Rattle.book.specs.Struct.{SlotIs}
-use Rattle.book.specs.declared.slot.Slot as read
+use Rattle.journal.specs.Struct.{SlotIs}
+use Rattle.journal.specs.declared.slot.Slot as read
 use Rattle.model.specs.Audit.{untilIn}
 use Rattle.model.specs.Journal.{Backup, journal}
 use Rattle.model.specs.JournalAt.{backupAt}

@@ -12,8 +12,8 @@ use lib.Seq.{drop-nil}
 use borrow.Author.Tests.{le-leb, lt-leb}
 use Rattle.words.proofs.Runs.{below-or-not}
 use Rattle.book.specs.Book.{Book, slotAt}
-use Rattle.book.specs.Struct.{SlotIs}
-use Rattle.book.specs.declared.slot.Slot.{Slot}
+use Rattle.journal.specs.Struct.{SlotIs}
+use Rattle.journal.specs.declared.slot.Slot.{Slot}
 use Rattle.model.specs.Days.{keptBefore, kept}
 use Rattle.model.specs.Journal.{Backup, backups, days}
 use Rattle.model.specs.JournalAt.{backupAt, backupsFrom}

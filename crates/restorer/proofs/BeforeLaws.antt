@@ -17,8 +17,8 @@ use Rattle.words.specs.Lists.{joined}
 use Rattle.words.specs.declared.PBN.{PBN}
 use Rattle.book.specs.Book.{Rec, Book, noRec, slotAt, recAt, cellAt}
 use Rattle.book.specs.Form.{pairsOk}
-use Rattle.book.specs.Struct.{SlotIs}
-use Rattle.book.specs.declared.slot.Slot.{Slot}
+use Rattle.journal.specs.Struct.{SlotIs}
+use Rattle.journal.specs.declared.slot.Slot.{Slot}
 use Rattle.model.specs.Journal.{Backup}
 use Rattle.model.specs.Read.{recordsOf, beforeOr}
 use Rattle.model.specs.JournalAt.{backupAt, backupsFrom, ownAt}

@@ -9,10 +9,10 @@ ghost use Rattle.model.specs.Read.{recordsOf};
 ghost use Rattle.model.specs.JournalAt.{ownAt};
 ghost use Rattle.restorer.specs.After.{AfterIs, keptFrom};
 ghost use Rattle.restorer.specs.Befores.{beforeIn, beforeFrom, imageFrom};
-use book::header;
-use book::map;
-use book::record;
-use book::slot;
+use fields::header;
+use fields::map;
+use journal::record;
+use journal::slot;
 use words::LBN;
 use words::PBN;
 

@@ -11,8 +11,8 @@ ghost use Rattle.restorer.specs.Reading.{KeptIs, soughtOf, soughtNumber,
 use super::image::backups_after;
 use super::image::image_at;
 use super::image::is_kept;
-use book::header;
 use buffers::buffers_number;
+use fields::header;
 use words::BLOCK_SIZE;
 use words::LBN;
 use words::PBN;

@@ -1,6 +1,6 @@
 // A volume's current map: the PBN of each LBN, 2 bytes each.
 ghost use Rattle.rows.specs.Contracts.{CellsTold};
-use book::map;
+use fields::map;
 use figures::enrolled::enrolled_number;
 use words::put_bytes;
 use words::refusals;

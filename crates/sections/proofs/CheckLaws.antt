@@ -14,62 +14,62 @@ use Rattle.words.proofs.Each.{zeros-each}
 use Rattle.words.specs.Lists.{allZero}
 use Rattle.words.specs.Numbers.{num}
 use Rattle.words.proofs.SectionLaws.{part-tab}
-use Rattle.book.specs.Layout.{layoutNumber, headerSize, bookSize, entryPlace, entrySize, nPlace, lPlace, sPlace, jPlace, bPlace, uPlace, dayPlace, cursorPlace, zeroPlace, sizesOf, entryOf, recOf}
+use Rattle.book.specs.Layout.{layoutNumber, headerSize, bookSize, entryOffset, entrySize, nOffset, lOffset, sOffset, jOffset, bOffset, uOffset, dayOffset, cursorOffset, zeroOffset, sizesOf, entryOf, recOf}
 use Rattle.book.specs.Form.{layoutOk, sizesOk, stateOk, entryOk, pbnOk, recOk}
 use Rattle.sections.specs.Checks.{zerosIn, headOk, HeadIn}
 
 pub head-facts : (b : List ℕ) → headOk b ≡ true → HeadIn b
 unfolding headOk
 head-facts b e =
-    let c₁ = leb (num b bPlace) (num b sPlace) in
-    let c₂ = c₁ && leb (num b uPlace) (num b jPlace) in
-    let c₃ = c₂ && leb (num b dayPlace) 60000 in
-    let t₅ = and-true (c₃ && ltb (num b cursorPlace) (num b nPlace)) (eqb (num b zeroPlace) 0) e in
-    let t₄ = and-true c₃ (ltb (num b cursorPlace) (num b nPlace)) (t₅ .0) in
-    let t₃ = and-true c₂ (leb (num b dayPlace) 60000) (t₄ .0) in
-    let t₂ = and-true c₁ (leb (num b uPlace) (num b jPlace)) (t₃ .0) in
+    let c₁ = leb (num b bOffset) (num b sOffset) in
+    let c₂ = c₁ && leb (num b uOffset) (num b jOffset) in
+    let c₃ = c₂ && leb (num b dayOffset) 60000 in
+    let t₅ = and-true (c₃ && ltb (num b cursorOffset) (num b nOffset)) (eqb (num b zeroOffset) 0) e in
+    let t₄ = and-true c₃ (ltb (num b cursorOffset) (num b nOffset)) (t₅ .0) in
+    let t₃ = and-true c₂ (leb (num b dayOffset) 60000) (t₄ .0) in
+    let t₂ = and-true c₁ (leb (num b uOffset) (num b jOffset)) (t₃ .0) in
     record {
-      slots = leb-true (num b bPlace) (num b sPlace) (t₂ .0);
-      records = leb-true (num b uPlace) (num b jPlace) (t₂ .1);
-      day = leb-true (num b dayPlace) 60000 (t₃ .1);
-      cursor = ltb-true (num b cursorPlace) (num b nPlace) (t₄ .1);
-      spare = eqb-true (num b zeroPlace) 0 (t₅ .1);
+      slots = leb-true (num b bOffset) (num b sOffset) (t₂ .0);
+      records = leb-true (num b uOffset) (num b jOffset) (t₂ .1);
+      day = leb-true (num b dayOffset) 60000 (t₃ .1);
+      cursor = ltb-true (num b cursorOffset) (num b nOffset) (t₄ .1);
+      spare = eqb-true (num b zeroOffset) 0 (t₅ .1);
     }
 
 pub facts-head : (b : List ℕ) → HeadIn b → headOk b ≡ true
 unfolding headOk
 facts-head b h =
-    rw (le-leb (num b bPlace) (num b sPlace) (h .slots), le-leb (num b uPlace) (num b jPlace) (h .records), le-leb (num b dayPlace) 60000 (h .day), lt-ltb (num b cursorPlace) (num b nPlace) (h .cursor))
-    (eq-eqb (num b zeroPlace) 0 (h .spare))
+    rw (le-leb (num b bOffset) (num b sOffset) (h .slots), le-leb (num b uOffset) (num b jOffset) (h .records), le-leb (num b dayOffset) 60000 (h .day), lt-ltb (num b cursorOffset) (num b nOffset) (h .cursor))
+    (eq-eqb (num b zeroOffset) 0 (h .spare))
 
 -- ---- the tests as the code makes them, on numbers that it read
 
-pub layout-tests : (b : List ℕ) {k n l s j w : ℕ} {t : Bool} → headerSize ≤ length b → n ≡ num b nPlace → l ≡ num b lPlace → s ≡ num b sPlace
-    → j ≡ num b jPlace → k ≡ num b 0 → t ≡ sizesOk (record { n = n; l = l; s = s; j = j }) → w ≡ bookSize (record { n = n; l = l; s = s; j = j })
+pub layout-tests : (b : List ℕ) {k n l s j w : ℕ} {t : Bool} → headerSize ≤ length b → n ≡ num b nOffset → l ≡ num b lOffset → s ≡ num b sOffset
+    → j ≡ num b jOffset → k ≡ num b 0 → t ≡ sizesOk (record { n = n; l = l; s = s; j = j }) → w ≡ bookSize (record { n = n; l = l; s = s; j = j })
     → (eqb k layoutNumber && t && eqb (length b) w) ≡ layoutOk b
 unfolding layoutOk
 layout-tests b h en el es ej ek et ew = rw (le-leb headerSize (length b) h, et, ew, ek, en, el, es, ej)
 
 -- an entry at its bytes, on each way that the code goes
-module _ (b : List ℕ) (p : ℕ) (fits : entryPlace p + entrySize ≤ length b) where
+module _ (b : List ℕ) (p : ℕ) (fits : entryOffset p + entrySize ≤ length b) where
   abbrev count : ℕ
-  count = getD b (entryPlace p) 0
+  count = getD b (entryOffset p) 0
 
   abbrev state : ℕ
-  state = getD b (entryPlace p + 1) 0
+  state = getD b (entryOffset p + 1) 0
 
   abbrev expiry : ℕ
-  expiry = num b (entryPlace p + 2)
+  expiry = num b (entryOffset p + 2)
 
   abbrev clear : Bool
-  clear = zerosIn b (entryPlace p + 4) (entryPlace p + entrySize)
+  clear = zerosIn b (entryOffset p + 4) (entryOffset p + entrySize)
 
   entry-tests : (stateOk b p && entryOk (entryOf b p)) ≡ (leb state 1 && (leb expiry 65000 && (eqb state 1 || (eqb count 0 && clear))))
   unfolding stateOk entryOk
   entry-tests =
-      let t = part-tab printSize b (entryPlace p + 4) (λ i. getD b (entryPlace p + 4 + i) 0) (omega arith) (λ i hi. refl) in
-      let e : entryPlace p + 4 + printSize ≡ entryPlace p + entrySize = omega arith in
-      let z : allZero (entryOf b p .print) ≡ clear = ap allZero t ∙ zeros-each b printSize (entryPlace p + 4) (omega arith) ∙ ap (zerosIn b (entryPlace p + 4)) e in
+      let t = part-tab printSize b (entryOffset p + 4) (λ i. getD b (entryOffset p + 4 + i) 0) (omega arith) (λ i hi. refl) in
+      let e : entryOffset p + 4 + printSize ≡ entryOffset p + entrySize = omega arith in
+      let z : allZero (entryOf b p .print) ≡ clear = ap allZero t ∙ zeros-each b printSize (entryOffset p + 4) (omega arith) ∙ ap (zerosIn b (entryOffset p + 4)) e in
       ap (λ (r : Bool). leb state 1 && (leb expiry 65000 && (eqb state 1 || (eqb count 0 && r)))) z
 
   pub bad-state : 1 < state → false ≡ (stateOk b p && entryOk (entryOf b p))
@@ -91,7 +91,7 @@ module _ (b : List ℕ) (p : ℕ) (fits : entryPlace p + entrySize ≤ length b)
     pub free-entry : count ≡ 0 → clear ≡ (stateOk b p && entryOk (entryOf b p))
     free-entry k = sym (free-tests ∙ rw (eq-eqb count 0 k))
 
-pub rec-tests : (b : List ℕ) (at : ℕ) {n l x y z : ℕ} {p : Bool} → n ≡ num b nPlace → l ≡ num b lPlace
+pub rec-tests : (b : List ℕ) (at : ℕ) {n l x y z : ℕ} {p : Bool} → n ≡ num b nOffset → l ≡ num b lOffset
     → x ≡ num b at → y ≡ num b (at + 2) → z ≡ num b (at + 4) → p ≡ pbnOk n y → (ltb x l && p && ltb z n) ≡ recOk (sizesOf b) (recOf b at)
 unfolding recOk
 rec-tests b at en el ex ey ez ep = rw (ep, en, el, ex, ey, ez)

@@ -8,7 +8,7 @@ use lib.ListN.{getD}
 use Rattle.words.specs.Lists.{each}
 use Rattle.words.specs.Numbers.{num}
 use Rattle.book.specs.Book.{volumes}
-use Rattle.book.specs.Layout.{nPlace, sPlace, jPlace, bPlace, uPlace, dayPlace, cursorPlace, zeroPlace, retentionPlace}
+use Rattle.book.specs.Layout.{nOffset, sOffset, jOffset, bOffset, uOffset, dayOffset, cursorOffset, zeroOffset, retentionOffset}
 use Rattle.book.specs.Layout.{recSize, sizesOf, entryOf, recOf}
 use Rattle.book.specs.Form.{retentionOk, stateOk, entryOk, pbnOk, recOk}
 
@@ -19,14 +19,14 @@ zerosIn b o e = each (λ k. eqb (getD b k 0) 0) o e
 -- the header's numbers but the sizes
 unfoldable pub headOk : List ℕ → Bool
 headOk b =
-    leb (num b bPlace) (num b sPlace)
-    && leb (num b uPlace) (num b jPlace)
-    && leb (num b dayPlace) 60000
-    && ltb (num b cursorPlace) (num b nPlace)
-    && eqb (num b zeroPlace) 0
+    leb (num b bOffset) (num b sOffset)
+    && leb (num b uOffset) (num b jOffset)
+    && leb (num b dayOffset) 60000
+    && ltb (num b cursorOffset) (num b nOffset)
+    && eqb (num b zeroOffset) 0
 
 unfoldable pub retentionsOk : List ℕ → Bool
-retentionsOk b = each (λ v. retentionOk (num b (retentionPlace v))) 0 volumes
+retentionsOk b = each (λ v. retentionOk (num b (retentionOffset v))) 0 volumes
 
 -- n entries, state byte and all
 unfoldable pub entriesOk : List ℕ → ℕ → Bool
@@ -42,8 +42,8 @@ recordsOk b from used = each (λ q. recOk (sizesOf b) (recOf b (from + q * recSi
 
 -- the header's test as facts
 pub record HeadIn (b : List ℕ) : Type 0 where
-  pub slots : num b bPlace ≤ num b sPlace
-  pub records : num b uPlace ≤ num b jPlace
-  pub day : num b dayPlace ≤ 60000
-  pub cursor : num b cursorPlace < num b nPlace
-  pub spare : num b zeroPlace ≡ 0
+  pub slots : num b bOffset ≤ num b sOffset
+  pub records : num b uOffset ≤ num b jOffset
+  pub day : num b dayOffset ≤ 60000
+  pub cursor : num b cursorOffset < num b nOffset
+  pub spare : num b zeroOffset ≡ 0

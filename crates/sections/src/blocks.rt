@@ -3,15 +3,15 @@ ghost use Prim.Native.Nat.{_+_, _*_, _≤_, _<_};
 ghost use mathlib.Core.Path.{_≡_};
 ghost use mathlib.Core.Bool.{_&&_};
 ghost use lib.ListN.{length};
-ghost use Rattle.book.specs.Layout.{entriesFrom, entryPlace, entrySize};
+ghost use Rattle.book.specs.Layout.{entriesFrom, entryOffset, entrySize};
 ghost use Rattle.book.specs.Layout.{entryOf};
 ghost use Rattle.book.specs.Form.{stateOk, entryOk, pbnOk};
 ghost use Rattle.sections.specs.Checks.{retentionsOk, entriesOk, mapsOk};
 use super::zeros::zeros;
-use book::header::HEADER_SIZE;
-use book::place::ENTRIES_FROM;
-use book::place::ENTRY_SIZE;
-use book::place::VOLUMES;
+use fields::header::HEADER_SIZE;
+use fields::offsets::ENTRIES_FROM;
+use fields::offsets::ENTRY_SIZE;
+use fields::offsets::VOLUMES;
 use words::UNMAPPED;
 use words::limits::MAX_EXPIRY;
 use words::limits::MAX_RETENTION;
@@ -31,7 +31,7 @@ pub fn retentions_ok(b: &[u8]) -> bool
 }
 
 fn entry_ok(b: &[u8], p: usize) -> bool
-    requires { ⌜ entryPlace p + entrySize ≤ length (now b) ⌝ }
+    requires { ⌜ entryOffset p + entrySize ≤ length (now b) ⌝ }
     ensures { λ r. ⌜ r ≡ (stateOk (now (b .entry)) p && entryOk (entryOf (now (b .entry)) p)) ⌝ }
 {
     let at = ENTRIES_FROM + p * ENTRY_SIZE;
@@ -52,7 +52,7 @@ fn entry_ok(b: &[u8], p: usize) -> bool
 }
 
 pub fn entries_ok(b: &[u8], n: usize) -> bool
-    requires { ⌜ entryPlace n ≤ length (now b) ⌝ }
+    requires { ⌜ entryOffset n ≤ length (now b) ⌝ }
     ensures { λ r. ⌜ r ≡ entriesOk (now (b .entry)) n ⌝ }
 {
     let mut p = 0;

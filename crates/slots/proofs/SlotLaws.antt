@@ -19,7 +19,7 @@ use Rattle.words.specs.Numbers.{num}
 use Rattle.words.specs.Sections.{tab}
 use Rattle.words.proofs.SectionLaws.{length-tab, getD-tab}
 use Rattle.book.specs.Book.{volumes, Slot, noSlot}
-use Rattle.book.specs.Layout.{bPlace, uPlace, dayPlace, retentionPlace, slotPlace, sizesOf, slotOf, bookOf}
+use Rattle.book.specs.Layout.{bOffset, uOffset, dayOffset, retentionOffset, slotOffset, sizesOf, slotOf, bookOf}
 use Rattle.book.specs.Form.{secondOk, enrolled, slotOk, pairsOk}
 use Rattle.slots.specs.Days.{dayOk, daysFrom}
 use Rattle.slots.specs.Slots.{slotHere, slotsLeft}
@@ -32,33 +32,33 @@ shuffle a b c d s t u v = rw (and-swap a s b t, and-swap (a && b) (s && t) c u, 
 
 module _ (b : List ℕ) (q : ℕ) where
   abbrev this : Slot
-  this = slotOf b (slotPlace (sizesOf b) q)
+  this = slotOf b (slotOffset (sizesOf b) q)
 
-  slots-drop : q < num b bPlace → drop q (bookOf b .slots) ≡ this ∷ drop (q + 1) (bookOf b .slots)
+  slots-drop : q < num b bOffset → drop q (bookOf b .slots) ≡ this ∷ drop (q + 1) (bookOf b .slots)
   unfolding bookOf
   slots-drop h =
-      let slot : ℕ → Slot = λ k. slotOf b (slotPlace (sizesOf b) k) in
-      let n = length-tab (num b bPlace) slot in
-      rw (add-one q) (drop-cons (tab (num b bPlace) slot) q noSlot (omega arith) ∙ ap (λ (t : Slot). t ∷ drop (suc q) (tab (num b bPlace) slot)) (getD-tab (num b bPlace) slot q noSlot h))
+      let slot : ℕ → Slot = λ k. slotOf b (slotOffset (sizesOf b) k) in
+      let n = length-tab (num b bOffset) slot in
+      rw (add-one q) (drop-cons (tab (num b bOffset) slot) q noSlot (omega arith) ∙ ap (λ (t : Slot). t ∷ drop (suc q) (tab (num b bOffset) slot)) (getD-tab (num b bOffset) slot q noSlot h))
 
-  slots-none : num b bPlace ≤ q → drop q (bookOf b .slots) ≡ []
+  slots-none : num b bOffset ≤ q → drop q (bookOf b .slots) ≡ []
   unfolding bookOf
   slots-none h =
-      let slot : ℕ → Slot = λ k. slotOf b (slotPlace (sizesOf b) k) in
-      drop-of-length-le (tab (num b bPlace) slot) {i = q} (omega (arith, length-tab (num b bPlace) slot))
+      let slot : ℕ → Slot = λ k. slotOf b (slotOffset (sizesOf b) k) in
+      drop-of-length-le (tab (num b bOffset) slot) {i = q} (omega (arith, length-tab (num b bOffset) slot))
 
   module _ (lasts : List ℕ) (prev next : ℕ) where
-    slots-first : q < num b bPlace → slotsLeft b q lasts prev next
-        ≡ (slotHere b (slotPlace (sizesOf b) q) lasts prev next && slotsLeft b (q + 1) (set lasts (this .volume) (this .day + 1)) (this .day) (next + this .number))
+    slots-first : q < num b bOffset → slotsLeft b q lasts prev next
+        ≡ (slotHere b (slotOffset (sizesOf b) q) lasts prev next && slotsLeft b (q + 1) (set lasts (this .volume) (this .day + 1)) (this .day) (next + this .number))
     unfolding slotsLeft slotHere secondOk
     slots-first h =
         let rest = drop (q + 1) (bookOf b .slots) in
-        rw (each-first (secondOk b) q (num b bPlace) h, slots-drop h)
+        rw (each-first (secondOk b) q (num b bOffset) h, slots-drop h)
         (shuffle (secondOk b q) (slotOk (bookOf b) this) (dayOk lasts prev this) (eqb (this .first) next)
-        (each (secondOk b) (q + 1) (num b bPlace)) (all (slotOk (bookOf b)) rest)
-        (daysFrom (set lasts (this .volume) (this .day + 1)) (this .day) rest) (pairsOk (next + this .number) rest (num b uPlace)))
+        (each (secondOk b) (q + 1) (num b bOffset)) (all (slotOk (bookOf b)) rest)
+        (daysFrom (set lasts (this .volume) (this .day + 1)) (this .day) rest) (pairsOk (next + this .number) rest (num b uOffset)))
 
-    module _ {at : ℕ} (h : q < num b bPlace) (offset : at ≡ slotPlace (sizesOf b) q) where
+    module _ {at : ℕ} (h : q < num b bOffset) (offset : at ≡ slotOffset (sizesOf b) q) where
       pub slots-more : {v d k : ℕ} → slotHere b at lasts prev next ≡ true → v ≡ getD b at 0 → d ≡ num b (at + 2) → k ≡ num b (at + 6)
           → slotsLeft b q lasts prev next ≡ slotsLeft b (q + 1) (set lasts v (d + 1)) d (next + k)
       slots-more e ev ed ek = slots-first h ∙ rw (ev, ed, ek, ← offset, e)
@@ -66,22 +66,22 @@ module _ (b : List ℕ) (q : ℕ) where
       pub slots-stop : slotHere b at lasts prev next ≡ false → slotsLeft b q lasts prev next ≡ false
       slots-stop e = slots-first h ∙ rw (← offset, e)
 
-    pub slots-end : num b bPlace ≤ q → slotsLeft b q lasts prev next ≡ eqb next (num b uPlace)
+    pub slots-end : num b bOffset ≤ q → slotsLeft b q lasts prev next ≡ eqb next (num b uOffset)
     unfolding slotsLeft
-    slots-end h = rw (each-none (secondOk b) q (num b bPlace) h, slots-none h)
+    slots-end h = rw (each-none (secondOk b) q (num b bOffset) h, slots-none h)
 
 -- ---- a slot's tests as the code makes them
 
 -- volumes 0 to 7 have the retention that stands for them; any other has none
-pub retention-of : (b : List ℕ) (v : ℕ) → v < volumes → getD (bookOf b .retentions) v 0 ≡ num b (retentionPlace v)
+pub retention-of : (b : List ℕ) (v : ℕ) → v < volumes → getD (bookOf b .retentions) v 0 ≡ num b (retentionOffset v)
 unfolding bookOf
-retention-of b v h = getD-tab volumes (λ v. num b (retentionPlace v)) v 0 h
+retention-of b v h = getD-tab volumes (λ v. num b (retentionOffset v)) v 0 h
 
 pub no-retention : (b : List ℕ) (v : ℕ) → volumes ≤ v → getD (bookOf b .retentions) v 0 ≡ 0
 unfolding bookOf
-no-retention b v h = List·getD-eq-default (tab volumes (λ v. num b (retentionPlace v))) 0 {n = v} (omega (arith, length-tab volumes (λ v. num b (retentionPlace v))))
+no-retention b v h = List·getD-eq-default (tab volumes (λ v. num b (retentionOffset v))) 0 {n = v} (omega (arith, length-tab volumes (λ v. num b (retentionOffset v))))
 
-day-of : (b : List ℕ) → bookOf b .day ≡ num b dayPlace
+day-of : (b : List ℕ) → bookOf b .day ≡ num b dayOffset
 unfolding bookOf
 day-of b = refl
 
@@ -92,14 +92,14 @@ module _ (b : List ℕ) (at : ℕ) (lasts : List ℕ) (prev next : ℕ) where
   slot-above h = rw (no-retention b (getD b at 0) h, and-false (eqb (getD b (at + 1) 0) 0))
 
   -- any other passes by these tests
-  pub slot-tests : {v d r f today : ℕ} → v < volumes → v ≡ getD b at 0 → d ≡ num b (at + 2) → r ≡ num b (retentionPlace v) → f ≡ num b (at + 4)
-      → today ≡ num b dayPlace
+  pub slot-tests : {v d r f today : ℕ} → v < volumes → v ≡ getD b at 0 → d ≡ num b (at + 2) → r ≡ num b (retentionOffset v) → f ≡ num b (at + 4)
+      → today ≡ num b dayOffset
       → (eqb (getD b (at + 1) 0) 0 && (not (eqb r 0) && leb d today) && (leb prev d && leb (getD lasts v 0) d) && eqb f next) ≡ slotHere b at lasts prev next
   unfolding slotHere slotOk dayOk
   slot-tests {v = v} h ev ed er ef et = rw (er, ← retention-of b v h, ed, ef, et, ← day-of b, ev)
 
   -- a slot that passed: its volume is below 8, and its day not past the header's
-  pub slot-bounds : slotHere b at lasts prev next ≡ true → (getD b at 0 < volumes) × (num b (at + 2) ≤ num b dayPlace)
+  pub slot-bounds : slotHere b at lasts prev next ≡ true → (getD b at 0 < volumes) × (num b (at + 2) ≤ num b dayOffset)
   unfolding slotHere slotOk
   slot-bounds e = (volume (decLt (getD b at 0) volumes), day e)
     where
@@ -107,7 +107,7 @@ module _ (b : List ℕ) (at : ℕ) (lasts : List ℕ) (prev next : ℕ) where
       volume (yes l) = l
       volume (no l) = absurd (not-both (slotHere b at lasts prev next) e (slot-above (omega arith)))
 
-      day : slotHere b at lasts prev next ≡ true → num b (at + 2) ≤ num b dayPlace
+      day : slotHere b at lasts prev next ≡ true → num b (at + 2) ≤ num b dayOffset
       day e =
           let t = slotOf b at in
           let first = eqb (getD b (at + 1) 0) 0 && slotOk (bookOf b) t in

@@ -8,7 +8,7 @@ use lib.ListN.{length, getD, drop}
 use Rattle.words.specs.Lists.{each}
 use Rattle.words.specs.Lists.{all}
 use Rattle.words.specs.Numbers.{num}
-use Rattle.book.specs.Layout.{bPlace, uPlace, dayPlace, slotsFrom, slotSize, sizesOf, slotOf, bookOf}
+use Rattle.book.specs.Layout.{bOffset, uOffset, dayOffset, slotsFrom, slotSize, sizesOf, slotOf, bookOf}
 use Rattle.book.specs.Form.{secondOk, slotOk, pairsOk}
 use Rattle.slots.specs.Days.{dayOk, daysFrom}
 
@@ -24,18 +24,18 @@ slotHere b at lasts prev next =
 -- the used slots from q on, after those passed
 unfoldable pub slotsLeft : List ℕ → ℕ → List ℕ → ℕ → ℕ → Bool
 slotsLeft b q lasts prev next =
-    each (secondOk b) q (num b bPlace)
+    each (secondOk b) q (num b bOffset)
     && all (slotOk (bookOf b)) (drop q (bookOf b .slots))
     && daysFrom lasts prev (drop q (bookOf b .slots))
-    && pairsOk next (drop q (bookOf b .slots)) (num b uPlace)
+    && pairsOk next (drop q (bookOf b .slots)) (num b uOffset)
 
 -- the numbers that the pass over the slots is handed: where they start, how many are used, the records used, the
 -- header's day
 pub record SlotsAt (b : List ℕ) (from used end today : ℕ) : Type 0 where
   pub start : from ≡ slotsFrom (sizesOf b)
-  pub slots : used ≡ num b bPlace
-  pub records : end ≡ num b uPlace
-  pub day : today ≡ num b dayPlace
+  pub slots : used ≡ num b bOffset
+  pub records : end ≡ num b uOffset
+  pub day : today ≡ num b dayOffset
   pub few : used ≤ 1024
   pub low : today ≤ 60000
   pub inside : from + used * slotSize ≤ length b

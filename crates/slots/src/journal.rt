@@ -3,16 +3,16 @@ ghost use Prim.Native.Nat.{_+_, _*_, _≤_, _<_};
 ghost use mathlib.Core.Path.{_≡_};
 ghost use lib.ListN.{length};
 ghost use Rattle.words.specs.Numbers.{num};
-ghost use Rattle.book.specs.Layout.{nPlace, lPlace, dayPlace, entriesFrom};
+ghost use Rattle.book.specs.Layout.{nOffset, lOffset, dayOffset, entriesFrom};
 ghost use Rattle.book.specs.Layout.{slotSize, recSize, recOf, sizesOf};
 ghost use Rattle.book.specs.Form.{recOk};
 ghost use Rattle.slots.specs.Days.{noLasts};
 ghost use Rattle.slots.specs.Slots.{SlotsAt, slotHere, slotsLeft};
 ghost use Rattle.sections.specs.Checks.{recordsOk};
-use book::header::HEADER_SIZE;
-use book::place::REC_SIZE;
-use book::place::SLOT_SIZE;
-use book::place::VOLUMES;
+use fields::header::HEADER_SIZE;
+use fields::offsets::REC_SIZE;
+use fields::offsets::SLOT_SIZE;
+use fields::offsets::VOLUMES;
 use sections::blocks::pbn_ok;
 use words::u16_at;
 use words::wide;
@@ -21,7 +21,7 @@ use words::wide;
 // to start.
 fn slot_ok(b: &[u8], at: usize, today: u16, lasts: &[u16; VOLUMES], prev: u16, next: usize) -> bool
     requires { ⌜ (entriesFrom ≤ length (now b)) × (at + slotSize ≤ length (now b)) ⌝ }
-    requires { ⌜ today ≡ num (now b) dayPlace ⌝ }
+    requires { ⌜ today ≡ num (now b) dayOffset ⌝ }
     ensures { λ r. ⌜ r ≡ slotHere (now (b .entry)) at (now (lasts .entry)) prev next ⌝ }
 {
     let v = wide(b[at]) as usize;
@@ -60,7 +60,7 @@ pub fn used_slots_ok(b: &[u8], from: usize, used: usize, records: usize, today: 
 
 fn rec_ok(b: &[u8], at: usize, n: u16, l: u16) -> bool
     requires { ⌜ at + recSize ≤ length (now b) ⌝ }
-    requires { ⌜ (n ≡ num (now b) nPlace) × (l ≡ num (now b) lPlace) ⌝ }
+    requires { ⌜ (n ≡ num (now b) nOffset) × (l ≡ num (now b) lOffset) ⌝ }
     ensures { λ r. ⌜ r ≡ recOk (sizesOf (now (b .entry))) (recOf (now (b .entry)) at) ⌝ }
 {
     (u16_at(b, at) < l) & pbn_ok(u16_at(b, at + 2), n) & (u16_at(b, at + 4) < n)
@@ -68,7 +68,7 @@ fn rec_ok(b: &[u8], at: usize, n: u16, l: u16) -> bool
 
 pub fn used_records_ok(b: &[u8], from: usize, used: usize, n: u16, l: u16) -> bool
     requires { ⌜ from + used * recSize ≤ length (now b) ⌝ }
-    requires { ⌜ (n ≡ num (now b) nPlace) × (l ≡ num (now b) lPlace) ⌝ }
+    requires { ⌜ (n ≡ num (now b) nOffset) × (l ≡ num (now b) lOffset) ⌝ }
     ensures { λ r. ⌜ r ≡ recordsOk (now (b .entry)) from used ⌝ }
 {
     let mut good = true;

@@ -10,7 +10,7 @@ use borrow.Author.Tests.{ne-eqb}
 use lib.ListN.{length, getD, drop, drop-of-length-le, length-append}
 use lib.Seq.{drop-cons}
 use Rattle.words.specs.Choice.{if_then_else_}
-use Rattle.writer.specs.Writer.{runBefore, runs, markedFrom}
+use Rattle.runs.specs.Writer.{runBefore, runs, markedFrom}
 use Rattle.writer.specs.Passes.{endedRun, rowAfter, counted, Counted}
 use Rattle.writer.specs.declared.Tally.{Tally}
 use Rattle.writer.proofs.Marks.{runs-more, runs-end}

@@ -13,9 +13,9 @@ use Rattle.words.specs.Sections.{flat}
 use Rattle.words.proofs.SectionLaws.{length-flat}
 use Rattle.words.proofs.Flat.{flat-map}
 use Rattle.words.proofs.Parts.{length-part}
-use Rattle.list.specs.Changes.{Change, pairSize}
+use Rattle.runs.specs.Changes.{Change, pairSize}
 use Rattle.words.specs.Blocks.{blockSize, printSize}
-use Rattle.writer.specs.Writer.{runs, markedFrom, imageChange, markedChanges, pairBytes, listBytes, markedList}
+use Rattle.runs.specs.Writer.{runs, markedFrom, imageChange, markedChanges, pairBytes, listBytes, markedList}
 use Rattle.writer.specs.Passes.{pairsFrom, element, markedElements}
 
 pub length-pairs : (i k : ℕ) (ms : List ℕ) → length (pairsFrom i k ms) ≡ length (runs i k ms) * pairSize

@@ -15,7 +15,7 @@ use Rattle.words.specs.Numbers.{two, put}
 use Rattle.words.proofs.Filling.{put-sets}
 use Rattle.words.specs.Laying.{Stored}
 use Rattle.words.proofs.LayingLaws.{sets-next}
-use Rattle.writer.specs.Writer.{runBefore, runs, pairBytes}
+use Rattle.runs.specs.Writer.{runBefore, runs, pairBytes}
 use Rattle.writer.specs.Passes.{endedRun, rowAfter, ifMarked, counted, pairOf}
 use Rattle.writer.specs.declared.Tally.{Tally}
 

@@ -17,7 +17,7 @@ use Rattle.words.proofs.Filling.{put-sets}
 use Rattle.words.specs.Laying.{Stored}
 use Rattle.words.proofs.LayingLaws.{Left, left-all, left-room, left-more, sets-front}
 use Rattle.words.specs.Blocks.{blockSize, printSize}
-use Rattle.writer.specs.Writer.{runs, markedList, inputOk, writeNumber, answerAfter, outputAfter, listOf, Wrote}
+use Rattle.runs.specs.Writer.{runs, markedList, inputOk, writeNumber, answerAfter, outputAfter, listOf, Wrote}
 use Rattle.writer.specs.Passes.{pairsFrom, markedElements, Room}
 use Rattle.writer.proofs.Lengths.{list-sections}
 

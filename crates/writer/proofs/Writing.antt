@@ -14,8 +14,8 @@ use Rattle.words.specs.Sections.{flat}
 use Rattle.words.proofs.Flat.{flat-append}
 use Rattle.words.specs.Laying.{Stored}
 use Rattle.words.proofs.LayingLaws.{Left, left-room, left-more, left-last, left-none}
-use Rattle.list.specs.Changes.{Pair}
-use Rattle.writer.specs.Writer.{runs, markedFrom, pairBytes}
+use Rattle.runs.specs.Changes.{Pair}
+use Rattle.runs.specs.Writer.{runs, markedFrom, pairBytes}
 use Rattle.writer.specs.Passes.{endedRun, rowAfter, pairOf, pairsFrom, ifMarked, element, markedElements, Passed}
 use Rattle.writer.specs.declared.Progress.{Progress}
 use Rattle.writer.proofs.Marks.{runs-more, runs-end}

@@ -7,9 +7,9 @@ use lib.ListN.{length}
 use Rattle.words.specs.Choice.{if_then_else_}
 use Rattle.words.specs.Sections.{flat, part}
 use Rattle.words.specs.Laying.{Stored}
-use Rattle.list.specs.Changes.{Pair}
+use Rattle.runs.specs.Changes.{Pair}
 use Rattle.words.specs.Blocks.{blockSize, printSize}
-use Rattle.writer.specs.Writer.{runBefore, runs, markedFrom, pairBytes, markedList}
+use Rattle.runs.specs.Writer.{runBefore, runs, markedFrom, pairBytes, markedList}
 use Rattle.writer.specs.declared.Tally.{Tally}
 use Rattle.writer.specs.declared.Progress.{Progress}
 

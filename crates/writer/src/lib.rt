@@ -8,7 +8,7 @@ ghost use Rattle.words.specs.Lists.{all};
 ghost use Rattle.words.specs.Laying.{Stored};
 ghost use Rattle.writer.specs.Passes.{rowAfter, pairOf, pairsFrom, ifMarked, markedElements};
 ghost use Rattle.writer.specs.Passes.{counted, Counted, Passed, Room};
-ghost use Rattle.writer.specs.Writer.{Wrote, listOf, inputOk};
+ghost use Rattle.runs.specs.Writer.{Wrote, listOf, inputOk};
 use words::BLOCK_SIZE;
 use words::PRINT_SIZE;
 use words::limits::MAX_LBNS;

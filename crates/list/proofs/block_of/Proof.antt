@@ -1,7 +1,7 @@
 -- `list::block_of`: the bounds of the part are those of the block.
 use native.Mathlib.Nat.{add-sub-cancel-left}
 use borrow.Author.Needs.{needs}
-use Rattle.list.specs.Changes.{printsFrom, blocksFrom, changeAt}
+use Rattle.runs.specs.Changes.{printsFrom, blocksFrom, changeAt}
 use Rattle.list.proofs.block_of.Statement.{statement}
 use Rattle.list.proofs.block_of.Tie as tie
 

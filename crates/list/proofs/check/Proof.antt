@@ -4,7 +4,7 @@ use mathlib.Core.Path.{_≡_, sym, _∙_}
 use native.Mathlib.Omega.{arith}
 use borrow.Author.Needs.{needs}
 use Rattle.words.proofs.ChoiceLaws.{not-both}
-use Rattle.list.specs.Changes.{pairCount, pairs, listSize, pairsFit}
+use Rattle.runs.specs.Changes.{pairCount, pairs, listSize, pairsFit}
 use Rattle.list.specs.Answers.{countedOf}
 use Rattle.list.specs.declared.Counted.the-variants.{Fit}
 use Rattle.list.proofs.Reading.{fit-counted, counted-within, unfit-counted}

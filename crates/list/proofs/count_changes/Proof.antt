@@ -5,9 +5,9 @@ use native.Mathlib.Omega.{arith}
 use lib.ListN.{drop}
 use Rattle.words.proofs.ChoiceLaws.{failed, passed}
 use Rattle.words.specs.Lists.{sum}
-use Rattle.list.specs.Changes.{pairAt, pairs, lengths, changeCount, pairsFit}
+use Rattle.runs.specs.Changes.{pairAt, pairs, lengths, changeCount, pairsFit}
 use Rattle.list.specs.declared.Counted.the-variants.{Fit}
-use Rattle.list.proofs.Pairs.{pair-fits}
+use Rattle.runs.proofs.Pairs.{pair-fits}
 use Rattle.list.proofs.Reading.{fit-more, fit-stop, count-more, pairs-end, counted-fit, counted-unfit}
 use Rattle.list.proofs.count_changes.Statement.{statement}
 use Rattle.list.proofs.count_changes.Tie as tie

@@ -2,7 +2,7 @@
 use Prim.Native.Nat.{_+_}
 use native.Mathlib.Omega.{arith}
 use borrow.Author.Needs.{needs}
-use Rattle.list.specs.Changes.{pairAt}
+use Rattle.runs.specs.Changes.{pairAt}
 use Rattle.list.proofs.Cursors.{in-pair, index-within, index-pair}
 use Rattle.list.proofs.next.Statement.{statement}
 use Rattle.list.proofs.next.Tie as tie

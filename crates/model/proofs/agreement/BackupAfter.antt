@@ -14,8 +14,8 @@ use Rattle.words.specs.Choice.{if_then_else_}
 use Rattle.words.proofs.ChoiceLaws.{and-false, or-no}
 use Rattle.words.specs.Lists.{joined, countOf}
 use Rattle.words.proofs.Stores.{getD-set-kept}
-use Rattle.list.specs.Changes.{Change, changeCount, changes}
-use Rattle.list.proofs.Laws.{length-changes, changes-rise}
+use Rattle.runs.specs.Changes.{Change, changeCount, changes}
+use Rattle.runs.proofs.Laws.{length-changes, changes-rise}
 use Rattle.book.specs.Book.{volumes, Sizes, Slot, Rec, Book, entryAt, retentionOf}
 use Rattle.book.specs.Next.{withDay, withSlot}
 use Rattle.book.proofs.FormParts.{book-parts}

@@ -7,7 +7,7 @@ use mathlib.Core.List.{List}
 use native.Mathlib.Omega.{arith}
 use Rattle.words.specs.Lists.{someOf}
 use Rattle.words.specs.Outcome.{Outcome, refused, accepted, andThen, unless}
-use Rattle.list.specs.Changes.{changes, changeCount, lbns}
+use Rattle.runs.specs.Changes.{changes, changeCount, lbns}
 use Rattle.book.specs.Book.{volumes, Book, entryAt, retentionOf}
 use Rattle.book.proofs.SizesIn.{sizes-facts}
 use Rattle.model.specs.Backup.{Work, Backed, begun, closed, runChanges, backupNumber, backup}

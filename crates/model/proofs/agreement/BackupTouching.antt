@@ -10,8 +10,8 @@ use lib.Seq.{getD-set-same}
 use Rattle.words.proofs.Appends.{map-append, lastOf-append}
 use Rattle.words.specs.Blocks.{unmapped}
 use Rattle.words.specs.Lists.{someOf, lastOf}
-use Rattle.list.specs.Changes.{changes, changeCount, lbns}
-use Rattle.list.proofs.Laws.{changes-lbns}
+use Rattle.runs.specs.Changes.{changes, changeCount, lbns}
+use Rattle.runs.proofs.Laws.{changes-lbns}
 use Rattle.book.specs.Book.{volumes, Rec, Book, entryAt, retentionOf}
 use Rattle.book.specs.Next.{withDay, withSlot}
 use Rattle.model.specs.Audit.{applied}

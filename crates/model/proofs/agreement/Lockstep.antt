@@ -11,7 +11,7 @@ use Rattle.words.specs.Choice.{if_then_else_}
 use Rattle.words.proofs.ChoiceLaws.{and-true}
 use Rattle.words.specs.Lists.{all}
 use Rattle.words.specs.Outcome.{Outcome, refused, accepted, andThen, unless}
-use Rattle.list.specs.Changes.{Change}
+use Rattle.runs.specs.Changes.{Change}
 use Rattle.book.specs.Book.{Book, cellAt}
 use Rattle.model.specs.Backup
 use Rattle.model.specs.Backup.{Work, Placed, moveTo, changeStep, runChanges}

@@ -13,7 +13,7 @@ use Rattle.words.specs.Choice.{if_then_else_}
 use Rattle.words.specs.Lists.{same}
 use Rattle.words.proofs.Stores.{getD-set-kept}
 use Rattle.words.specs.Outcome.{Outcome, refused, accepted}
-use Rattle.list.specs.Changes.{Change}
+use Rattle.runs.specs.Changes.{Change}
 use Rattle.book.specs.Book.{Entry, Book, entryAt, freeEntry}
 use Rattle.book.specs.Next.{withCursor, withEntries, heldAs}
 use Rattle.model.specs.Pool.{poolSize, blockAt}

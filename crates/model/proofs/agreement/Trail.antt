@@ -15,7 +15,7 @@ use Rattle.words.proofs.ChoiceLaws.{or-r, or-no, not-both}
 use Rattle.words.specs.Lists.{bit}
 use Rattle.words.specs.Lists.{someOf, those, differ}
 use Rattle.words.proofs.Tests.{eqb-swap, or-neither}
-use Rattle.list.specs.Changes.{Change}
+use Rattle.runs.specs.Changes.{Change}
 use Rattle.book.specs.Book.{Entry, Rec, Book, entryAt, cellAt}
 use Rattle.book.specs.Next.{withEntries, withMaps, withRecord}
 use Rattle.model.specs.Audit.{applied, hasBefore, printsSound}

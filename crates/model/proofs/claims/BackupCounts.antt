@@ -17,8 +17,8 @@ use Rattle.words.specs.Lists.{bit}
 use Rattle.words.proofs.Counting.{count-set, count-set-kept}
 use Rattle.words.specs.Lists.{countOf, same}
 use Rattle.words.specs.Outcome.{refused, accepted, andThen}
-use Rattle.list.specs.Changes.{Change, changes, changeCount}
-use Rattle.list.proofs.Laws.{length-changes}
+use Rattle.runs.specs.Changes.{Change, changes, changeCount}
+use Rattle.runs.proofs.Laws.{length-changes}
 use Rattle.book.specs.Book.{Entry, Rec, Book, entryAt, freeEntry, cellAt, retentionOf}
 use Rattle.book.specs.Next.{withDay, withCursor, withEntries, withMaps, withRecord, withSlot, countAs, expiryAs, heldAs}
 use Rattle.model.specs.Pool.{blockAt}

@@ -11,7 +11,7 @@ use Rattle.words.proofs.Accepted.{unless-accepted, then-accepted}
 use Rattle.words.specs.Blocks.{blockSize}
 use Rattle.words.specs.Choice.{if_then_else_}
 use Rattle.words.specs.Outcome.{Outcome, refused, accepted, andThen}
-use Rattle.list.specs.Changes.{Change, changes, changeCount}
+use Rattle.runs.specs.Changes.{Change, changes, changeCount}
 use Rattle.book.specs.Book.{Sizes, Entry, Book, entryAt}
 use Rattle.book.proofs.Bytes.{length-bytes}
 use Rattle.book.specs.Layout.{bookSize, bytes}

@@ -5,7 +5,7 @@ use mathlib.Core.Bool.{true, false, not}
 use mathlib.Core.List.{List, [], _∷_, _++_}
 use native.Mathlib.Omega.{arith}
 use Rattle.words.specs.Outcome.{Outcome, refused, accepted, andThen, unless}
-use Rattle.list.specs.Changes.{changeCount}
+use Rattle.runs.specs.Changes.{changeCount}
 use Rattle.book.specs.Book.{Sizes, Book, Entry, entryAt, isFree}
 use Rattle.book.proofs.Bytes.{length-bytes}
 use Rattle.book.specs.Form.{sizesOk}

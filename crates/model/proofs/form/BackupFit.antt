@@ -13,8 +13,8 @@ use Rattle.words.proofs.ChoiceLaws.{true-and}
 use Rattle.words.specs.Lists.{all}
 use Rattle.words.specs.Outcome.{accepted, andThen}
 use Rattle.words.proofs.Tests.{or-neither}
-use Rattle.list.specs.Changes.{changes, changeCount}
-use Rattle.list.proofs.Laws.{length-changes}
+use Rattle.runs.specs.Changes.{changes, changeCount}
+use Rattle.runs.proofs.Laws.{length-changes}
 use Rattle.book.specs.Book.{Slot, Book, retentionOf}
 use Rattle.book.specs.Form.{enrolled, slotOk}
 use Rattle.book.specs.Next.{withDay, withSlot}

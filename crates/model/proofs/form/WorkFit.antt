@@ -12,7 +12,7 @@ use Rattle.words.specs.Choice.{if_then_else_}
 use Rattle.words.specs.Lists.{all, same}
 use Rattle.words.specs.Outcome.{refused, accepted}
 use Rattle.words.proofs.Places.{all-set}
-use Rattle.list.specs.Changes.{Change}
+use Rattle.runs.specs.Changes.{Change}
 use Rattle.book.specs.Book.{volumes, Entry, Book, freeEntry, entryAt}
 use Rattle.book.specs.Form.{recOk}
 use Rattle.book.specs.Next.{withCursor, withEntries, heldAs}

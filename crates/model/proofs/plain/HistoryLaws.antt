@@ -12,7 +12,7 @@ use Rattle.words.specs.Choice.{if_then_else_}
 use Rattle.words.specs.Lists.{orElse, joined}
 use Rattle.words.proofs.Appends.{map-append, joined-append}
 use Rattle.words.specs.Outcome.{accepted, unless}
-use Rattle.list.specs.Changes.{Change}
+use Rattle.runs.specs.Changes.{Change}
 use Rattle.model.specs.Days.{keptBefore, kept}
 use Rattle.model.proofs.kept.DayLaws.{kept-before}
 use Rattle.model.specs.Calls.{block}

@@ -11,7 +11,7 @@ use Rattle.words.specs.Choice.{if_then_else_}
 use Rattle.words.specs.Lists.{orElse, same}
 use Rattle.words.specs.Outcome.{accepted}
 use Rattle.words.proofs.Accepted.{unless-accepted, then-accepted}
-use Rattle.list.specs.Changes.{Change}
+use Rattle.runs.specs.Changes.{Change}
 use Rattle.model.specs.Plain.{Block}
 use Rattle.model.specs.PlainBackup.{Work, Placed, place, moveNumber, moved, moveTo, changeStep, runChanges}
 use Rattle.model.specs.History.{lastBlock}

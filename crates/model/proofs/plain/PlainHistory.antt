@@ -10,7 +10,7 @@ use Rattle.words.specs.Choice.{if_then_else_}
 use Rattle.words.proofs.ChoiceLaws.{and-false}
 use Rattle.words.proofs.Tests.{or-neither}
 use Rattle.words.specs.Outcome.{Outcome, refused, accepted, andThen, unless}
-use Rattle.list.specs.Changes.{changes, changeCount}
+use Rattle.runs.specs.Changes.{changes, changeCount}
 use Rattle.book.specs.Book.{volumes}
 use Rattle.model.specs.Days.{badDay, notAfter, badRetention}
 use Rattle.model.proofs.kept.DayLaws.{good-day}

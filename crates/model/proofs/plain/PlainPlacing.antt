@@ -14,7 +14,7 @@ use Rattle.words.specs.Lists.{placeFrom, orElse, same}
 use Rattle.words.proofs.Same.{same-equal}
 use Rattle.words.proofs.Found.{place-found}
 use Rattle.words.specs.Outcome.{refused, accepted}
-use Rattle.list.specs.Changes.{Change}
+use Rattle.runs.specs.Changes.{Change}
 use Rattle.model.specs.Plain.{Block, free, held, isFree, bytesOf}
 use Rattle.model.specs.PlainBackup.{Work, Placed, hasPrint, findHeld, findFree, takeBlock, placeFree, placeHeld, place}
 use Rattle.model.proofs.plain.PlainShows.{heldBytes, shownAt}

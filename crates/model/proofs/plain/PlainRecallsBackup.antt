@@ -15,7 +15,7 @@ use Rattle.words.specs.Blocks.{unmapped}
 use Rattle.words.specs.Choice.{if_then_else_}
 use Rattle.words.proofs.Appends.{map-append}
 use Rattle.words.specs.Outcome.{accepted}
-use Rattle.list.specs.Changes.{Change}
+use Rattle.runs.specs.Changes.{Change}
 use Rattle.book.specs.Book.{volumes}
 use Rattle.model.specs.Days.{kept}
 use Rattle.model.specs.Plain.{Block, Image, Volume, Plain, withDay, withBlocks, withVolume, volumeAt, daysOf, current, currentMaps}

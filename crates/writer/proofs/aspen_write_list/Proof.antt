@@ -5,7 +5,7 @@ use lib.ListN.{length}
 use native.Mathlib.Omega.{arith}
 use borrow.Author.Needs.{needs}
 use Rattle.words.proofs.ChoiceLaws.{failed, passed}
-use Rattle.writer.specs.Writer.{inputOk, markedList}
+use Rattle.runs.specs.Writer.{inputOk, markedList}
 use Rattle.writer.proofs.Lengths.{length-list}
 use Rattle.writer.proofs.Whole.{Fit, input-fits, wrote-none, wrote-short, wrote-list}
 use Rattle.writer.proofs.aspen_write_list.Statement.{statement}

@@ -1,7 +1,7 @@
 -- `input_ok`: the tests of `inputOk` in their order.
 use borrow.Author.Needs.{needs}
 use borrow.Author.Tests.{le-leb, lt-leb, eq-eqb, ne-eqb}
-use Rattle.writer.specs.Writer.{inputOk}
+use Rattle.runs.specs.Writer.{inputOk}
 use Rattle.writer.proofs.input_ok.Statement.{statement}
 use Rattle.writer.proofs.input_ok.Tie as tie
 

@@ -5,7 +5,7 @@ use mathlib.Core.Bool.{false}
 use native.Mathlib.Numerals.{add-one}
 use native.Mathlib.Omega.{arith}
 use Rattle.list.specs.Answers.{checkedOf}
-use Rattle.list.proofs.Laws.{good-number, refused-number, good-whole}
+use Rattle.list.proofs.AnswerLaws.{good-number, refused-number, good-whole}
 use Rattle.book.specs.Book.{retentionOf}
 use Rattle.book.proofs.Conditions.{retention-in}
 use Rattle.book.specs.Layout.{bookOf}

@@ -3,8 +3,8 @@ use Prim.Native.Nat.{_-_, _≤_}
 use mathlib.Core.Path.{_≡_, refl, sym, ap, _∙_}
 use native.Mathlib.Omega.{arith}
 use lib.ListN.{length}
-use Rattle.list.specs.Changes.{changeCount}
-use Rattle.list.proofs.Laws.{length-block}
+use Rattle.runs.specs.Changes.{changeCount}
+use Rattle.list.proofs.AnswerLaws.{length-block}
 use Rattle.book.specs.Book.{Sizes}
 use Rattle.book.specs.Layout.{bookOf}
 use Rattle.placer.proofs.PoolLaws.{Known}

@@ -2,8 +2,8 @@
 use Prim.Native.Nat.{_<_}
 use mathlib.Core.Path.{refl, ap}
 use native.Mathlib.Omega.{arith}
-use Rattle.list.specs.Changes.{changeCount}
-use Rattle.list.proofs.Laws.{changes-within, change-below}
+use Rattle.runs.specs.Changes.{changeCount}
+use Rattle.runs.proofs.Laws.{changes-within, change-below}
 use Rattle.book.specs.Book.{Sizes}
 use Rattle.book.specs.Layout.{bookOf}
 use Rattle.mover.proofs.ChangeLaws.{placed-as, change-unplaced, change-by, move-indexed}

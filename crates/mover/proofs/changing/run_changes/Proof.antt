@@ -3,7 +3,7 @@ use Prim.Native.Nat.{ℕ, _+_, _-_, _≤_, _<_}
 use mathlib.Core.Path.{_≡_, refl, ap, _∙_}
 use native.Mathlib.Omega.{arith}
 use lib.ListN.{length, drop}
-use Rattle.list.specs.Changes.{changeCount, changeAt, changes}
+use Rattle.runs.specs.Changes.{changeCount, changeAt, changes}
 use Rattle.list.specs.Answers.{indexOf, Valid}
 use Rattle.book.specs.Layout.{bookOf, Holds}
 use Rattle.model.specs.Backup.{runChanges}

@@ -7,8 +7,8 @@ use lib.ListN.{length}
 use Rattle.words.specs.Blocks.{printSize}
 use Rattle.words.proofs.ChoiceLaws.{failed, passed}
 use Rattle.words.specs.Sections.{part}
-use Rattle.list.specs.Changes.{changeCount, changeAt}
-use Rattle.list.proofs.Laws.{print-part, changes-within}
+use Rattle.runs.specs.Changes.{changeCount, changeAt}
+use Rattle.runs.proofs.Laws.{print-part, changes-within}
 use Rattle.book.specs.Book.{Sizes}
 use Rattle.book.specs.Layout.{bookOf}
 use Rattle.model.specs.Backup.{findHeld}

@@ -3,8 +3,8 @@ use Prim.Native.Nat.{ℕ, _%_}
 use mathlib.Core.Path.{_≡_, refl, ap, ap₂, _∙_}
 use native.Mathlib.Omega.{arith}
 use lib.ListN.{length}
-use Rattle.list.specs.Changes.{changeAt}
-use Rattle.list.proofs.Laws.{length-print}
+use Rattle.runs.specs.Changes.{changeAt}
+use Rattle.runs.proofs.Laws.{length-print}
 use Rattle.book.specs.Book.{Book}
 use Rattle.book.specs.Layout.{bookOf, Is}
 use Rattle.book.specs.Next.{withEntries, withEntry, heldAs}

@@ -6,14 +6,14 @@ use lib.Dec.{leb}
 use Rattle.words.specs.Lists.{each}
 use Rattle.words.proofs.Each.{each-none, each-grow}
 use Rattle.words.specs.Numbers.{num}
-use Rattle.book.specs.Layout.{retentionPlace}
+use Rattle.book.specs.Layout.{retentionOffset}
 use Rattle.book.specs.Form.{retentionOk}
 use Rattle.sections.specs.Checks.{retentionsOk}
 use Rattle.sections.proofs.blocks.retentions_ok.Statement.{statement}
 use Rattle.sections.proofs.blocks.retentions_ok.Tie as tie
 
 abbrev Inv-loop : tie.InvT-loop
-Inv-loop b good₀ v₀ good v = (v ≤ 8) × (good ≡ each (λ v. retentionOk (num b (retentionPlace v))) 0 v)
+Inv-loop b good₀ v₀ good v = (v ≤ 8) × (good ≡ each (λ v. retentionOk (num b (retentionOffset v))) 0 v)
 
 abbrev μ-loop : tie.MeasureT-loop
 μ-loop b good₀ v₀ good v = 8 - v

@@ -8,7 +8,7 @@ use lib.ListN.{getD}
 use denote.Ref.{now}
 use Rattle.words.proofs.ChoiceLaws.{failed, passed}
 use Rattle.words.specs.Numbers.{num}
-use Rattle.book.specs.Layout.{dayPlace}
+use Rattle.book.specs.Layout.{dayOffset}
 use Rattle.slots.specs.Days.{noLasts}
 use Rattle.slots.specs.Slots.{slotHere, slotsLeft}
 use Rattle.slots.proofs.SlotLaws.{slots-more, slots-stop, slots-end, slot-bounds}
@@ -56,7 +56,7 @@ bounds : (c : tie.Else1 Inv-loop μ-loop)
     → let m = c .before .before .before .before in
     let b = now (m .before .before .args .b) in
     let at = m .before .before .args .from + m .loop .q * 8 in
-    (getD b at 0 < 8) × (num b (at + 2) ≤ num b dayPlace)
+    (getD b at 0 < 8) × (num b (at + 2) ≤ num b dayOffset)
 bounds c = slot-bounds _ _ _ _ _ (here c)
 
 add-lasts : tie.Need-add-lasts Inv-loop μ-loop
