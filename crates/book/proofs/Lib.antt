@@ -16,3 +16,4 @@ pub mod FormParts
 pub mod Conditions
 pub mod InForm
 pub mod FormedLaws
+pub mod AfterD

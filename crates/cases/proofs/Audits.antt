@@ -11,7 +11,7 @@ use Rattle.book.specs.Next.{withEntry, withCell, countAs, expiryAs, heldAs, fre
 use Rattle.model.specs.OnBytes.{auditBytes}
 use Rattle.cases.proofs.Open.{model}
 use Rattle.cases.proofs.Letters.{B, printOf}
-use Rattle.cases.proofs.Cases.{afterD}
+use Rattle.book.proofs.AfterD.{afterD}
 
 unfoldable pub good : Book
 good = bookOf afterD
