@@ -16,9 +16,9 @@ use Rattle.words.specs.Lists.{all, someOf, countOf, joined, upFrom}
 use Rattle.words.proofs.Places.{place-some, place-all, countOf-none, someOf-joined}
 use Rattle.book.specs.Book.{Book, Sized, entryAt, cellAt}
 use Rattle.book.specs.Layout.{bookOf}
-use Rattle.book.specs.Formed.{BookParts}
+use Rattle.book.specs.FormFacts.{BookParts}
 use Rattle.book.proofs.Conditions.{entry-in, cell-in}
-use Rattle.book.specs.Formed.{Formed}
+use Rattle.book.specs.FormFacts.{FormFacts}
 use Rattle.model.specs.Journal.{journal}
 use Rattle.model.specs.Audit.{mapsSound, countSound, expirySound, printsSound, cellSound, currentSound, backupsSound, audit}
 use Rattle.model.specs.JournalAt.{takenSound}
@@ -112,5 +112,5 @@ module _ (x : Book) (s : Sized x) (p : BookParts x) where
           let now = counts-current f in
           rw (kept-befores x (maps-replayed x s p e) now) (last expiries (printsSound x) (currentSound x) (backupsSound x) now)
 
-pub formed-audit : {b : List ℕ} → Formed b → audit (bookOf b) ≡ auditPasses (bookOf b)
+pub formed-audit : {b : List ℕ} → FormFacts b → audit (bookOf b) ≡ auditPasses (bookOf b)
 formed-audit {b} f = sym (audit-passes (bookOf b) (f .holds .sized) (f .parts) (f .holds .l))

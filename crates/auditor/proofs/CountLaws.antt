@@ -15,10 +15,10 @@ use Rattle.words.specs.Blocks.{unmapped}
 use Rattle.words.specs.Choice.{if_then_else_}
 use Rattle.words.proofs.Each.{all-each}
 use Rattle.words.specs.Lists.{all, countOf, joined, upFrom}
-use Rattle.words.proofs.Stores.{getD-set}
+use Rattle.words.proofs.SetLaws.{getD-set}
 use Rattle.book.specs.Book.{volumes}
 use Rattle.book.specs.Layout.{bookOf}
-use Rattle.book.specs.Formed.{Formed}
+use Rattle.book.specs.FormFacts.{FormFacts}
 use Rattle.model.specs.Audit.{countSound}
 use Rattle.replay.specs.Matching.{matching}
 use Rattle.replay.proofs.MatchingLaws.{matching-same}
@@ -56,7 +56,7 @@ counted-row ms v h f g =
     rw (add-one v, take-suc ms v [] h, joined-append (take v ms) (getD ms v [] ∷ []), append-nil (getD ms v [])) (counted-append f g)
 
 -- .. all rows of a book in form
-pub counted-rows : {b : List ℕ} → Formed b → {a a′ : List ℕ} → Counted a (joined (take volumes (bookOf b .maps))) a′ → Counted a (joined (bookOf b .maps)) a′
+pub counted-rows : {b : List ℕ} → FormFacts b → {a a′ : List ℕ} → Counted a (joined (take volumes (bookOf b .maps))) a′ → Counted a (joined (bookOf b .maps)) a′
 counted-rows {b} f c =
     let whole : take volumes (bookOf b .maps) ≡ bookOf b .maps = take-all volumes (bookOf b .maps) (omega (arith, f .holds .sized .maps)) in
     rw whole at c
@@ -75,7 +75,7 @@ counted-le {a} {cs} k p h b f = omega (arith, f .at p h, countOf-le (eqb p) cs)
 
 -- ---- "each count is the number of map cells naming the block"
 
-pub counts-sound : {b : List ℕ} → Formed b → {a : List ℕ} {t : Bool} → Counted (replicate poolBlocks 0) (joined (bookOf b .maps)) a
+pub counts-sound : {b : List ℕ} → FormFacts b → {a : List ℕ} {t : Bool} → Counted (replicate poolBlocks 0) (joined (bookOf b .maps)) a
     → t ≡ matching (countOfBlock (bookOf b .entries)) (numberAt a) (bookOf b .sizes .n) → t ≡ all (countSound (bookOf b)) (upFrom 0 (bookOf b .sizes .n))
 unfolding countSound
 counts-sound {b} f {a} c e =

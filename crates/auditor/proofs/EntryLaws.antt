@@ -10,7 +10,7 @@ use Rattle.words.proofs.ChoiceLaws.{and-swap}
 use Rattle.words.specs.Lists.{all, joined, upFrom}
 use Rattle.book.specs.Book.{Entry}
 use Rattle.book.specs.Layout.{bookOf}
-use Rattle.book.specs.Formed.{Formed}
+use Rattle.book.specs.FormFacts.{FormFacts}
 use Rattle.model.specs.Journal.{journal}
 use Rattle.model.specs.Audit.{untilIn, countSound, expirySound}
 use Rattle.auditor.specs.Counts.{Counted, countOfBlock}
@@ -35,7 +35,7 @@ module _ (es : List Entry) (counts expiries : List ℕ) where
       (eqb (countOfBlock es n) (numberAt counts n)) (eqb (expiryOfBlock es n) (numberAt expiries n)))
 
 -- counts from the maps and expiries from the journal: two tests of audit
-pub entries-sound : {b : List ℕ} → Formed b → {counts expiries : List ℕ} {t : Bool} → Counted (replicate poolBlocks 0) (joined (bookOf b .maps)) counts
+pub entries-sound : {b : List ℕ} → FormFacts b → {counts expiries : List ℕ} {t : Bool} → Counted (replicate poolBlocks 0) (joined (bookOf b .maps)) counts
     → Raised (replicate poolBlocks 0) (λ p. untilIn (bookOf b) p (journal (bookOf b))) expiries
     → t ≡ entriesMatch (bookOf b .entries) counts expiries (bookOf b .sizes .n)
     → t ≡ (all (countSound (bookOf b)) (upFrom 0 (bookOf b .sizes .n)) && all (expirySound (bookOf b)) (upFrom 0 (bookOf b .sizes .n)))

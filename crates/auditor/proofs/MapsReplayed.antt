@@ -14,10 +14,10 @@ use Rattle.words.proofs.ChoiceLaws.{and-true}
 use Rattle.words.proofs.Each.{each-at, all-each}
 use Rattle.words.specs.Lists.{all, upFrom}
 use Rattle.words.proofs.Same.{same-equal}
-use Rattle.words.proofs.Stores.{getD-set}
+use Rattle.words.proofs.SetLaws.{getD-set}
 use Rattle.book.specs.Book.{volumes, Sizes, Slot, Rec, Book, Sized}
 use Rattle.book.specs.Form.{enrolled, pbnOk, recOk, slotOk, laterOk, daysOk}
-use Rattle.book.specs.Formed.{BookParts}
+use Rattle.book.specs.FormFacts.{BookParts}
 use Rattle.model.specs.Journal.{Backup, journalOf, journal, backupsIn}
 use Rattle.model.specs.Audit.{applied, replayed, beforesIn, befores, noMaps, sameMap, mapsSound}
 use Rattle.model.proofs.kept.Sound.{Sound, SoundAll, Days}

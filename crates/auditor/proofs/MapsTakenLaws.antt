@@ -11,7 +11,7 @@ use Rattle.words.proofs.Each.{each-none, each-grow}
 use Rattle.words.specs.Lists.{joined}
 use Rattle.book.specs.Book.{volumes, Book}
 use Rattle.book.specs.Layout.{bookOf}
-use Rattle.book.specs.Formed.{Formed}
+use Rattle.book.specs.FormFacts.{FormFacts}
 use Rattle.auditor.specs.Counts.{Counted}
 use Rattle.auditor.proofs.CountLaws.{counted-none, counted-row, counted-le, counted-rows}
 use Rattle.replay.specs.Table.{rowSize, poolBlocks}
@@ -36,7 +36,7 @@ taking-start x cells {n} z =
 pub taking-long : {x : Book} {cells : List ℕ} {v : ℕ} {good : Bool} {a : List ℕ} → MapsTaking x cells v good a → length a ≡ poolBlocks
 taking-long w = w .counts .long ∙ length-replicate {A = ℕ} poolBlocks 0
 
-module _ {b : List ℕ} (f : Formed b) {cells : List ℕ} {v : ℕ} {good : Bool} {a : List ℕ} where
+module _ {b : List ℕ} (f : FormFacts b) {cells : List ℕ} {v : ℕ} {good : Bool} {a : List ℕ} where
   pub taking-row : {good′ : Bool} {a′ : List ℕ} → v < volumes → MapsTaking (bookOf b) cells v good a → RowTaken (bookOf b) cells v a good′ a′
       → MapsTaking (bookOf b) cells (v + 1) (good && good′) a′
   taking-row h w r =

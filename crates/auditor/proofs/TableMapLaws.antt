@@ -16,7 +16,7 @@ use Rattle.words.specs.Lists.{each}
 use Rattle.words.proofs.Each.{each-at, at-each, each-same, all-each}
 use Rattle.words.specs.Lists.{all, same, upFrom}
 use Rattle.words.proofs.Same.{same-self, same-equal}
-use Rattle.words.proofs.Stores.{getD-set}
+use Rattle.words.proofs.SetLaws.{getD-set}
 use Rattle.book.specs.Book.{volumes, Sizes, Rec, Book, Sized, cellAt}
 use Rattle.book.specs.Form.{pbnOk, recOk}
 use Rattle.model.specs.Journal.{Backup, journal}

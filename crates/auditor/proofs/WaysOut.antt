@@ -6,7 +6,7 @@ use mathlib.Core.List.{List}
 use lib.ListN.{replicate}
 use Rattle.words.specs.Lists.{all, upFrom}
 use Rattle.book.specs.Book.{Book}
-use Rattle.book.specs.Formed.{Formed}
+use Rattle.book.specs.FormFacts.{FormFacts}
 use Rattle.book.specs.Layout.{bookOf}
 use Rattle.model.specs.Audit.{countSound, expirySound, printsSound, audit}
 use Rattle.model.specs.Journal.{journal}
@@ -19,7 +19,7 @@ use Rattle.replay.specs.Slots.{JournalTaken}
 use Rattle.replay.specs.Table.{tableAfter, tableBefores, poolBlocks}
 use Rattle.auditor.specs.TableMaps.{tableMatches}
 
-module _ {b : List ℕ} (f : Formed b) {j : Bool} {c e : List ℕ} (t : JournalTaken (bookOf b) j noCells (replicate poolBlocks 0) c e) where
+module _ {b : List ℕ} (f : FormFacts b) {j : Bool} {c e : List ℕ} (t : JournalTaken (bookOf b) j noCells (replicate poolBlocks 0) c e) where
   abbrev x : Book
   x = bookOf b
 

@@ -1,7 +1,7 @@
 // Audit: whether the book is sound.
 ghost use mathlib.Core.Path.{_≡_};
 ghost use Rattle.book.specs.Layout.{told};
-ghost use Rattle.book.specs.Formed.{Formed};
+ghost use Rattle.book.specs.FormFacts.{FormFacts};
 ghost use Rattle.model.specs.Audit.{audit};
 ghost use Rattle.auditor.specs.Contracts.{Audited};
 use super::maps::maps_match;
@@ -16,7 +16,7 @@ use words::limits::MAX_BLOCKS;
 // The records leave cells and expiries, the maps leave counts. That no current map names a free block follows from form
 // and the counts.
 fn is_sound(book: &[u8]) -> bool
-    requires { ⌜ Formed (now book) ⌝ }
+    requires { ⌜ FormFacts (now book) ⌝ }
     ensures { λ r. ⌜ r ≡ audit (told (book .entry)) ⌝ }
 {
     let mut cells = [UNMAPPED; CELLS];

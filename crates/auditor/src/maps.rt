@@ -4,7 +4,7 @@ ghost use Prim.Native.Nat.{_*_, _<_};
 ghost use lib.ListN.{getD};
 ghost use Rattle.book.specs.Book.{volumes};
 ghost use Rattle.book.specs.Layout.{told};
-ghost use Rattle.book.specs.Formed.{Formed};
+ghost use Rattle.book.specs.FormFacts.{FormFacts};
 ghost use Rattle.auditor.specs.Passes.{TakesRow, TakesMaps};
 ghost use Rattle.auditor.specs.Counts.{Counted};
 ghost use Rattle.auditor.specs.MapsTaken.{AtMost};
@@ -32,7 +32,7 @@ fn count_one(counts: &mut Table, p: PBN)
 }
 
 fn take_row(book: &[u8], cells: &Cells, counts: &mut Table, v: u16) -> bool
-    requires { ⌜ Formed (now book) ⌝ }
+    requires { ⌜ FormFacts (now book) ⌝ }
     requires { ⌜ (v < volumes) × OfPool (now counts) × AtMost (v * rowSize) (now counts) ⌝ }
     ensures { λ r. ⌜ TakesRow book cells counts v r ⌝ }
 {
@@ -51,7 +51,7 @@ fn take_row(book: &[u8], cells: &Cells, counts: &mut Table, v: u16) -> bool
 
 // The counts start at 0, whatever was there.
 pub fn maps_match(book: &[u8], cells: &Cells, counts: &mut Table) -> bool
-    requires { ⌜ Formed (now book) ⌝ }
+    requires { ⌜ FormFacts (now book) ⌝ }
     ensures { λ r. ⌜ TakesMaps book cells counts r ⌝ }
 {
     *counts = [0u16; MAX_BLOCKS];

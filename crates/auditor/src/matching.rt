@@ -1,7 +1,7 @@
 // Audit: the entries, once. Each count and each expiry is what was gathered for the block.
 ghost use Prim.Native.Nat.{_<_};
 ghost use Rattle.book.specs.Layout.{told};
-ghost use Rattle.book.specs.Formed.{Formed};
+ghost use Rattle.book.specs.FormFacts.{FormFacts};
 ghost use Rattle.auditor.specs.Passes.{MatchesEntry, MatchesEntries};
 use entries::entry::count;
 use entries::entry::expiry;
@@ -11,7 +11,7 @@ use words::limits::Table;
 use words::wide;
 
 fn entry_matches(book: &[u8], counts: &Table, expiries: &Table, p: PBN) -> bool
-    requires { ⌜ Formed (now book) ⌝ }
+    requires { ⌜ FormFacts (now book) ⌝ }
     requires { ⌜ p .0 < told book .sizes .n ⌝ }
     ensures { λ r. ⌜ MatchesEntry book counts expiries (p .0) r ⌝ }
 {
@@ -20,7 +20,7 @@ fn entry_matches(book: &[u8], counts: &Table, expiries: &Table, p: PBN) -> bool
 }
 
 pub fn entries_match(book: &[u8], counts: &Table, expiries: &Table) -> bool
-    requires { ⌜ Formed (now book) ⌝ }
+    requires { ⌜ FormFacts (now book) ⌝ }
     ensures { λ r. ⌜ MatchesEntries book counts expiries r ⌝ }
 {
     let n = blocks(book);

@@ -2,7 +2,7 @@
 // those above before it is linked.
 ghost use mathlib.Core.Path.{_≡_};
 ghost use Rattle.book.specs.Layout.{told};
-ghost use Rattle.book.specs.Formed.{Formed};
+ghost use Rattle.book.specs.FormFacts.{FormFacts};
 ghost use Rattle.model.specs.Audit.{printsSound};
 use fields::header::blocks;
 use index::clear;
@@ -11,7 +11,7 @@ use words::PBN;
 use words::limits::MAX_BLOCKS;
 
 pub fn prints_sound(book: &[u8]) -> bool
-    requires { ⌜ Formed (now book) ⌝ }
+    requires { ⌜ FormFacts (now book) ⌝ }
     ensures { λ r. ⌜ r ≡ printsSound (told (book .entry)) ⌝ }
 {
     let mut heads = [0u16; MAX_BLOCKS];

@@ -16,7 +16,7 @@ use Rattle.words.specs.Sections.{flat, fit, tab, part}
 use Rattle.words.proofs.SectionLaws.{length-tab, getD-tab, part-add, part-cons, part-tab, flat-tab, fit-tab, fit-all, joined-parts}
 use Rattle.book.specs.Book.{volumes, Sizes, freeEntry, noSlot, noRec, Sized}
 use Rattle.book.specs.Layout.{layoutNumber, headerSize, entrySize, slotSize, recSize, bOffset, uOffset, dayOffset, cursorOffset, retentionOffset, entriesFrom, entryOffset, mapsFrom, slotsFrom, slotOffset, recordsFrom, recOffset, stateByte, entryBytes, mapBytes, slotBytes, recBytes, bytes, sizesOf, entryOf, cellOf, slotOf, recOf, bookOf}
-use Rattle.book.proofs.Shape.{Shape}
+use Rattle.book.proofs.Outline.{Outline}
 
 -- a state's byte, where it is 0 or 1
 state-byte : (s : ℕ) → s ≤ 1 → stateByte (eqb s 1) ≡ s
@@ -74,7 +74,7 @@ module _ (b : List ℕ) (small : (i : ℕ) → getD b i 0 < 256) where
       let first : num b (o + 0) ≡ num b o = rw add-zero in
       rw first at (nums-part 3 o (λ c. num b (o + c * 2)) (omega arith) (λ c hc. refl))
 
-  module _ (s : Shape b) where
+  module _ (s : Outline b) where
     -- ---- the sections
 
     abbrev z : Sizes

@@ -16,7 +16,7 @@ use Rattle.words.proofs.ChoiceLaws.{and-true, or-cases}
 use Rattle.words.specs.Lists.{all, allZero}
 use Rattle.book.specs.Book.{Entry, Slot, Rec, Book, freeEntry, noSlot, noRec, entryAt, cellAt, slotAt, recAt, retentionOf}
 use Rattle.book.specs.Form.{retentionOk, entryOk, pbnOk, recOk, enrolled, slotOk, laterOk, daysOk, pairsOk}
-use Rattle.book.specs.Formed.{BookParts}
+use Rattle.book.specs.FormFacts.{BookParts}
 
 -- a block number is below n or unmapped
 pub pbn-cases : (n p : ℕ) → pbnOk n p ≡ true → (p < n) ⊎ (p ≡ unmapped)

@@ -12,8 +12,8 @@ use Rattle.words.specs.Sections.{fit}
 use Rattle.words.proofs.SectionLaws.{sets-cons, sets-whole, length-fit, fit-all}
 use Rattle.book.specs.Book.{Entry, Book, noPrint, freeEntry, entryAt}
 use Rattle.book.specs.Layout.{entryOffset, stateByte, entryBytes, bytes}
-use Rattle.book.specs.Next.{withEntries, countAs, expiryAs, heldAs, freed, withEntry}
-use Rattle.book.proofs.Store.{set-entry}
+use Rattle.book.specs.Next.{withEntries, countAs, expiryAs, heldAs, madeFree, withEntry}
+use Rattle.book.proofs.FieldsWritten.{set-entry}
 
 -- ---- an entry's bytes
 
@@ -79,6 +79,6 @@ module _ (x : Book) (p i : ℕ) (hp : p < x .sizes .n) (hs : length (x .entries)
   unfolding heldAs stateAs printAs
   set-held f hf = set-state-print true f hf
 
-  pub set-freed : sets (set (bytes x) (i + 1) 0) (i + 4) (replicate printSize 0) ≡ bytes (withEntry freed p x)
-  unfolding freed noPrint stateAs printAs
+  pub set-freed : sets (set (bytes x) (i + 1) 0) (i + 4) (replicate printSize 0) ≡ bytes (withEntry madeFree p x)
+  unfolding madeFree noPrint stateAs printAs
   set-freed = set-state-print false (replicate printSize 0) refl

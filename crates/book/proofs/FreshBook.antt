@@ -13,7 +13,7 @@ use Rattle.words.proofs.SectionLaws.{fit-all}
 use Rattle.book.specs.Book.{volumes, Sizes, Entry, Slot, Rec, noPrint, freeEntry, noSlot, noRec}
 use Rattle.book.specs.Layout.{layoutNumber, entrySize, slotSize, recSize, entriesFrom, mapsFrom, entryBytes, mapBytes, slotBytes, recBytes, headerWords, bytes, Is}
 use Rattle.book.specs.Next.{fresh}
-use Rattle.book.specs.Formed.{Bounds}
+use Rattle.book.specs.FormFacts.{Bounds}
 use Rattle.book.proofs.Sizing.{sized-fresh}
 use Rattle.book.proofs.Holding.{is-bytes}
 

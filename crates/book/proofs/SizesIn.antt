@@ -7,7 +7,7 @@ use borrow.Author.Tests.{leb-true, le-leb}
 use Rattle.words.proofs.ChoiceLaws.{and-true}
 use Rattle.book.specs.Book.{Sizes}
 use Rattle.book.specs.Form.{between, sizesOk}
-use Rattle.book.specs.Formed.{SizesIn}
+use Rattle.book.specs.FormFacts.{SizesIn}
 
 between-facts : (low high k : ℕ) → between low high k ≡ true → (low ≤ k) × (k ≤ high)
 unfolding between

@@ -9,8 +9,8 @@ use Rattle.words.specs.Numbers.{two, put}
 use Rattle.words.proofs.Filling.{put-sets}
 use Rattle.book.specs.Book.{volumes, Slot, Rec, Book}
 use Rattle.book.specs.Layout.{bOffset, uOffset, dayOffset, cursorOffset, retentionOffset, entryOffset, cellOffset, slotOffset, recOffset, slotBytes, recBytes, bytes, bookOf, Holds, Is}
-use Rattle.book.specs.Next.{withDay, withCursor, withRetention, withEntries, withMaps, withSlot, withRecord, countAs, expiryAs, heldAs, freed, withEntry, withCell}
-use Rattle.book.proofs.Store.{set-day, set-cursor, set-retention, set-cell, add-slot, add-record}
+use Rattle.book.specs.Next.{withDay, withCursor, withRetention, withEntries, withMaps, withSlot, withRecord, countAs, expiryAs, heldAs, madeFree, withEntry, withCell}
+use Rattle.book.proofs.FieldsWritten.{set-day, set-cursor, set-retention, set-cell, add-slot, add-record}
 use Rattle.book.proofs.Entries.{set-count, set-expiry, set-held, set-freed}
 use Rattle.book.proofs.Sizing.{sized-day, sized-cursor, sized-retention, sized-count, sized-expiry, sized-held, sized-freed, sized-cell, sized-slot, sized-record}
 use Rattle.book.proofs.Holding.{is-bytes, bounds-holds}
@@ -64,10 +64,10 @@ module _ {b : List ℕ} (h : Holds b) where
         is-bytes (withEntry (heldAs f) p x) (sized-held x (h .sized) p f hf) (bounds-holds h)
         (e ∙ ap (λ (l : List ℕ). sets (set l (i + 1) 1) (i + 4) f) (h .same) ∙ set-held x p i hp (h .sized .entries) ei f hf)
 
-    pub is-freed : {b₁ : List ℕ} → b₁ ≡ sets (set b (i + 1) 0) (i + 4) (replicate printSize 0) → Is b₁ (withEntry freed p x)
+    pub is-freed : {b₁ : List ℕ} → b₁ ≡ sets (set b (i + 1) 0) (i + 4) (replicate printSize 0) → Is b₁ (withEntry madeFree p x)
     unfolding withEntries
     is-freed e =
-        is-bytes (withEntry freed p x) (sized-freed x (h .sized) p) (bounds-holds h)
+        is-bytes (withEntry madeFree p x) (sized-freed x (h .sized) p) (bounds-holds h)
         (e ∙ ap (λ (l : List ℕ). sets (set l (i + 1) 0) (i + 4) (replicate printSize 0)) (h .same) ∙ set-freed x p i hp (h .sized .entries) ei)
 
   -- ---- from what the two stores left

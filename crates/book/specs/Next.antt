@@ -38,8 +38,8 @@ expiryAs d e = record { count = e .count; held = e .held; expiry = d; print = e 
 unfoldable pub heldAs : List ℕ → Entry → Entry
 heldAs f e = record { count = e .count; held = true; expiry = e .expiry; print = f }
 
-unfoldable pub freed : Entry → Entry
-freed e = record { count = e .count; held = false; expiry = e .expiry; print = noPrint }
+unfoldable pub madeFree : Entry → Entry
+madeFree e = record { count = e .count; held = false; expiry = e .expiry; print = noPrint }
 
 abbrev pub withEntry : (Entry → Entry) → ℕ → Book → Book
 withEntry f p x = withEntries (set (x .entries) p (f (entryAt (x .entries) p))) x

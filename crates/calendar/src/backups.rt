@@ -5,7 +5,7 @@ ghost use lib.ListN.{length};
 ghost use lib.Seq.{sets};
 ghost use Rattle.book.specs.Book.{volumes};
 ghost use Rattle.book.specs.Layout.{told, Holds};
-ghost use Rattle.book.specs.Formed.{Formed};
+ghost use Rattle.book.specs.FormFacts.{FormFacts};
 ghost use Rattle.words.specs.Laying.{Stored};
 ghost use Rattle.model.specs.Views.{backupsOf};
 ghost use Rattle.calendar.specs.Contracts.{BackupsTold};
@@ -44,7 +44,7 @@ fn next_own(book: &[u8], v: u16, q: u16) -> u16
 
 // The last day on which a backup is kept: slot `at` holds the one that replaced it, if any.
 fn kept_until(book: &[u8], at: u16, days: u16) -> u16
-    requires { ⌜ Formed (now book) ⌝ }
+    requires { ⌜ FormFacts (now book) ⌝ }
     requires { ⌜ days ≤ 5000 ⌝ }
     ensures { λ r. ⌜ r ≡ untilFrom (told (book .entry)) at days ⌝ }
 {
@@ -58,7 +58,7 @@ fn kept_until(book: &[u8], at: u16, days: u16) -> u16
 // The row of the backup in slot q, where slot `next` holds the one that replaced it, if any. It answers the offset past
 // the row.
 fn put_row(book: &[u8], q: u16, next: u16, days: u16, out: &mut [u8], at: usize) -> usize
-    requires { ⌜ Formed (now book) ⌝ }
+    requires { ⌜ FormFacts (now book) ⌝ }
     requires { ⌜ (q < length (told book .slots)) × (days ≤ 5000) ⌝ }
     requires { ⌜ at + rowSize ≤ length (now out) ⌝ }
     ensures { λ r. ⌜ Stored (now (out .entry)) at (rowFrom (told (book .entry)) q next days) (now (out .exit)) r ⌝ }
@@ -73,7 +73,7 @@ fn put_row(book: &[u8], q: u16, next: u16, days: u16, out: &mut [u8], at: usize)
 
 // The rows of the volume's backups, to the front of the output.
 fn put_rows(book: &[u8], v: u16, out: &mut [u8])
-    requires { ⌜ Formed (now book) ⌝ }
+    requires { ⌜ FormFacts (now book) ⌝ }
     requires { ⌜ (v < volumes) × (length (backupsOf (told book) v) ≤ length (now out)) ⌝ }
     ensures { λ _. ⌜ now (out .exit) ≡ sets (now (out .entry)) 0 (backupsOf (told (book .entry)) v) ⌝ }
 {

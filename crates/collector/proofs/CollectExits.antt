@@ -16,7 +16,7 @@ use Rattle.book.specs.Form.{formNumber}
 use Rattle.book.specs.Next.{withDay, withEntries}
 use Rattle.book.proofs.Holding.{bytes-is}
 use Rattle.model.specs.Days.{badDay}
-use Rattle.model.specs.Collect.{isOver, entryAfter, collectNumber, collected, collect}
+use Rattle.model.specs.Collect.{isOver, sweptEntry, collectNumber, collected, collect}
 use Rattle.model.specs.OnBytes.{collectedBytes, collectBytes}
 use Rattle.collector.specs.Contracts.{Swept}
 
@@ -47,7 +47,7 @@ module _ (book : Lent (List ℕ)) (t : ℕ) (freed : Lent ℕ) where
 
   pub collect-done : (f : formNumber b ≡ 0) {b₁ : List ℕ} → t ≤ 60000 → bookOf b .day ≤ t
       → now (freed .exit) ≡ countOf (isOver t) (bookOf b .entries)
-      → Is b₁ (withEntries (map (entryAfter t) (bookOf b .entries)) (bookOf b))
+      → Is b₁ (withEntries (map (sweptEntry t) (bookOf b .entries)) (bookOf b))
       → Is (now (book .exit)) (withDay t (bookOf b₁))
       → Swept book t freed 0
   unfolding collectBytes collect collectNumber badDay collected collectedBytes

@@ -6,7 +6,7 @@ ghost use Rattle.words.specs.Lists.{countOf};
 ghost use Rattle.book.specs.Book.{entryAt};
 ghost use Rattle.book.specs.Layout.{told, Holds, Is};
 ghost use Rattle.book.specs.Next.{withEntry, withEntries};
-ghost use Rattle.model.specs.Collect.{isOver, entryAfter};
+ghost use Rattle.model.specs.Collect.{isOver, sweptEntry};
 ghost use Rattle.collector.specs.Contracts.{Swept};
 use entries::entry;
 use fields::header;
@@ -29,7 +29,7 @@ fn free_over(book: &mut [u8], p: PBN, day: u16) -> bool
     requires { ⌜ Holds (now book) ⌝ }
     requires { ⌜ p .0 < told book .sizes .n ⌝ }
     ensures { λ r. ⌜ r ≡ isOver day (entryAt (told (book .entry) .entries) (p .0)) ⌝ }
-    ensures { λ _. ⌜ Is (now (book .exit)) (withEntry (entryAfter day) (p .0) (told (book .entry))) ⌝ }
+    ensures { λ _. ⌜ Is (now (book .exit)) (withEntry (sweptEntry day) (p .0) (told (book .entry))) ⌝ }
 {
     if !is_over(book, p, day) {
         return false;
@@ -42,7 +42,7 @@ fn free_over(book: &mut [u8], p: PBN, day: u16) -> bool
 fn sweep(book: &mut [u8], day: u16) -> u16
     requires { ⌜ Holds (now book) ⌝ }
     ensures { λ r. ⌜ r ≡ countOf (isOver day) (told (book .entry) .entries) ⌝ }
-    ensures { λ _. ⌜ Is (now (book .exit)) (withEntries (map (entryAfter day) (told (book .entry) .entries)) (told (book .entry))) ⌝ }
+    ensures { λ _. ⌜ Is (now (book .exit)) (withEntries (map (sweptEntry day) (told (book .entry) .entries)) (told (book .entry))) ⌝ }
 {
     let n = header::blocks(book);
     let mut freed: u16 = 0;

@@ -5,7 +5,7 @@ ghost use lib.ListN.{length};
 ghost use Rattle.words.specs.Blocks.{printSize};
 ghost use Rattle.book.specs.Book.{entryAt};
 ghost use Rattle.book.specs.Layout.{told, Holds, Is};
-ghost use Rattle.book.specs.Next.{countAs, expiryAs, heldAs, freed, withEntry};
+ghost use Rattle.book.specs.Next.{countAs, expiryAs, heldAs, madeFree, withEntry};
 use fields::offsets::entry_offset;
 use words::PBN;
 use words::PRINT_SIZE;
@@ -97,7 +97,7 @@ pub fn hold(book: &mut [u8], p: PBN, print: &[u8])
 pub fn free(book: &mut [u8], p: PBN)
     requires { ⌜ Holds (now book) ⌝ }
     requires { ⌜ p .0 < told book .sizes .n ⌝ }
-    ensures { λ _. ⌜ Is (now (book .exit)) (withEntry freed (p .0) (told (book .entry))) ⌝ }
+    ensures { λ _. ⌜ Is (now (book .exit)) (withEntry madeFree (p .0) (told (book .entry))) ⌝ }
 {
     let at = entry_offset(p);
     book[at + STATE] = FREE;

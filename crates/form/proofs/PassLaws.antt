@@ -22,8 +22,8 @@ use Rattle.book.specs.Book.{volumes, Slot}
 use Rattle.book.specs.Layout.{nOffset, lOffset, sOffset, jOffset, bOffset, uOffset, retentionOffset, entriesFrom, entrySize, mapsFrom, cellOffset, slotsFrom, slotSize, recSize, slotOffset, recordsFrom, recOffset, bookSize, sizesOf, entryOf, cellOf, recOf, bookOf}
 use Rattle.book.specs.Form.{retentionOk, entryOk, pbnOk, recOk, enrolled, slotOk, daysOk, pairsOk, bookOk, stateOk, secondOk, rawOk, layoutOk, formNumber}
 use Rattle.book.proofs.FormNumber.{number-0, number-2}
-use Rattle.book.specs.Formed.{BookParts}
-use Rattle.book.proofs.FormParts.{book-parts, parts-book, RawParts, raw-parts, parts-raw}
+use Rattle.book.specs.FormFacts.{BookParts}
+use Rattle.book.proofs.Clauses.{book-parts, parts-book, RawParts, raw-parts, parts-raw}
 use Rattle.slots.proofs.DayLaws.{volumeOk, days-pass}
 use Rattle.slots.specs.Days.{noLasts}
 use Rattle.slots.specs.Slots.{slotsLeft}

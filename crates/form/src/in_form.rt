@@ -5,7 +5,7 @@ ghost use lib.ListN.{length};
 ghost use Rattle.book.specs.Layout.{headerSize};
 ghost use Rattle.book.specs.Layout.{slotsFrom, sizesOf};
 ghost use Rattle.book.specs.Form.{layoutOk, formNumber};
-ghost use Rattle.book.specs.Formed.{Laid};
+ghost use Rattle.book.specs.FormFacts.{Laid};
 ghost use Rattle.form.specs.Passes.{blocksOk, slotsOk, journalOk};
 ghost use Rattle.sections.specs.Checks.{headOk, HeadIn};
 use fields::header::B_OFFSET;

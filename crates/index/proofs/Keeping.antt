@@ -7,7 +7,7 @@ use native.Mathlib.Omega.{arith}
 use lib.ListN.{length, getD, set, length-set}
 use lib.Seq.{getD-set-other, set-set}
 use Rattle.words.proofs.ChoiceLaws.{not-both}
-use Rattle.words.proofs.Stores.{getD-set-kept}
+use Rattle.words.proofs.SetLaws.{getD-set-kept}
 use Rattle.book.specs.Book.{Entry, freeEntry, entryAt}
 use Rattle.index.proofs.FirstLaws.{first-is, first-at}
 use Rattle.index.specs.Bucket.{bucketOf, inBucket, firstIn}

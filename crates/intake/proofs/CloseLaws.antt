@@ -12,7 +12,7 @@ use Rattle.runs.specs.Changes.{changeCount, changes}
 use Rattle.list.specs.declared.Shape.{Shape}
 use Rattle.book.specs.Book.{Book, entryAt}
 use Rattle.book.specs.Layout.{bookOf, told, Holds, Is}
-use Rattle.book.specs.Formed.{Formed}
+use Rattle.book.specs.FormFacts.{FormFacts}
 use Rattle.model.specs.Backup.{Work, runChanges, begun}
 use Rattle.book.proofs.Holding.{is-same}
 use Rattle.placer.proofs.PoolLaws.{start-now}
@@ -27,7 +27,7 @@ use Rattle.intake.specs.Closing.{closedBook, WorkedBy}
 abbrev pub noMarks : List ℕ
 noMarks = replicate 4096 0
 
-module _ (b : List ℕ) (f : Formed b) where
+module _ (b : List ℕ) (f : FormFacts b) where
   abbrev x : Book
   x = bookOf b
 
@@ -64,7 +64,7 @@ module _ (book pool work list taker : Lent (List ℕ)) (v until : ℕ) (r : Step
   ran w = runChanges v until (changes (now (list .entry))) w
 
   pub ran-refused : (k : ℕ) → RanBy book pool work list taker v until r → r ≡ Stop k
-      → (shape : Shape) → Formed (now (book .entry)) → Job (told (book .entry)) (now (pool .entry)) (now (list .entry)) shape
+      → (shape : Shape) → FormFacts (now (book .entry)) → Job (told (book .entry)) (now (pool .entry)) (now (list .entry)) shape
       → now (work .entry) ≡ now (book .entry) → now (taker .entry) ≡ noMarks
       → runChanges v until (changes (now (list .entry))) (begun (told (book .entry)) (now (pool .entry))) ≡ refused k
   unfolding RanBy
@@ -73,7 +73,7 @@ module _ (book pool work list taker : Lent (List ℕ)) (v until : ℕ) (r : Step
       ap ran (sym (begins (now (book .entry)) f _ _ _ shape same j)) ∙ g
 
   pub ran-through : (u : Tally) → RanBy book pool work list taker v until r → r ≡ Next u
-      → (shape : Shape) → Formed (now (book .entry)) → Job (told (book .entry)) (now (pool .entry)) (now (list .entry)) shape
+      → (shape : Shape) → FormFacts (now (book .entry)) → Job (told (book .entry)) (now (pool .entry)) (now (list .entry)) shape
       → now (work .entry) ≡ now (book .entry) → now (taker .entry) ≡ noMarks
       → RanAt (now (book .entry)) (now (pool .entry)) (now (list .entry)) v until u (now (work .exit)) (now (taker .exit))
   unfolding RanBy

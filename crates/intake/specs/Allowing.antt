@@ -12,7 +12,7 @@ use Rattle.words.specs.Outcome.{Outcome, refused, accepted, andThen}
 use Rattle.runs.specs.Changes.{changeCount, changes}
 use Rattle.book.specs.Book.{volumes, Book, retentionOf}
 use Rattle.book.specs.Layout.{bookOf}
-use Rattle.book.specs.Formed.{Formed}
+use Rattle.book.specs.FormFacts.{FormFacts}
 use Rattle.model.specs.Days.{badDay, notAfter}
 use Rattle.model.specs.Journal.{days}
 use Rattle.model.specs.Backup.{Work, runChanges, begun, closed}
@@ -44,7 +44,7 @@ goesOn x pool v t list =
 
 -- what the call knows then
 pub record Ready (b pool : List ℕ) (spare v t : ℕ) (list : List ℕ) (plan : Plan) : Type 0 where
-  pub formed : Formed b
+  pub formed : FormFacts b
   pub spared : length b ≤ spare
   pub volume : v < volumes
   pub last : t ≤ 60000

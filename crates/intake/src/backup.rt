@@ -4,7 +4,7 @@ ghost use Prim.Native.Nat.{_<_};
 ghost use lib.ListN.{length};
 ghost use Rattle.book.specs.Book.{volumes};
 ghost use Rattle.book.specs.Layout.{told, Holds, Is};
-ghost use Rattle.book.specs.Formed.{Formed};
+ghost use Rattle.book.specs.FormFacts.{FormFacts};
 ghost use Rattle.mover.specs.Stepping.{stepNumber};
 ghost use Rattle.placer.specs.Working.{Job};
 ghost use Rattle.intake.specs.Allowing.{allowedNumber};
@@ -62,7 +62,7 @@ fn work_through(
     day: u16,
     until: u16,
 ) -> Step
-    requires { ⌜ Formed (now book) × (now work ≡ now book) ⌝ }
+    requires { ⌜ FormFacts (now book) × (now work ≡ now book) ⌝ }
     requires { ⌜ Job (told book) (now pool) (now list) shape × (v < volumes) ⌝ }
     requires { ⌜ length (told book .slots) < told book .sizes .s ⌝ }
     ensures { λ r. ⌜ WorkedBy book pool work list v day until r ⌝ }

@@ -15,9 +15,9 @@ use Rattle.words.proofs.Runs.{below-or-not}
 use Rattle.book.specs.Layout.{bookOf, Holds}
 use Rattle.book.specs.Form.{formNumber}
 use Rattle.book.proofs.FormNumber.{form-cases}
-use Rattle.book.proofs.InForm.{holds-form}
+use Rattle.book.proofs.FormBytes.{holds-form}
 use Rattle.pages.specs.Tally.{tallyNumber, blocks, line, blocksWord, heldWord, freeWord, waitingWord, referencesWord, refusedWord, bookPage, tallyPage}
-use Rattle.words.proofs.Stored.{stored-front}
+use Rattle.words.proofs.SectionsLaid.{stored-front}
 use Rattle.pages.proofs.Lines.{line-fits}
 use Rattle.pages.specs.Counts.{countsOf, Few}
 use Rattle.pages.specs.declared.counts.Counts.{Counts}

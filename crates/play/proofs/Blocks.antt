@@ -15,8 +15,8 @@ use Rattle.words.specs.Lists.{all}
 use Rattle.words.specs.Outcome.{Outcome, refused, accepted, unless}
 use Rattle.words.proofs.Parts.{length-part}
 use Rattle.book.specs.Form.{formNumber}
-use Rattle.book.proofs.FormParts.{book-parts}
-use Rattle.book.proofs.InForm.{book-form}
+use Rattle.book.proofs.Clauses.{book-parts}
+use Rattle.book.proofs.FormBytes.{book-form}
 use Rattle.book.specs.Layout.{bookOf}
 use Rattle.model.specs.Calls.{Call, enrol, backup, collect, read, audit}
 use Rattle.model.specs.OnBytes.{BackedBytes, CollectedBytes, numberOf, after, poolNumber, enrolBytes, backupBytes, collectBytes}

@@ -29,7 +29,7 @@ use Rattle.auditor.specs.Contracts.{Audited}
 use Rattle.restorer.specs.Contracts.{Located}
 use Rattle.intake.specs.Contracts.{BackedUp}
 use Rattle.play.proofs.Blocks.{located-readable, located-offset, located-inside, read-is}
-use Rattle.play.proofs.Storing.{answered-block, lent-length}
+use Rattle.play.proofs.AnswersLaid.{answered-block, lent-length}
 
 -- a buffer before and after a call
 abbrev was : Lent (List ℕ) → List ℕ

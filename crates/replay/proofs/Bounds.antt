@@ -11,8 +11,8 @@ use Rattle.words.specs.Blocks.{unmapped}
 use Rattle.book.specs.Book.{volumes, Slot, Book, Sized, slotAt, recAt, retentionOf}
 use Rattle.book.specs.Layout.{bookOf}
 use Rattle.book.specs.Form.{enrolled}
-use Rattle.book.specs.Formed.{BookParts}
-use Rattle.book.specs.Formed.{Formed}
+use Rattle.book.specs.FormFacts.{BookParts}
+use Rattle.book.specs.FormFacts.{FormFacts}
 use Rattle.book.proofs.Conditions.{slot-in, rec-in, retention-in, pairs-in}
 use Rattle.journal.specs.Struct.{RecordIs}
 use Rattle.journal.specs.declared.record.Record.{Record}
@@ -53,7 +53,7 @@ pub record ReadIn (x : Book) (r : Record) : Type 0 where
   pub inRow : r .lbn .0 < 1024
   pub before : (r .before .0 < x .sizes .n) ⊎ (r .before .0 ≡ unmapped)
 
-pub read-in : {b : List ℕ} → Formed b → (q : ℕ) → q < length (bookOf b .records) → {r : Record} → RecordIs (recAt (bookOf b .records) q) r
+pub read-in : {b : List ℕ} → FormFacts b → (q : ℕ) → q < length (bookOf b .records) → {r : Record} → RecordIs (recAt (bookOf b .records) q) r
     → ReadIn (bookOf b) r
 read-in {b} f q h {r} i =
     let w = rec-in (bookOf b) (f .parts) q h in

@@ -13,11 +13,11 @@ use borrow.Author.Tests.{eqb-true, ne-eqb}
 use Rattle.words.specs.Choice.{if_then_else_}
 use Rattle.words.proofs.Each.{all-each}
 use Rattle.words.specs.Lists.{all, upFrom}
-use Rattle.words.proofs.Stores.{getD-set}
+use Rattle.words.proofs.SetLaws.{getD-set}
 use Rattle.words.proofs.Tests.{eqb-swap}
 use Rattle.book.specs.Book.{Rec, Book, noRec, recAt, retentionOf}
 use Rattle.book.specs.Layout.{bookOf}
-use Rattle.book.specs.Formed.{Formed}
+use Rattle.book.specs.FormFacts.{FormFacts}
 use Rattle.model.specs.Journal.{Backup, journal}
 use Rattle.model.specs.Audit.{hasBefore, untilIn, expirySound}
 use Rattle.replay.specs.Table.{poolBlocks, numberAt}
@@ -81,7 +81,7 @@ until-next x b bs′ e f p = rw (e, f)
 
 -- ---- "each expiry is the largest slot day plus retention over records with that before, 0 if none"
 
-pub expiries-sound : {b : List ℕ} → Formed b → {a : List ℕ} {t : Bool} → Raised (replicate poolBlocks 0) (λ p. untilIn (bookOf b) p (journal (bookOf b))) a
+pub expiries-sound : {b : List ℕ} → FormFacts b → {a : List ℕ} {t : Bool} → Raised (replicate poolBlocks 0) (λ p. untilIn (bookOf b) p (journal (bookOf b))) a
     → t ≡ matching (expiryOfBlock (bookOf b .entries)) (numberAt a) (bookOf b .sizes .n) → t ≡ all (expirySound (bookOf b)) (upFrom 0 (bookOf b .sizes .n))
 unfolding expirySound
 expiries-sound {b} f {a} c e =

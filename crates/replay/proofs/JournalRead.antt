@@ -14,8 +14,8 @@ use Rattle.words.proofs.Parts.{drop-take}
 use Rattle.words.proofs.Places.{place-all, all-take, all-drop}
 use Rattle.book.specs.Book.{volumes, Sizes, Rec, Book, Sized, slotAt, retentionOf}
 use Rattle.book.specs.Form.{recOk}
-use Rattle.book.specs.Formed.{Formed}
-use Rattle.book.specs.Formed.{BookParts}
+use Rattle.book.specs.FormFacts.{FormFacts}
+use Rattle.book.specs.FormFacts.{BookParts}
 use Rattle.book.specs.Layout.{bookOf}
 use Rattle.journal.specs.Struct.{SlotIs}
 use Rattle.journal.specs.declared.slot.Slot as read
@@ -50,7 +50,7 @@ pub record SlotRead (x : Book) (r : read.Slot) : Type 0 where
   pub records : r .first + r .number ≤ length (x .records)
   pub room : length (x .records) ≤ 16384
 
-module _ {b : List ℕ} (f : Formed b) (q : ℕ) (h : q < length (bookOf b .slots)) {r : read.Slot} (i : SlotIs (slotAt (bookOf b .slots) q) r) where
+module _ {b : List ℕ} (f : FormFacts b) (q : ℕ) (h : q < length (bookOf b .slots)) {r : read.Slot} (i : SlotIs (slotAt (bookOf b .slots) q) r) where
   pub slot-read : SlotRead (bookOf b) r
   slot-read =
       let w = slot-bounds (bookOf b) (f .holds .sized) (f .parts) q h in

@@ -14,7 +14,7 @@ use Rattle.words.specs.Lists.{all}
 use Rattle.words.proofs.Places.{all-take, all-drop}
 use Rattle.book.specs.Book.{Book, slotAt, retentionOf}
 use Rattle.book.specs.Form.{recOk}
-use Rattle.book.specs.Formed.{Formed}
+use Rattle.book.specs.FormFacts.{FormFacts}
 use Rattle.book.specs.Layout.{bookOf}
 use Rattle.journal.specs.Struct.{SlotIs}
 use Rattle.journal.specs.declared.slot.Slot as read
@@ -60,7 +60,7 @@ module _ (x : Book) (b : Backup) where
       }
 
 -- the same of a slot as the code has it
-pub slot-taken : {b : List ℕ} → Formed b → (q : ℕ) → q < length (bookOf b .slots) → {r : read.Slot} → SlotIs (slotAt (bookOf b .slots) q) r → {n n′ : Notes} {good : Bool} {u d : ℕ}
+pub slot-taken : {b : List ℕ} → FormFacts b → (q : ℕ) → q < length (bookOf b .slots) → {r : read.Slot} → SlotIs (slotAt (bookOf b .slots) q) r → {n n′ : Notes} {good : Bool} {u d : ℕ}
     → length (n .stamps) ≡ rowSize → ((l : ℕ) → getD (n .stamps) l 0 ≤ q) → u ≡ retentionOf (bookOf b) (r .volume) → d ≡ bookOf b .day
     → RecordsTaken (bookOf b) (record { volume = r .volume; until = r .day + u; past = ltb (r .day + u) d; stamp = q + 1 }) (slice (r .first) (r .first + r .number) (bookOf b .records)) good n n′
     → SlotTaken (bookOf b) (backupAt (bookOf b) q) (q + 1) good n n′

@@ -14,7 +14,7 @@ use Rattle.words.proofs.ChoiceLaws.{and-true, true-and, same-test}
 use Rattle.words.specs.Lists.{each}
 use Rattle.words.proofs.Each.{each-at, at-each, each-same, all-each}
 use Rattle.words.specs.Lists.{all, upFrom}
-use Rattle.words.proofs.Stores.{getD-set}
+use Rattle.words.proofs.SetLaws.{getD-set}
 use Rattle.words.proofs.Tests.{eqb-swap}
 use Rattle.book.specs.Book.{Sizes, Rec, Book}
 use Rattle.book.specs.Form.{pbnOk, recOk}

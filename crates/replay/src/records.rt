@@ -8,7 +8,7 @@ ghost use lib.ListN.{length, getD};
 ghost use Rattle.words.specs.Blocks.{unmapped};
 ghost use Rattle.book.specs.Book.{volumes};
 ghost use Rattle.book.specs.Layout.{told};
-ghost use Rattle.book.specs.Formed.{Formed};
+ghost use Rattle.book.specs.FormFacts.{FormFacts};
 ghost use Rattle.model.specs.Audit.{cellSound};
 ghost use Rattle.replay.specs.Taking.{TakesRecord, TakesRecords, TakesSlot, TakesJournal};
 ghost use Rattle.replay.specs.Table.{rowSize, OfPool};
@@ -38,7 +38,7 @@ pub struct Taking {
 }
 
 fn unmapped_or_held(book: &[u8], p: PBN) -> bool
-    requires { ⌜ Formed (now book) ⌝ }
+    requires { ⌜ FormFacts (now book) ⌝ }
     requires { ⌜ (p .0 < told book .sizes .n) ⊎ (p .0 ≡ unmapped) ⌝ }
     ensures { λ r. ⌜ r ≡ cellSound (told (book .entry)) (p .0) ⌝ }
 {
@@ -56,7 +56,7 @@ fn take_record(
     t: Taking,
     q: u16,
 ) -> bool
-    requires { ⌜ Formed (now book) ⌝ }
+    requires { ⌜ FormFacts (now book) ⌝ }
     requires { ⌜ (t .volume < volumes) × OfPool (now expiries) × (q < length (told book .records)) ⌝ }
     ensures { λ r. ⌜ TakesRecord book cells expiries stamps t q r ⌝ }
 {
@@ -78,7 +78,7 @@ fn take_records(
     from: u16,
     end: u16,
 ) -> bool
-    requires { ⌜ Formed (now book) ⌝ }
+    requires { ⌜ FormFacts (now book) ⌝ }
     requires { ⌜ (t .volume < volumes) × OfPool (now expiries) × (from ≤ end) × (end ≤ length (told book .records)) ⌝ }
     ensures { λ r. ⌜ TakesRecords book cells expiries stamps t from end r ⌝ }
 {
@@ -100,7 +100,7 @@ fn take_slot(
     stamps: &mut Stamps,
     q: u16,
 ) -> bool
-    requires { ⌜ Formed (now book) ⌝ }
+    requires { ⌜ FormFacts (now book) ⌝ }
     requires { ⌜ (q < length (told book .slots)) × OfPool (now expiries) ⌝ }
     requires { ⌜ (length (now stamps) ≡ rowSize) × ((l : ℕ) → getD (now stamps) l 0 ≤ q) ⌝ }
     ensures { λ r. ⌜ TakesSlot book cells expiries stamps q r ⌝ }
@@ -122,7 +122,7 @@ fn take_slot(
 
 // The whole journal, replayed in the cells and gathered in the expiries.
 pub fn take_journal(book: &[u8], cells: &mut Cells, expiries: &mut Table) -> bool
-    requires { ⌜ Formed (now book) ⌝ }
+    requires { ⌜ FormFacts (now book) ⌝ }
     requires { ⌜ OfPool (now expiries) ⌝ }
     ensures { λ r. ⌜ TakesJournal book cells expiries r ⌝ }
 {

@@ -16,7 +16,7 @@ use Rattle.words.proofs.Places.{all-take, all-drop, all-those, all-weaker}
 use Rattle.book.specs.Book.{Sizes, Slot, Rec, Book, cellAt}
 use Rattle.book.proofs.Conditions.{pbn-cases, cell-in}
 use Rattle.book.specs.Form.{pbnOk, recOk}
-use Rattle.book.specs.Formed.{BookParts}
+use Rattle.book.specs.FormFacts.{BookParts}
 use Rattle.model.specs.Journal.{Backup, journalOf, journal, backups}
 use Rattle.model.specs.Read.{recordsOf, beforeOr, image}
 

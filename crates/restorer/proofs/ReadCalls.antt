@@ -13,8 +13,8 @@ use Rattle.words.specs.Outcome.{Outcome, refused, accepted, andThen, unless}
 use Rattle.words.specs.declared.PBN.{PBN}
 use Rattle.book.specs.Layout.{bookOf}
 use Rattle.book.specs.Form.{formNumber}
-use Rattle.book.proofs.FormParts.{book-parts}
-use Rattle.book.proofs.InForm.{book-form}
+use Rattle.book.proofs.Clauses.{book-parts}
+use Rattle.book.proofs.FormBytes.{book-form}
 use Rattle.model.specs.OnBytes.{numberOf, poolNumber, readBytes, readNumberBytes, readPlaceBytes, blockAfter}
 use Rattle.model.specs.Pool.{blockAt}
 use Rattle.model.specs.Read.{image, readNumber, read}

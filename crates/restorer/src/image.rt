@@ -4,7 +4,7 @@ ghost use Prim.Native.Nat.{_+_, _≤_, _<_};
 ghost use lib.ListN.{length, take, drop};
 ghost use Rattle.book.specs.Book.{volumes};
 ghost use Rattle.book.specs.Layout.{told, Holds};
-ghost use Rattle.book.specs.Formed.{Formed};
+ghost use Rattle.book.specs.FormFacts.{FormFacts};
 ghost use Rattle.model.specs.Read.{recordsOf};
 ghost use Rattle.model.specs.JournalAt.{ownAt};
 ghost use Rattle.restorer.specs.After.{AfterIs, keptFrom};
@@ -83,7 +83,7 @@ fn first_before(book: &[u8], first: u16, number: u16, lbn: LBN) -> Before
 
 // The same among the records of slot q, where it is the volume's.
 fn slot_before(book: &[u8], q: u16, v: u16, lbn: LBN) -> Before
-    requires { ⌜ Formed (now book) ⌝ }
+    requires { ⌜ FormFacts (now book) ⌝ }
     requires { ⌜ q < length (told book .slots) ⌝ }
     ensures { λ r. ⌜ r ≡ beforeIn (lbn .0) (recordsOf (ownAt (told (book .entry)) v q)) ⌝ }
 {
@@ -96,7 +96,7 @@ fn slot_before(book: &[u8], q: u16, v: u16, lbn: LBN) -> Before
 
 // The same among the records of the volume's backups in the slots from `at` on.
 fn later_before(book: &[u8], v: u16, at: u16, lbn: LBN) -> Before
-    requires { ⌜ Formed (now book) ⌝ }
+    requires { ⌜ FormFacts (now book) ⌝ }
     ensures { λ r. ⌜ r ≡ beforeFrom (told (book .entry)) v at (lbn .0) ⌝ }
 {
     let used = header::used_slots(book);
@@ -114,7 +114,7 @@ fn later_before(book: &[u8], v: u16, at: u16, lbn: LBN) -> Before
 // The block at an LBN before the volume's backups in the slots from `at` on: the first before among them, else the
 // current map.
 pub fn image_at(book: &[u8], v: u16, at: u16, lbn: LBN) -> PBN
-    requires { ⌜ Formed (now book) ⌝ }
+    requires { ⌜ FormFacts (now book) ⌝ }
     requires { ⌜ (v < volumes) × (lbn .0 < told book .sizes .l) ⌝ }
     ensures { λ r. ⌜ r .0 ≡ imageFrom (told (book .entry)) v at (lbn .0) ⌝ }
 {

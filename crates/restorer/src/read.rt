@@ -4,7 +4,7 @@ ghost use Prim.Native.Nat.{_*_, _<_};
 ghost use Rattle.words.specs.Blocks.{blockSize};
 ghost use Rattle.book.specs.Book.{volumes};
 ghost use Rattle.book.specs.Layout.{told, Holds};
-ghost use Rattle.book.specs.Formed.{Formed};
+ghost use Rattle.book.specs.FormFacts.{FormFacts};
 ghost use Rattle.model.specs.OnBytes.{readBytes, readNumberBytes, blockAfter};
 ghost use Rattle.restorer.specs.Contracts.{Located};
 ghost use Rattle.restorer.specs.Reading.{KeptIs, soughtOf, soughtNumber, soughtFrom, soughtBytes};
@@ -61,7 +61,7 @@ fn kept_backup(book: &[u8], v: u16, k: u16) -> Kept
 
 // Numbers 17 and 18.
 fn block_before(book: &[u8], v: u16, at: u16, lbn: LBN) -> Sought
-    requires { ⌜ Formed (now book) ⌝ }
+    requires { ⌜ FormFacts (now book) ⌝ }
     requires { ⌜ v < volumes ⌝ }
     ensures { λ r. ⌜ soughtOf r ≡ soughtFrom (told (book .entry)) v at (lbn .0) ⌝ }
 {

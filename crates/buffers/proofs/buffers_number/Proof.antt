@@ -5,7 +5,7 @@ use native.Mathlib.Omega.{arith}
 use borrow.Author.Needs.{needs}
 use Rattle.words.specs.Blocks.{blockSize}
 use Rattle.book.specs.Form.{formNumber}
-use Rattle.book.proofs.InForm.{holds-form}
+use Rattle.book.proofs.FormBytes.{holds-form}
 use Rattle.book.specs.Layout.{bookOf}
 use Rattle.buffers.proofs.BuffersLaws.{buffers-form, buffers-pool, buffers-good}
 use Rattle.buffers.proofs.buffers_number.Statement.{statement}

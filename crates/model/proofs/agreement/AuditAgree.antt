@@ -10,7 +10,7 @@ use Rattle.words.specs.Lists.{all}
 use Rattle.words.proofs.Places.{all-place}
 use Rattle.book.specs.Book.{volumes, Rec, Book, cellAt, retentionOf}
 use Rattle.book.specs.Form.{pbnOk}
-use Rattle.book.proofs.FormParts.{book-parts}
+use Rattle.book.proofs.Clauses.{book-parts}
 use Rattle.model.specs.Days.{kept}
 use Rattle.model.specs.Journal.{Backup, journal, days}
 use Rattle.model.specs.Read.{image}

@@ -17,7 +17,7 @@ use Rattle.words.proofs.Runs.{below-or-not}
 use Rattle.runs.specs.Changes.{Change}
 use Rattle.book.specs.Book.{volumes, Book}
 use Rattle.book.specs.Form.{pbnOk}
-use Rattle.book.proofs.FormParts.{book-parts}
+use Rattle.book.proofs.Clauses.{book-parts}
 use Rattle.book.proofs.SizesIn.{sizes-facts}
 use Rattle.model.specs.Backup.{begun, runChanges}
 use Rattle.model.specs.Plain.{Plain, volumeAt, current, currentMaps}

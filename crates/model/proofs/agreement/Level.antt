@@ -19,6 +19,7 @@ use Rattle.book.specs.Book.{Book, entryAt, cellAt}
 use Rattle.book.specs.Next.{withEntries, withMaps, withRecord, cellsWith}
 use Rattle.model.specs.Backup.{Work, lower, nameBlock, moveNumber, moved}
 use Rattle.model.specs.PlainBackup
+use Rattle.model.specs.PlainBackup.{PlainWork}
 use Rattle.model.proofs.agreement.Placing.{Alike, PlacedAt}
 use Rattle.model.proofs.agreement.Moving.{length-moved, moved-blocks, lower-count, moved-count}
 
@@ -33,7 +34,7 @@ names-set ms v m i b q h k =
     omega (arith, count-joined (eqb q) ms v (set m i b) h, count-joined (eqb q) ms v m h, count-set (eqb q) m i b unmapped k)
 
 -- x is the book at the backup's start
-pub record Level (x : Book) (v : ℕ) (w : Work) (u : PlainBackup.Work) : Type 0 where
+pub record Level (x : Book) (v : ℕ) (w : Work) (u : PlainWork) : Type 0 where
   pub alike : Alike w u
   pub sizes : w .book .sizes ≡ x .sizes
   pub retentions : w .book .retentions ≡ x .retentions
@@ -43,7 +44,7 @@ pub record Level (x : Book) (v : ℕ) (w : Work) (u : PlainBackup.Work) : Type 0
   pub counts : (q : ℕ) → q < x .sizes .n → entryAt (w .book .entries) q .count ≡ namesIn (x .maps) v (u .copy) q
   pub cells : (i : ℕ) → getD (u .copy) i unmapped ≢ unmapped → getD (u .copy) i unmapped < x .sizes .n
 
-pub placed-level : (x : Book) (v : ℕ) (w : Work) (u : PlainBackup.Work) (p : ℕ) (w′ : Work) (u′ : PlainBackup.Work)
+pub placed-level : (x : Book) (v : ℕ) (w : Work) (u : PlainWork) (p : ℕ) (w′ : Work) (u′ : PlainWork)
     → Level x v w u → PlacedAt w u p w′ u′ → Level x v w′ u′
 placed-level x v w u p w′ u′ a r = record {
   alike = r .alike;
@@ -57,7 +58,7 @@ placed-level x v w u p w′ u′ a r = record {
 }
 
 -- the cell that a change replaces
-module _ (x : Book) (v lbn : ℕ) (w : Work) (u : PlainBackup.Work) (a : Level x v w u) where
+module _ (x : Book) (v lbn : ℕ) (w : Work) (u : PlainWork) (a : Level x v w u) where
   pub cell-before : v < length (x .maps) → cellAt (w .book .maps) v lbn ≡ getD (u .copy) lbn unmapped
   cell-before inside = ap (λ (m : List (List ℕ)). cellAt m v lbn) (a .maps) ∙ rw (getD-set-same (x .maps) v (u .copy) [] inside)
 
@@ -66,7 +67,7 @@ module _ (x : Book) (v lbn : ℕ) (w : Work) (u : PlainBackup.Work) (a : Level x
 
 module _ (x : Book) (v : ℕ) (inside : v < length (x .maps)) (small : x .sizes .n < unmapped) where
   -- steps 3 and 4 of a change that was placed at p
-  module _ (until lbn p : ℕ) (w : Work) (u : PlainBackup.Work) (a : Level x v w u) (i : lbn < x .sizes .l) (h : p < x .sizes .n) where
+  module _ (until lbn p : ℕ) (w : Work) (u : PlainWork) (a : Level x v w u) (i : lbn < x .sizes .l) (h : p < x .sizes .n) where
     abbrev before : ℕ
     before = getD (u .copy) lbn unmapped
 
@@ -110,7 +111,7 @@ module _ (x : Book) (v : ℕ) (inside : v < length (x .maps)) (small : x .sizes 
     abbrev ourNext : Work
     ourNext = moved v until lbn before (record { pbn = p; work = w })
 
-    abbrev plainNext : PlainBackup.Work
+    abbrev plainNext : PlainWork
     plainNext = PlainBackup.moved lbn (record { pbn = p; work = u })
 
     moved-alike : Alike ourNext plainNext

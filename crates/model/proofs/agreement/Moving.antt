@@ -12,7 +12,7 @@ use Rattle.words.specs.Blocks.{unmapped}
 use Rattle.words.specs.Choice.{if_then_else_}
 use Rattle.words.specs.Lists.{bit}
 use Rattle.words.specs.Lists.{those}
-use Rattle.words.proofs.Stores.{getD-set, getD-set-kept}
+use Rattle.words.proofs.SetLaws.{getD-set, getD-set-kept}
 use Rattle.book.specs.Book.{Entry, entryAt, freeEntry}
 use Rattle.book.specs.Next.{countAs, expiryAs}
 use Rattle.model.specs.Backup.{lowered, lower, raised}

@@ -12,7 +12,7 @@ use Rattle.words.specs.Outcome.{Outcome, accepted, andThen, unless}
 use Rattle.book.specs.Book.{Sizes, Book, retentionOf}
 use Rattle.book.proofs.Bytes.{length-bytes}
 use Rattle.book.specs.Form.{enrolled, formNumber}
-use Rattle.book.proofs.InForm.{form-bytes}
+use Rattle.book.proofs.FormBytes.{form-bytes}
 use Rattle.book.specs.Layout.{bookSize, bytes, bookOf}
 use Rattle.book.proofs.Laws.{book-bytes}
 use Rattle.book.specs.Next.{withDay, withEntries, withRetention}
@@ -40,6 +40,7 @@ use Rattle.model.proofs.form.OnBytesFit.{enrol-on-bytes, collect-on-byt
 use Rattle.model.specs.Plain
 use Rattle.model.specs.Plain.{Plain}
 use Rattle.model.specs.PlainBackup
+use Rattle.model.specs.PlainBackup.{PlainBacked}
 use Rattle.model.proofs.agreement.ReadAgree.{read-agree}
 use Rattle.model.specs.Read
 use Rattle.model.specs.Runs.{Step, answersOf, endOf, readAnswer, auditAnswer, Ours, oursEnrolled, oursBacked, oursCollected, ours, plainEnrolled, plainBacked, plainCollected, plain}
@@ -167,7 +168,7 @@ module _ (z : Sizes) (spare : ℕ) (enough : bookSize z ≤ spare) {x : Book} {p
       rw (backup-on-bytes (fit-form (g .fit)) (fit-book (g .fit)) pool (g .poolLong) (length-bytes x) spare (rw sizes enough) v t list)
       (go (Backup.backup x pool v t list) refl (PlainBackup.backup q v t list) (backup-agree g v t list))
     where
-      go : (a : Outcome Backed) → Backup.backup x pool v t list ≡ a → (b : Outcome PlainBackup.Backed) → BothBacked x q v list a b
+      go : (a : Outcome Backed) → Backup.backup x pool v t list ≡ a → (b : Outcome PlainBacked) → BothBacked x q v list a b
           → Alike z (oursBacked here (andThen a (λ d. accepted (backedBytes d)))) (plainBacked q b)
       go a e b (stopped k d) = stays k d
       go a e b (backed d f h) =

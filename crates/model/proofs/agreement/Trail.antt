@@ -21,6 +21,7 @@ use Rattle.book.specs.Next.{withEntries, withMaps, withRecord}
 use Rattle.model.specs.Audit.{applied, hasBefore, printsSound}
 use Rattle.model.specs.Backup.{Work, nameBlock, moved}
 use Rattle.model.specs.PlainBackup
+use Rattle.model.specs.PlainBackup.{PlainWork}
 use Rattle.model.proofs.kept.Sound.{Sound}
 use Rattle.model.proofs.agreement.Agree.{reaches}
 use Rattle.model.proofs.kept.JournalLaws.{applied-append, sound-append, hasBefore-append}
@@ -33,7 +34,7 @@ abbrev pub hasAfter : ℕ → List Rec → Bool
 hasAfter p rs = someOf (λ r. eqb (r .after) p) rs
 
 -- x is the book at the backup's start, `until` the day that it gives befores, and the changes so far are ds
-pub record Trail (x : Book) (v until : ℕ) (ds : List Change) (w : Work) (u : PlainBackup.Work) : Type 0 where
+pub record Trail (x : Book) (v until : ℕ) (ds : List Change) (w : Work) (u : PlainWork) : Type 0 where
   pub new : List Rec
   pub records : w .book .records ≡ x .records ++ new
   pub copy : u .copy ≡ applied (getD (x .maps) v []) new
@@ -57,7 +58,7 @@ later e t false true = omega arith
 later e t false false = omega arith
 
 module _ (x : Book) (v : ℕ) (inside : v < length (x .maps)) (small : x .sizes .n < unmapped)
-    (until : ℕ) (ds : List Change) (c : Change) (w : Work) (u : PlainBackup.Work) (p : ℕ) (w′ : Work) (u′ : PlainBackup.Work)
+    (until : ℕ) (ds : List Change) (c : Change) (w : Work) (u : PlainWork) (p : ℕ) (w′ : Work) (u′ : PlainWork)
     (a : Level x v w u) (g : Trail x v until ds w u) (r : PlacedAt w u p w′ u′) (i : c .lbn < x .sizes .l) where
   abbrev before : ℕ
   before = getD (u′ .copy) (c .lbn) unmapped
@@ -69,7 +70,7 @@ module _ (x : Book) (v : ℕ) (inside : v < length (x .maps)) (small : x .sizes 
   abbrev wNext : Work
   wNext = moved v until (c .lbn) before (record { pbn = p; work = w′ })
 
-  abbrev uNext : PlainBackup.Work
+  abbrev uNext : PlainWork
   uNext = PlainBackup.moved (c .lbn) (record { pbn = p; work = u′ })
 
   level′ : Level x v w′ u′

@@ -11,7 +11,7 @@ use Rattle.words.specs.Lists.{all}
 use Rattle.words.proofs.Places.{all-getD, all-take, all-drop, all-those, all-set, all-replicate, all-weaker}
 use Rattle.book.specs.Book.{Sizes, Slot, Rec, Book}
 use Rattle.book.specs.Form.{pbnOk, recOk, bookOk}
-use Rattle.book.proofs.FormParts.{book-parts}
+use Rattle.book.proofs.Clauses.{book-parts}
 use Rattle.model.specs.Journal.{Backup, journalOf, journal, backupsIn}
 use Rattle.model.specs.Audit.{applied}
 use Rattle.model.specs.Plain.{mapsOf, noMap}

@@ -17,7 +17,7 @@ use Rattle.model.proofs.kept.DayLaws.{good-day}
 use Rattle.model.specs.Plain
 use Rattle.model.specs.Plain.{Plain, withVolume, volumeAt, isEnrolled, daysOf, currentMaps, collected, enrolNumber, collectNumber}
 use Rattle.model.specs.PlainBackup
-use Rattle.model.specs.PlainBackup.{Work, Backed, backupNumber, runChanges, begun, closed}
+use Rattle.model.specs.PlainBackup.{PlainWork, PlainBacked, backupNumber, runChanges, begun, closed}
 use Rattle.model.specs.Calls.{Call, enrol, backup, collect, read, audit}
 use Rattle.model.specs.Runs.{answersOf, endOf, plainEnrolled, plainBacked, plainCollected, plain}
 use Rattle.model.specs.History.{History, withEnrol, withSent, noted, historyFrom, dayNoted, dayFrom}
@@ -97,7 +97,7 @@ module _ {l d : ℕ} {q : Plain} {h : ℕ → History} (a : AllRecall l d q h) w
       go (suc k) e = a
 
   module _ (v t : ℕ) (list : List ℕ) where
-    abbrev Backs : Outcome Backed → Type 0
+    abbrev Backs : Outcome PlainBacked → Type 0
     Backs o =
         AllRecall l (dayNoted d (backup v t list) (plainBacked q o .answer)) (plainBacked q o .next)
         (λ w. noted w (h w) (backup v t list) (plainBacked q o .answer))
@@ -106,7 +106,7 @@ module _ {l d : ℕ} {q : Plain} {h : ℕ → History} (a : AllRecall l d q h) w
     unfolding plainBacked
     refused-step k = not-noted v (λ w. withSent (record { day = t; changes = changes list }) (h w)) false refl
 
-    run-step : backupNumber q v t list ≡ 0 → (o : Outcome Work) → runChanges (currentMaps q) v (changes list) (begun q v) ≡ o
+    run-step : backupNumber q v t list ≡ 0 → (o : Outcome PlainWork) → runChanges (currentMaps q) v (changes list) (begun q v) ≡ o
         → Backs (andThen o (λ w. accepted (closed q v t (changeCount list) w)))
     unfolding plainBacked
     run-step e (refused k) f = refused-step k
@@ -114,7 +114,7 @@ module _ {l d : ℕ} {q : Plain} {h : ℕ → History} (a : AllRecall l d q h) w
         let b = backup-allowed q v t list e in
         backup-recalls a v t (changeCount list) (changes list) w (rw (← (a .day)) (b .2)) (b .0) (b .1) f
 
-    abbrev ran : Outcome Work
+    abbrev ran : Outcome PlainWork
     ran = runChanges (currentMaps q) v (changes list) (begun q v)
 
     backup-step : Backs (PlainBackup.backup q v t list)

@@ -10,7 +10,7 @@ use Rattle.words.proofs.ChoiceLaws.{true-and, or-l, or-r}
 use Rattle.words.specs.Lists.{someOf}
 use Rattle.words.proofs.Places.{place-some}
 use Rattle.model.specs.Days.{keptBefore, kept}
-use Rattle.model.specs.Plain.{Block, free, Image, Volume, noVolume, Plain, volumeAt, daysOf, mapsOf, currentMaps, names, keptNames, marked, swept}
+use Rattle.model.specs.Plain.{Block, free, Image, Volume, unenrolled, Plain, volumeAt, daysOf, mapsOf, currentMaps, names, keptNames, marked, swept}
 
 -- ---- marked
 
@@ -30,7 +30,7 @@ pub kept-marked : (q : Plain) (d v k p : ℕ) (z : List ℕ) → v < length (q .
 unfolding marked
 kept-marked q d v k p z hv hk e n =
     or-r (someOf (names p) (currentMaps q)) (someOf (λ u. keptNames p (u .retention) d (u .images)) (q .volumes))
-    (place-some (λ (u : Volume). keptNames p (u .retention) d (u .images)) (q .volumes) noVolume v hv
+    (place-some (λ (u : Volume). keptNames p (u .retention) d (u .images)) (q .volumes) unenrolled v hv
     (image-named p (volumeAt q v .retention) d k z (volumeAt q v .images) hk e n))
 
 -- ---- swept

@@ -15,7 +15,7 @@ use Rattle.words.specs.Lists.{lastOf}
 use Rattle.words.proofs.Appends.{map-append}
 use Rattle.book.specs.Book.{volumes, Sizes}
 use Rattle.model.specs.Days.{kept}
-use Rattle.model.specs.Plain.{Block, Image, Volume, noVolume, Plain, volumeAt, daysOf, mapsOf, noMap, current}
+use Rattle.model.specs.Plain.{Block, Image, Volume, unenrolled, Plain, volumeAt, daysOf, mapsOf, noMap, current}
 use Rattle.model.specs.History.{Sent, History, sentBlock}
 use Rattle.model.proofs.plain.HistoryLaws.{kept-earlier}
 use Rattle.model.proofs.plain.PlainShows.{shownAt, Maps, Carries, carries-over}
@@ -83,12 +83,12 @@ recalls-later l d t bs bs′ u h later room keeps r = record {
 
 -- ---- one volume replaced, and its history
 pub recalls-set : (l d : ℕ) (bs : List Block) (vs : List Volume) (v : ℕ) (u : Volume) (h : ℕ → History) (f : History → History) → v < length vs
-    → ((w : ℕ) → Recalls l d bs (getD vs w noVolume) (h w)) → Recalls l d bs u (f (h v))
-    → (w : ℕ) → Recalls l d bs (getD (set vs v u) w noVolume) (if eqb v w && true then f (h w) else h w)
+    → ((w : ℕ) → Recalls l d bs (getD vs w unenrolled) (h w)) → Recalls l d bs u (f (h v))
+    → (w : ℕ) → Recalls l d bs (getD (set vs v u) w unenrolled) (if eqb v w && true then f (h w) else h w)
 recalls-set l d bs vs v u h f inside each new w = go (eqb v w) refl
   where
-    go : (t : Bool) → eqb v w ≡ t → Recalls l d bs (getD (set vs v u) w noVolume) (if t && true then f (h w) else h w)
+    go : (t : Bool) → eqb v w ≡ t → Recalls l d bs (getD (set vs v u) w unenrolled) (if t && true then f (h w) else h w)
     go true e =
-        subst (λ (x : ℕ). Recalls l d bs (getD (set vs v u) x noVolume) (f (h x))) (eqb-true v w e)
-        (rw (getD-set-same vs v u noVolume inside) new)
-    go false e = rw (getD-set-other vs v w u noVolume (λ q. eqb-false v w e (sym q))) (each w)
+        subst (λ (x : ℕ). Recalls l d bs (getD (set vs v u) x unenrolled) (f (h x))) (eqb-true v w e)
+        (rw (getD-set-same vs v u unenrolled inside) new)
+    go false e = rw (getD-set-other vs v w u unenrolled (λ q. eqb-false v w e (sym q))) (each w)

@@ -2,7 +2,7 @@
 use mathlib.Core.Path.{_≡_, refl, sym, _∙_}
 use denote.Ref.{now}
 use Rattle.book.specs.Form.{formNumber}
-use Rattle.book.proofs.FormedLaws.{formed}
+use Rattle.book.proofs.FormFactLaws.{form-facts}
 use Rattle.auditor.proofs.AuditAnswers.{audit-refused, audit-yes, audit-no}
 use borrow.Author.Needs.{needs}
 use Rattle.auditor.proofs.audit.answer.Statement.{statement}
@@ -15,7 +15,7 @@ returns : tie.Need-returns
 returns c = audit-refused _ _ (c .before .form-number .ensures) (c .if1 .taken) refl
 
 is-sound-requires : tie.Need-is-sound-requires
-is-sound-requires c κs = formed _ (λ i. c .before .before .shared-slice-known .given i .fits) (in-form c)
+is-sound-requires c κs = form-facts _ (λ i. c .before .before .shared-slice-known .given i .fits) (in-form c)
 
 returns-2 : tie.Need-returns-2
 returns-2 c = audit-yes _ _ (in-form (c .before .before)) (sym (c .before .is-sound .ensures) ∙ c .if2 .taken) refl

@@ -4,8 +4,8 @@ use mathlib.Core.Path.{_≡_, refl, sym, _∙_}
 use native.Mathlib.Omega.{arith}
 use lib.ListN.{length}
 use denote.Ref.{now}
-use Rattle.book.specs.Formed.{Formed}
-use Rattle.book.proofs.FormedLaws.{formed}
+use Rattle.book.specs.FormFacts.{FormFacts}
+use Rattle.book.proofs.FormFactLaws.{form-facts}
 use Rattle.book.specs.Layout.{bookOf}
 use Rattle.model.proofs.views.EnrolledNumber.{passed-enrolled}
 use Rattle.model.proofs.views.ViewLaws.{length-backupsOf}
@@ -21,9 +21,9 @@ start c = c .before .before .before .before
 passed : (c : tie.Else1) → enrolledNumber (now (start c .args .book)) (start c .args .volume) ≡ 0
 passed c = sym (c .before .enrolled-number .ensures) ∙ c .if1 .left
 
-formed-book : (c : tie.Else1) → Formed (now (start c .args .book))
+formed-book : (c : tie.Else1) → FormFacts (now (start c .args .book))
 formed-book c =
-    formed _ (λ i. c .before .before .before .shared-slice-known .given i .fits) (passed-enrolled _ _ (passed c) .form)
+    form-facts _ (λ i. c .before .before .before .shared-slice-known .given i .fits) (passed-enrolled _ _ (passed c) .form)
 
 returns : tie.Need-returns
 returns c = told-refused _ _ _ _ refl refl (c .before .enrolled-number .ensures) (c .if1 .taken)

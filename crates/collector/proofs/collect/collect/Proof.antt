@@ -5,7 +5,7 @@ use borrow.Author.Needs.{needs}
 use denote.Ref.{now}
 use Rattle.book.specs.Layout.{Holds}
 use Rattle.book.specs.Form.{formNumber}
-use Rattle.book.proofs.InForm.{holds-form}
+use Rattle.book.proofs.FormBytes.{holds-form}
 use Rattle.collector.proofs.CollectExits.{collect-misformed, collect-late, collect-early, collect-done}
 use Rattle.collector.proofs.collect.collect.Statement.{statement}
 use Rattle.collector.proofs.collect.collect.Tie as tie

@@ -4,7 +4,7 @@ use denote.Ref.{now}
 use borrow.Author.Needs.{needs}
 use Rattle.book.specs.Layout.{bookOf, Holds}
 use Rattle.book.specs.Form.{formNumber}
-use Rattle.book.proofs.InForm.{holds-form}
+use Rattle.book.proofs.FormBytes.{holds-form}
 use Rattle.model.specs.Enrol.{enrolNumber}
 use Rattle.model.proofs.agreement.EnrolAgree.{enrol-volume}
 use Rattle.engine.proofs.EnrolExits.{enrol-misformed, enrol-refused, enrol-done}

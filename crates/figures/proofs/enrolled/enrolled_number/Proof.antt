@@ -4,7 +4,7 @@ use native.Mathlib.Omega.{arith}
 use borrow.Author.Needs.{needs}
 use denote.Ref.{now}
 use Rattle.book.specs.Form.{formNumber}
-use Rattle.book.proofs.InForm.{holds-form}
+use Rattle.book.proofs.FormBytes.{holds-form}
 use Rattle.model.proofs.views.EnrolledNumber.{enrolled-misformed, enrolled-above, enrolled-not, enrolled-passed}
 use Rattle.figures.proofs.enrolled.enrolled_number.Statement.{statement}
 use Rattle.figures.proofs.enrolled.enrolled_number.Tie as tie

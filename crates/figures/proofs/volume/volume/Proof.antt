@@ -2,7 +2,7 @@
 use mathlib.Core.Path.{_≡_, refl, sym, _∙_}
 use borrow.Author.Needs.{needs}
 use denote.Ref.{now}
-use Rattle.book.proofs.InForm.{holds-form}
+use Rattle.book.proofs.FormBytes.{holds-form}
 use Rattle.book.specs.Layout.{Holds}
 use Rattle.model.proofs.views.EnrolledNumber.{passed-enrolled}
 use Rattle.model.specs.Views.{enrolledNumber}

@@ -9,8 +9,8 @@ use Rattle.list.proofs.AnswerLaws.{good-number, refused-number, good-whole}
 use Rattle.book.specs.Book.{retentionOf}
 use Rattle.book.proofs.Conditions.{retention-in}
 use Rattle.book.specs.Layout.{bookOf}
-use Rattle.book.specs.Formed.{Formed}
-use Rattle.book.proofs.FormedLaws.{formed}
+use Rattle.book.specs.FormFacts.{FormFacts}
+use Rattle.book.proofs.FormFactLaws.{form-facts}
 use Rattle.model.specs.Backup.{backupNumber}
 use Rattle.model.proofs.form.BackupAllowed.{Allowed, number-zero}
 use Rattle.intake.specs.Allowing.{lentNumber, dayRefused, roomNumber, AllowedBy}
@@ -46,10 +46,10 @@ lent : (c : tie.Else1) →
 lent c = sym (c .before .lent-number .ensures) ∙ c .if1 .left
 
 -- the book is in form
-form : (c : tie.Else1) → Formed (start c .args .book .now)
+form : (c : tie.Else1) → FormFacts (start c .args .book .now)
 form c =
     let k = c .before .before .before .before in
-    formed (start c .args .book .now) (λ i. k .shared-slice-known .given i .fits) (lent-facts _ _ _ (lent c) .0)
+    form-facts (start c .args .book .now) (λ i. k .shared-slice-known .given i .fits) (lent-facts _ _ _ (lent c) .0)
 
 own : (c : tie.Else3) →
     let a = start (buffered c) .args in

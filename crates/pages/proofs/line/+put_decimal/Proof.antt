@@ -8,7 +8,7 @@ use borrow.Author.Needs.{needs}
 use borrow.Fn.Kinds.{In}
 use borrow.Fn.PlainCycle.{Measures, is, falls, and}
 use Rattle.pages.proofs.Decimal.{decimal-one, decimal-more, count-one, count-more}
-use Rattle.words.proofs.Stored.{stored-one, stored-append}
+use Rattle.words.proofs.SectionsLaid.{stored-one, stored-append}
 use Rattle.pages.proofs.line.put_decimal.Reads as reads
 use Rattle.pages.proofs.line.put_decimal.Kinds as kinds
 use Rattle.pages.proofs.line.+put_decimal.Lts-put_decimal as lts

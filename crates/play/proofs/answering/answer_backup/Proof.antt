@@ -4,7 +4,7 @@ use native.Mathlib.Omega.{arith}
 use lib.ListN.{length-set}
 use borrow.Author.Needs.{needs}
 use Rattle.play.proofs.Doing.{backup-refused, backup-done}
-use Rattle.play.proofs.Storing.{answered-three}
+use Rattle.play.proofs.AnswersLaid.{answered-three}
 use Rattle.play.proofs.answering.answer_backup.Statement.{statement}
 use Rattle.play.proofs.answering.answer_backup.Tie as tie
 

@@ -5,7 +5,7 @@ use lib.ListN.{length-set}
 use borrow.Author.Needs.{needs}
 use Rattle.play.proofs.Blocks.{located-inside}
 use Rattle.play.proofs.Doing.{read-refused, read-done}
-use Rattle.play.proofs.Storing.{lent-length}
+use Rattle.play.proofs.AnswersLaid.{lent-length}
 use Rattle.play.proofs.answering.answer_read.Statement.{statement}
 use Rattle.play.proofs.answering.answer_read.Tie as tie
 

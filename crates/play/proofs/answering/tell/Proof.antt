@@ -3,7 +3,7 @@ use mathlib.Core.Path.{_∙_}
 use native.Mathlib.Omega.{arith}
 use lib.ListN.{length-set}
 use borrow.Author.Needs.{needs}
-use Rattle.play.proofs.Storing.{answered}
+use Rattle.play.proofs.AnswersLaid.{answered}
 use Rattle.play.proofs.answering.tell.Statement.{statement}
 use Rattle.play.proofs.answering.tell.Tie as tie
 

@@ -3,8 +3,8 @@ use borrow.Author.Needs.{needs}
 use mathlib.Core.Path.{_≡_, sym, _∙_, subst}
 use denote.Ref.{now}
 use Rattle.book.specs.Layout.{bookOf}
-use Rattle.book.specs.Formed.{Formed}
-use Rattle.book.proofs.FormedLaws.{formed}
+use Rattle.book.specs.FormFacts.{FormFacts}
+use Rattle.book.proofs.FormFactLaws.{form-facts}
 use Rattle.buffers.specs.Buffers.{buffersNumber}
 use Rattle.buffers.proofs.BuffersLaws.{buffers-facts}
 use Rattle.restorer.specs.Reading.{KeptIs}
@@ -20,8 +20,8 @@ start c = c .before .before .before .before
 none : (c : tie.Else1) → buffersNumber (now (start c .args .book)) (now (start c .args .pool)) ≡ 0
 none c = sym (c .before .buffers-number .ensures) ∙ c .if1 .left
 
-ready : (c : tie.Else1) → Formed (now (start c .args .book))
-ready c = formed _ (λ i. c .before .before .before .shared-slice-known .given i .fits) (buffers-facts _ _ (none c) .0)
+ready : (c : tie.Else1) → FormFacts (now (start c .args .book))
+ready c = form-facts _ (λ i. c .before .before .before .shared-slice-known .given i .fits) (buffers-facts _ _ (none c) .0)
 
 returns : tie.Need-returns
 returns c =

@@ -6,7 +6,7 @@ use lib.ListN.{length, getD}
 use Rattle.words.specs.Numbers.{num}
 use Rattle.book.specs.Layout.{layoutNumber, nOffset, sOffset, jOffset, bOffset, uOffset, zeroOffset, entryOffset, recordsFrom, slotOffset, recOffset, bookSize, sizesOf}
 
-pub record Shape (b : List ℕ) : Type 0 where
+pub record Outline (b : List ℕ) : Type 0 where
   pub len : length b ≡ bookSize (sizesOf b)
   pub layout : num b 0 ≡ layoutNumber
   -- "the spare header field" is zero

@@ -46,6 +46,6 @@ pub record BookParts (x : Book) : Type 0 where
   pub records : all (recOk (x .sizes)) (x .records) ≡ true
 
 -- the bytes hold a book, and that book meets its conditions
-pub record Formed (b : List ℕ) : Type 0 where
+pub record FormFacts (b : List ℕ) : Type 0 where
   pub holds : Holds b
   pub parts : BookParts (bookOf b)

@@ -15,13 +15,13 @@ use Rattle.book.specs.Book.{Book, Sized}
 use Rattle.book.specs.Layout.{layoutNumber, headerSize, nOffset, sOffset, jOffset, bOffset, uOffset, entryOffset, slotSize, slotOffset, recSize, recOffset, bookSize, bytes, sizesOf, bookOf, Holds}
 use Rattle.book.specs.Form.{sizesOk, layoutOk, stateOk, secondOk, bookOk, formNumber}
 use Rattle.book.proofs.SizesIn.{sizes-in}
-use Rattle.book.specs.Formed.{Laid}
+use Rattle.book.specs.FormFacts.{Laid}
 use Rattle.book.proofs.FormNumber.{layout-facts, form-parts, parts-form}
-use Rattle.book.proofs.FormParts.{RawParts, raw-parts, parts-raw}
+use Rattle.book.proofs.Clauses.{RawParts, raw-parts, parts-raw}
 use Rattle.book.proofs.Laws.{sizes-bytes, book-bytes}
-use Rattle.book.proofs.Shape.{Shape}
-use Rattle.book.proofs.Shaped.{shape-bytes}
-use Rattle.book.proofs.Holding.{holds-shape, bounds-in}
+use Rattle.book.proofs.Outline.{Outline}
+use Rattle.book.proofs.OutlineLaws.{shape-bytes}
+use Rattle.book.proofs.Holding.{holds-outline, bounds-in}
 
 -- ---- zero bytes, as one test and offset by offset
 
@@ -35,9 +35,9 @@ byte-zero b o m h z =
 
 -- ---- the shape, from the tests and back
 
-pub shape-parts : (b : List ℕ) → Laid b → RawParts b → Shape b
+pub outline-parts : (b : List ℕ) → Laid b → RawParts b → Outline b
 unfolding stateOk secondOk
-shape-parts b l r =
+outline-parts b l r =
     let len = l .len in
     let slots = r .slots in
     let records = r .records in
@@ -53,9 +53,9 @@ shape-parts b l r =
       freeRecords = λ i lo hi. zero-byte b (recOffset (sizesOf b) (num b uOffset)) ((num b jOffset - num b uOffset) * recSize) (omega arith) (r .restRecords) i lo (omega arith);
     }
 
-pub parts-shape : (b : List ℕ) → Shape b → RawParts b
+pub parts-outline : (b : List ℕ) → Outline b → RawParts b
 unfolding stateOk secondOk
-parts-shape b h =
+parts-outline b h =
     let len = h .len in
     let slots = h .slots in
     let records = h .records in
@@ -69,7 +69,7 @@ parts-shape b h =
       restRecords = byte-zero b (recOffset (sizesOf b) (num b uOffset)) ((num b jOffset - num b uOffset) * recSize) (omega arith) (λ i lo hi. h .freeRecords i lo (omega arith));
     }
 
-layout-shape : (b : List ℕ) → Shape b → sizesOk (sizesOf b) ≡ true → layoutOk b ≡ true
+layout-shape : (b : List ℕ) → Outline b → sizesOk (sizesOf b) ≡ true → layoutOk b ≡ true
 unfolding layoutOk
 layout-shape b h z =
     let len = h .len in
@@ -83,7 +83,7 @@ unfolding bookOf
 holds-form b small e =
     let t = form-parts b e in
     let l = layout-facts b (t .0) in
-    holds-shape b small (shape-parts b l (raw-parts b (t .1))) (bounds-in (l .sizes))
+    holds-outline b small (outline-parts b l (raw-parts b (t .1))) (bounds-in (l .sizes))
 
 pub book-form : (b : List ℕ) → formNumber b ≡ 0 → (sizesOk (bookOf b .sizes) ≡ true) × (bookOk (bookOf b) ≡ true)
 unfolding bookOf
@@ -95,4 +95,4 @@ book-form b e =
 pub form-bytes : (x : Book) → Sized x → sizesOk (x .sizes) ≡ true → bookOk x ≡ true → formNumber (bytes x) ≡ 0
 form-bytes x s z e =
     let h = shape-bytes x s in
-    parts-form (bytes x) (layout-shape (bytes x) h (rw (sizes-bytes x) z)) (parts-raw (bytes x) (parts-shape (bytes x) h)) (rw (book-bytes x s) e)
+    parts-form (bytes x) (layout-shape (bytes x) h (rw (sizes-bytes x) z)) (parts-raw (bytes x) (parts-outline (bytes x) h)) (rw (book-bytes x s) e)

@@ -14,7 +14,7 @@ use Rattle.words.specs.Sections.{part}
 use Rattle.book.specs.Book.{Book}
 use Rattle.book.specs.Layout.{nOffset, sOffset, jOffset, bOffset, uOffset, zeroOffset, slotSize, recSize, slotOffset, recOffset, sizesOf}
 use Rattle.book.specs.Form.{retentionOk, entryOk, pbnOk, recOk, slotOk, daysOk, pairsOk, bookOk, stateOk, secondOk, rawOk}
-use Rattle.book.specs.Formed.{BookParts}
+use Rattle.book.specs.FormFacts.{BookParts}
 
 pub book-parts : (x : Book) → bookOk x ≡ true → BookParts x
 unfolding bookOk

@@ -9,7 +9,7 @@ use Rattle.book.specs.Book.{Sizes, Slot, Rec, Book, noSlot, noRec, entry
 use Rattle.book.specs.Layout.{slotSize, recSize, entryOffset, slotsFrom, slotOffset, recordsFrom, recOffset, bookSize, stateByte, slotBytes, recBytes, bytes}
 use Rattle.book.proofs.Bytes.{length-bytes, get-entry, get-slot, get-rec}
 use Rattle.book.proofs.Laws.{num-layout, num-n, num-l, num-s, num-j, num-b, num-u, num-zero}
-use Rattle.book.proofs.Shape.{Shape}
+use Rattle.book.proofs.Outline.{Outline}
 use Rattle.book.proofs.FreshBook.{slot-zero, rec-zero}
 
 state-small : (h : Bool) → stateByte h ≤ 1
@@ -40,7 +40,7 @@ module _ (x : Book) (s : Sized x) where
       ∙ ap (λ (l : List ℕ). getD l j 0) rec-zero
       ∙ getD-replicate recSize j 0 0 (omega arith)
 
-  pub shape-bytes : Shape (bytes x)
+  pub shape-bytes : Outline (bytes x)
   shape-bytes =
       record {
         len = rw (num-n x, num-l x, num-s x, num-j x) (length-bytes x);
