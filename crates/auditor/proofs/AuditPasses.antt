@@ -1,5 +1,5 @@
--- Audit as its passes test it: the journal, the maps, the entries, the fingerprints. Where the counts are sound no current map names a free block,
--- and the kept backups are judged by their befores.
+-- Audit as its passes test it: the journal, the maps, the entries, the fingerprints. Where the counts are sound no current map names a
+-- free block, and the kept backups are judged by their befores.
 use Prim.Native.Nat.{ℕ, _≤_, _<_}
 use mathlib.Core.Path.{_≡_, refl, sym, _∙_}
 use mathlib.Core.Logic.{_⊎_, inl, inr}
@@ -65,7 +65,8 @@ module _ (x : Book) (s : Sized x) (p : BookParts x) where
       held h false f =
           let zero : countOf (eqb c) (joined (x .maps)) ≡ 0 = sym (counted h) ∙ entry-in x p c (omega (arith, s .entries)) .count f in
           absurd (not-both (someOf (eqb c) (joined (x .maps))) named
-          (not-true (someOf (eqb c) (joined (x .maps))) (sym (countOf-none (eqb c) (joined (x .maps))) ∙ eq-eqb (countOf (eqb c) (joined (x .maps))) 0 zero)))
+          (not-true (someOf (eqb c) (joined (x .maps)))
+          (sym (countOf-none (eqb c) (joined (x .maps))) ∙ eq-eqb (countOf (eqb c) (joined (x .maps))) 0 zero)))
 
       go : (c < x .sizes .n) ⊎ (c ≡ unmapped) → (eqb c unmapped || entryAt (x .entries) c .held) ≡ true
       go (inl h) = or-r (eqb c unmapped) (entryAt (x .entries) c .held) (held h (entryAt (x .entries) c .held) refl)
@@ -74,15 +75,18 @@ module _ (x : Book) (s : Sized x) (p : BookParts x) where
   pub counts-current : all (countSound x) (upFrom 0 (x .sizes .n)) ≡ true → currentSound x ≡ true
   unfolding currentSound
   counts-current e =
-      place-all (all (cellSound x)) (x .maps) [] (λ v hv. place-all (cellSound x) (getD (x .maps) v []) unmapped (λ l hl. named-held e v l hv hl))
+      place-all (all (cellSound x)) (x .maps) []
+      (λ v hv. place-all (cellSound x) (getD (x .maps) v []) unmapped (λ l hl. named-held e v l hv hl))
 
   -- the passes test the maps, the counts, the expiries, the fingerprints and the befores, in another order
   passes-parts : x .sizes .l ≤ rowSize
       → auditPasses x
-      ≡ (mapsSound x && (all (countSound x) (upFrom 0 (x .sizes .n)) && (all (expirySound x) (upFrom 0 (x .sizes .n)) && (printsSound x && all (takenSound x) (journal x)))))
+      ≡ (mapsSound x && (all (countSound x) (upFrom 0 (x .sizes .n))
+      && (all (expirySound x) (upFrom 0 (x .sizes .n)) && (printsSound x && all (takenSound x) (journal x)))))
   unfolding auditPasses
   passes-parts small =
-      order (tableBefores noCells (journal x)) (all (takenSound x) (journal x)) (tableMatches (x .maps) (x .sizes .l) (tableAfter noCells (journal x)))
+      order (tableBefores noCells (journal x)) (all (takenSound x) (journal x))
+      (tableMatches (x .maps) (x .sizes .l) (tableAfter noCells (journal x)))
       (all (countSound x) (upFrom 0 (x .sizes .n))) (all (expirySound x) (upFrom 0 (x .sizes .n))) (printsSound x)
       ∙ rw (table-sound x s small (journal-in x p s))
     where

@@ -37,7 +37,8 @@ pub taking-long : {x : Book} {cells : List ℕ} {v : ℕ} {good : Bool} {a : Lis
 taking-long w = w .counts .long ∙ length-replicate {A = ℕ} poolBlocks 0
 
 module _ {b : List ℕ} (f : FormFacts b) {cells : List ℕ} {v : ℕ} {good : Bool} {a : List ℕ} where
-  pub taking-row : {good′ : Bool} {a′ : List ℕ} → v < volumes → MapsTaking (bookOf b) cells v good a → RowTaken (bookOf b) cells v a good′ a′
+  pub taking-row : {good′ : Bool} {a′ : List ℕ} → v < volumes → MapsTaking (bookOf b) cells v good a
+      → RowTaken (bookOf b) cells v a good′ a′
       → MapsTaking (bookOf b) cells (v + 1) (good && good′) a′
   taking-row h w r =
       let z = f .holds in

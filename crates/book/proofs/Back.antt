@@ -15,7 +15,10 @@ use Rattle.words.specs.Numbers.{two, num}
 use Rattle.words.specs.Sections.{flat, fit, tab, part}
 use Rattle.words.proofs.SectionLaws.{length-tab, getD-tab, part-add, part-cons, part-tab, flat-tab, fit-tab, fit-all, joined-parts}
 use Rattle.book.specs.Book.{volumes, Sizes, freeEntry, noSlot, noRec, Sized}
-use Rattle.book.specs.Layout.{layoutNumber, headerSize, entrySize, slotSize, recSize, bOffset, uOffset, dayOffset, cursorOffset, retentionOffset, entriesFrom, entryOffset, mapsFrom, slotsFrom, slotOffset, recordsFrom, recOffset, stateByte, entryBytes, mapBytes, slotBytes, recBytes, bytes, sizesOf, entryOf, cellOf, slotOf, recOf, bookOf}
+use Rattle.book.specs.Layout.{layoutNumber, headerSize, entrySize, slotSize, recSize, bOffset, uOffset, dayOffset, cursorOffset}
+use Rattle.book.specs.Layout.{retentionOffset, entriesFrom, entryOffset, mapsFrom, slotsFrom, slotOffset, recordsFrom, recOffset}
+use Rattle.book.specs.Layout.{stateByte, entryBytes, mapBytes, slotBytes, recBytes, bytes, sizesOf, entryOf, cellOf, slotOf, recOf}
+use Rattle.book.specs.Layout.{bookOf}
 use Rattle.book.proofs.Outline.{Outline}
 
 -- a state's byte, where it is 0 or 1
@@ -38,7 +41,8 @@ module _ (b : List ℕ) (small : (i : ℕ) → getD b i 0 < 256) where
       rw (low, high) (part-two i h)
 
   -- k numbers from o
-  pub nums-part : (k o : ℕ) (f : ℕ → ℕ) → o + k * 2 ≤ length b → ((c : ℕ) → c < k → f c ≡ num b (o + c * 2)) → flat two (tab k f) ≡ part b o (k * 2)
+  pub nums-part : (k o : ℕ) (f : ℕ → ℕ) → o + k * 2 ≤ length b → ((c : ℕ) → c < k → f c ≡ num b (o + c * 2))
+      → flat two (tab k f) ≡ part b o (k * 2)
   nums-part k o f h g = flat-tab k 2 two f b o (λ c hc. rw (g c hc) (two-part (o + c * 2) (omega arith)))
 
   entry-part : (p : ℕ) → entryOffset p + entrySize ≤ length b → getD b (entryOffset p + 1) 0 ≤ 1
@@ -80,11 +84,13 @@ module _ (b : List ℕ) (small : (i : ℕ) → getD b i 0 < 256) where
     abbrev z : Sizes
     z = sizesOf b
 
-    head-part : flat two (layoutNumber ∷ z .n ∷ z .l ∷ z .s ∷ z .j ∷ num b bOffset ∷ num b uOffset ∷ num b dayOffset ∷ num b cursorOffset ∷ 0 ∷ [])
+    head-part : flat two (layoutNumber ∷ z .n ∷ z .l ∷ z .s ∷ z .j ∷ num b bOffset ∷ num b uOffset ∷ num b dayOffset
+        ∷ num b cursorOffset ∷ 0 ∷ [])
         ≡ part b 0 headerSize
     head-part =
         (λ i. flat two
-        (sym (s .layout) i ∷ z .n ∷ z .l ∷ z .s ∷ z .j ∷ num b bOffset ∷ num b uOffset ∷ num b dayOffset ∷ num b cursorOffset ∷ sym (s .spare) i ∷ []))
+        (sym (s .layout) i ∷ z .n ∷ z .l ∷ z .s ∷ z .j ∷ num b bOffset ∷ num b uOffset ∷ num b dayOffset
+        ∷ num b cursorOffset ∷ sym (s .spare) i ∷ []))
         ∙ nums-part 10 0 (λ c. num b (c * 2)) (omega (arith, s .len)) (λ c hc. rw zero-add)
 
     retentions-part : flat two (fit 0 volumes (tab volumes (λ v. num b (retentionOffset v)))) ≡ part b headerSize (volumes * 2)
@@ -133,7 +139,8 @@ module _ (b : List ℕ) (small : (i : ℕ) → getD b i 0 < 256) where
         go true e = s .seconds q (ltb-true q (num b bOffset) e)
         go false e = s .freeSlots (slotOffset z q + 1) (omega (arith, ltb-false q (num b bOffset) e)) (omega arith)
 
-    slots-part : flat slotBytes (fit noSlot (z .s) (tab (num b bOffset) (λ q. slotOf b (slotOffset z q)))) ≡ part b (slotsFrom z) (z .s * slotSize)
+    slots-part : flat slotBytes (fit noSlot (z .s) (tab (num b bOffset) (λ q. slotOf b (slotOffset z q))))
+        ≡ part b (slotsFrom z) (z .s * slotSize)
     slots-part =
         rw (fit-tab noSlot (num b bOffset) (z .s) (λ q. slotOf b (slotOffset z q)) (s .slots) slot-free)
         (flat-tab (z .s) slotSize slotBytes (λ q. slotOf b (slotOffset z q)) b (slotsFrom z)
@@ -150,10 +157,12 @@ module _ (b : List ℕ) (small : (i : ℕ) → getD b i 0 < 256) where
           after = num-free (o + 4) (at 4 (omega arith) (o + 4) refl) (at 5 (omega arith) (o + 4 + 1) (omega arith)) i;
         }
 
-    records-part : flat recBytes (fit noRec (z .j) (tab (num b uOffset) (λ q. recOf b (recOffset z q)))) ≡ part b (recordsFrom z) (z .j * recSize)
+    records-part : flat recBytes (fit noRec (z .j) (tab (num b uOffset) (λ q. recOf b (recOffset z q))))
+        ≡ part b (recordsFrom z) (z .j * recSize)
     records-part =
         rw (fit-tab noRec (num b uOffset) (z .j) (λ q. recOf b (recOffset z q)) (s .records) rec-free)
-        (flat-tab (z .j) recSize recBytes (λ q. recOf b (recOffset z q)) b (recordsFrom z) (λ q hq. rec-part (recOffset z q) (omega (arith, s .len))))
+        (flat-tab (z .j) recSize recBytes (λ q. recOf b (recOffset z q)) b (recordsFrom z)
+        (λ q hq. rec-part (recOffset z q) (omega (arith, s .len))))
 
     -- ---- the whole
 

@@ -8,8 +8,11 @@ use Rattle.words.specs.Blocks.{unmapped}
 use Rattle.words.specs.Numbers.{two}
 use Rattle.words.proofs.SectionLaws.{start, getD-joined, length-sect, getD-sect, length-fit, inside}
 use Rattle.words.specs.Sections.{flat, fit}
-use Rattle.book.specs.Book.{volumes, Sizes, Entry, Slot, Rec, Book, freeEntry, noSlot, noRec, entryAt, cellAt, slotAt, recAt, retentionOf}
-use Rattle.book.specs.Layout.{headerSize, entrySize, slotSize, recSize, retentionOffset, entriesFrom, entryOffset, mapsFrom, cellOffset, slotsFrom, slotOffset, recordsFrom, recOffset, bookSize, entryBytes, mapBytes, slotBytes, recBytes, headerWords, sections, bytes}
+use Rattle.book.specs.Book.{volumes, Sizes, Entry, Slot, Rec, Book, freeEntry, noSlot, noRec, entryAt, cellAt, slotAt, recAt}
+use Rattle.book.specs.Book.{retentionOf}
+use Rattle.book.specs.Layout.{headerSize, entrySize, slotSize, recSize, retentionOffset, entriesFrom, entryOffset, mapsFrom}
+use Rattle.book.specs.Layout.{cellOffset, slotsFrom, slotOffset, recordsFrom, recOffset, bookSize, entryBytes, mapBytes, slotBytes}
+use Rattle.book.specs.Layout.{recBytes, headerWords, sections, bytes}
 
 -- "length: 36 + 20N + 16L + 8S + 6J"
 pub size-of : (z : Sizes) → bookSize z ≡ 36 + 20 * z .n + 16 * z .l + 8 * z .s + 6 * z .j
@@ -95,7 +98,8 @@ module _ (x : Book) where
   get-cell v l j i hv hl hj e =
       let w = x .sizes .l * 2 in
       let hin : l * 2 + j < w = omega arith in
-      get-in 3 (mapsFrom (x .sizes)) (volumes * w) (v * w + (l * 2 + j)) i start-maps maps-long (inside v (l * 2 + j) volumes w hv hin) (omega arith)
+      get-in 3 (mapsFrom (x .sizes)) (volumes * w) (v * w + (l * 2 + j)) i start-maps maps-long
+      (inside v (l * 2 + j) volumes w hv hin) (omega arith)
       ∙ getD-sect w (mapBytes (x .sizes .l)) (map-size (x .sizes .l)) [] volumes (x .maps) v (l * 2 + j) hv hin
       ∙ getD-sect 2 two two-size unmapped (x .sizes .l) (getD (x .maps) v []) l j hl hj
 

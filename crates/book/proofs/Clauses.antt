@@ -12,7 +12,8 @@ use Rattle.words.specs.Lists.{all, allZero, upFrom}
 use Rattle.words.specs.Numbers.{num}
 use Rattle.words.specs.Sections.{part}
 use Rattle.book.specs.Book.{Book}
-use Rattle.book.specs.Layout.{nOffset, sOffset, jOffset, bOffset, uOffset, zeroOffset, slotSize, recSize, slotOffset, recOffset, sizesOf}
+use Rattle.book.specs.Layout.{nOffset, sOffset, jOffset, bOffset, uOffset, zeroOffset, slotSize, recSize, slotOffset, recOffset}
+use Rattle.book.specs.Layout.{sizesOf}
 use Rattle.book.specs.Form.{retentionOk, entryOk, pbnOk, recOk, slotOk, daysOk, pairsOk, bookOk, stateOk, secondOk, rawOk}
 use Rattle.book.specs.FormFacts.{BookParts}
 
@@ -50,7 +51,16 @@ book-parts x e =
 pub parts-book : (x : Book) → BookParts x → bookOk x ≡ true
 unfolding bookOk
 parts-book x p =
-    rw (le-leb (x .day) 60000 (p .day), lt-ltb (x .cursor) (x .sizes .n) (p .cursor), p .retentions, p .entries, p .maps, p .slots, p .days, p .pairs) (p .records)
+    rw (
+      le-leb (x .day) 60000 (p .day),
+      lt-ltb (x .cursor) (x .sizes .n) (p .cursor),
+      p .retentions,
+      p .entries,
+      p .maps,
+      p .slots,
+      p .days,
+      p .pairs,
+    ) (p .records)
 
 -- what only the bytes show
 pub record RawParts (b : List ℕ) : Type 0 where
@@ -91,4 +101,12 @@ raw-parts b e =
 pub parts-raw : (b : List ℕ) → RawParts b → rawOk b ≡ true
 unfolding rawOk
 parts-raw b p =
-    rw (le-leb (num b bOffset) (num b sOffset) (p .slots), le-leb (num b uOffset) (num b jOffset) (p .records), eq-eqb (num b zeroOffset) 0 (p .spare), p .states, p .seconds, p .restSlots) (p .restRecords)
+    rw (
+      le-leb (num b bOffset) (num b sOffset) (p .slots),
+      le-leb (num b uOffset) (num b jOffset) (p .records),
+      eq-eqb
+          (num b zeroOffset) 0 (p .spare),
+      p .states,
+      p .seconds,
+      p .restSlots,
+    ) (p .restRecords)

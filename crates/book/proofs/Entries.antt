@@ -55,15 +55,18 @@ print-stored e f hf =
 module _ (x : Book) (p i : ℕ) (hp : p < x .sizes .n) (hs : length (x .entries) ≡ x .sizes .n) (e : i ≡ entryOffset p) where
   pub set-count : (c : ℕ) → set (bytes x) i c ≡ bytes (withEntry (countAs c) p x)
   set-count c =
-      set-entry x p 0 i (c ∷ []) (countAs c (entryAt (x .entries) p)) hp hs (omega arith) (omega arith) (count-stored (entryAt (x .entries) p) c)
+      set-entry x p 0 i (c ∷ []) (countAs c (entryAt (x .entries) p)) hp hs (omega arith) (omega arith)
+      (count-stored (entryAt (x .entries) p) c)
 
   pub set-expiry : (d : ℕ) → sets (bytes x) (i + 2) (two d) ≡ bytes (withEntry (expiryAs d) p x)
   set-expiry d =
-      set-entry x p 2 (i + 2) (two d) (expiryAs d (entryAt (x .entries) p)) hp hs (omega arith) (omega arith) (expiry-stored (entryAt (x .entries) p) d)
+      set-entry x p 2 (i + 2) (two d) (expiryAs d (entryAt (x .entries) p)) hp hs (omega arith) (omega arith)
+      (expiry-stored (entryAt (x .entries) p) d)
 
   -- a state and a fingerprint
   set-state-print : (h : Bool) (f : List ℕ) → length f ≡ printSize
-      → sets (set (bytes x) (i + 1) (stateByte h)) (i + 4) f ≡ bytes (withEntries (set (x .entries) p (printAs f (stateAs h (entryAt (x .entries) p)))) x)
+      → sets (set (bytes x) (i + 1) (stateByte h)) (i + 4) f
+      ≡ bytes (withEntries (set (x .entries) p (printAs f (stateAs h (entryAt (x .entries) p)))) x)
   unfolding withEntries
   set-state-print h f hf =
       let y = stateAs h (entryAt (x .entries) p) in

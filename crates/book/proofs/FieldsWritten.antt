@@ -12,13 +12,17 @@ use Rattle.words.specs.Numbers.{two}
 use Rattle.words.proofs.SectionLaws.{start, sets-joined, sets-sect, sets-end, inside}
 use Rattle.words.specs.Sections.{flat, fit}
 use Rattle.book.specs.Book.{volumes, Entry, Slot, Rec, Book, freeEntry, noSlot, noRec, entryAt}
-use Rattle.book.specs.Layout.{headerSize, entrySize, slotSize, recSize, bOffset, uOffset, dayOffset, cursorOffset, retentionOffset, entriesFrom, entryOffset, mapsFrom, cellOffset, slotsFrom, slotOffset, recordsFrom, recOffset, entryBytes, mapBytes, slotBytes, recBytes, headerWords, sections, bytes}
+use Rattle.book.specs.Layout.{headerSize, entrySize, slotSize, recSize, bOffset, uOffset, dayOffset, cursorOffset, retentionOffset}
+use Rattle.book.specs.Layout.{entriesFrom, entryOffset, mapsFrom, cellOffset, slotsFrom, slotOffset, recordsFrom, recOffset}
+use Rattle.book.specs.Layout.{entryBytes, mapBytes, slotBytes, recBytes, headerWords, sections, bytes}
 use Rattle.book.specs.Next.{withDay, withCursor, withRetention, withEntries, withMaps, withSlot, withRecord, withCell}
-use Rattle.book.proofs.Bytes.{two-size, entry-size, map-size, slot-size, rec-size, retentions-long, entries-long, maps-long, slots-long, records-long, start-entries, start-maps, start-slots, start-records}
+use Rattle.book.proofs.Bytes.{two-size, entry-size, map-size, slot-size, rec-size, retentions-long, entries-long, maps-long}
+use Rattle.book.proofs.Bytes.{slots-long, records-long, start-entries, start-maps, start-slots, start-records}
 
 module _ (x : Book) where
   -- a store at i is one at j of section k, which starts at o and has m bytes
-  set-in : (k o m j i : ℕ) (vs : List ℕ) → k < 6 → start (sections x) k ≡ o → length (getD (sections x) k []) ≡ m → j + length vs ≤ m → i ≡ o + j
+  set-in : (k o m j i : ℕ) (vs : List ℕ) → k < 6 → start (sections x) k ≡ o → length (getD (sections x) k []) ≡ m
+      → j + length vs ≤ m → i ≡ o + j
       → sets (bytes x) i vs ≡ joined (set (sections x) k (sets (getD (sections x) k []) j vs))
   unfolding bytes
   set-in k o m j i vs hk eo em h e = rw (e, ← eo) (sets-joined (sections x) k j vs hk (rw em h))
@@ -37,7 +41,8 @@ module _ (x : Book) where
       → sets (bytes x) (retentionOffset v) (two r) ≡ bytes (withRetention v r x)
   unfolding bytes withRetention
   set-retention v r hv hs =
-      set-in 1 headerSize (volumes * 2) (v * 2 + 0) (retentionOffset v) (two r) (omega arith) refl (retentions-long x) (omega arith) (omega arith)
+      set-in 1 headerSize (volumes * 2) (v * 2 + 0) (retentionOffset v) (two r) (omega arith) refl (retentions-long x)
+      (omega arith) (omega arith)
       ∙ ap (λ (s : List ℕ). joined (set (sections x) 1 s))
       (sets-sect 2 two two-size 0 volumes (x .retentions) v 0 (two r) r hv (omega arith) (omega arith) refl)
 
@@ -45,10 +50,12 @@ module _ (x : Book) where
 
   -- a store within entry p that makes it y
   pub set-entry : (p j i : ℕ) (vs : List ℕ) (y : Entry) → p < x .sizes .n → length (x .entries) ≡ x .sizes .n → j + length vs ≤ entrySize
-      → i ≡ entryOffset p + j → sets (entryBytes (entryAt (x .entries) p)) j vs ≡ entryBytes y → sets (bytes x) i vs ≡ bytes (withEntries (set (x .entries) p y) x)
+      → i ≡ entryOffset p + j → sets (entryBytes (entryAt (x .entries) p)) j vs ≡ entryBytes y
+      → sets (bytes x) i vs ≡ bytes (withEntries (set (x .entries) p y) x)
   unfolding bytes withEntries
   set-entry p j i vs y hp hs hj e q =
-      set-in 2 entriesFrom (x .sizes .n * entrySize) (p * entrySize + j) i vs (omega arith) (start-entries x) (entries-long x) (omega arith) (omega arith)
+      set-in 2 entriesFrom (x .sizes .n * entrySize) (p * entrySize + j) i vs (omega arith) (start-entries x)
+      (entries-long x) (omega arith) (omega arith)
       ∙ ap (λ (s : List ℕ). joined (set (sections x) 2 s))
       (sets-sect entrySize entryBytes entry-size freeEntry (x .sizes .n) (x .entries) p j vs y hp (omega arith) hj q)
 

@@ -12,7 +12,8 @@ use Rattle.words.specs.Lists.{allZero}
 use Rattle.words.specs.Numbers.{num}
 use Rattle.words.specs.Sections.{part}
 use Rattle.book.specs.Book.{Book, Sized}
-use Rattle.book.specs.Layout.{layoutNumber, headerSize, nOffset, sOffset, jOffset, bOffset, uOffset, entryOffset, slotSize, slotOffset, recSize, recOffset, bookSize, bytes, sizesOf, bookOf, Holds}
+use Rattle.book.specs.Layout.{layoutNumber, headerSize, nOffset, sOffset, jOffset, bOffset, uOffset, entryOffset, slotSize}
+use Rattle.book.specs.Layout.{slotOffset, recSize, recOffset, bookSize, bytes, sizesOf, bookOf, Holds}
 use Rattle.book.specs.Form.{sizesOk, layoutOk, stateOk, secondOk, bookOk, formNumber}
 use Rattle.book.proofs.SizesIn.{sizes-in}
 use Rattle.book.specs.FormFacts.{Laid}
@@ -47,10 +48,20 @@ outline-parts b l r =
       spare = r .spare;
       slots = slots;
       records = records;
-      states = λ p h. leb-true (getD b (entryOffset p + 1) 0) 1 (each-at (stateOk b) 0 (num b nOffset) (sym (all-each (stateOk b) (num b nOffset)) ∙ r .states) p (omega arith) h);
-      seconds = λ q h. eqb-true (getD b (slotOffset (sizesOf b) q + 1) 0) 0 (each-at (secondOk b) 0 (num b bOffset) (sym (all-each (secondOk b) (num b bOffset)) ∙ r .seconds) q (omega arith) h);
-      freeSlots = λ i lo hi. zero-byte b (slotOffset (sizesOf b) (num b bOffset)) ((num b sOffset - num b bOffset) * slotSize) (omega arith) (r .restSlots) i lo (omega arith);
-      freeRecords = λ i lo hi. zero-byte b (recOffset (sizesOf b) (num b uOffset)) ((num b jOffset - num b uOffset) * recSize) (omega arith) (r .restRecords) i lo (omega arith);
+      states =
+          λ p h. leb-true (getD b (entryOffset p + 1) 0) 1
+          (each-at (stateOk b) 0 (num b nOffset) (sym (all-each (stateOk b) (num b nOffset)) ∙ r .states) p
+          (omega arith) h);
+      seconds =
+          λ q h. eqb-true (getD b (slotOffset (sizesOf b) q + 1) 0) 0
+          (each-at (secondOk b) 0 (num b bOffset) (sym (all-each (secondOk b) (num b bOffset)) ∙ r .seconds) q
+          (omega arith) h);
+      freeSlots =
+          λ i lo hi. zero-byte b (slotOffset (sizesOf b) (num b bOffset)) ((num b sOffset - num b bOffset) * slotSize)
+          (omega arith) (r .restSlots) i lo (omega arith);
+      freeRecords =
+          λ i lo hi. zero-byte b (recOffset (sizesOf b) (num b uOffset)) ((num b jOffset - num b uOffset) * recSize)
+          (omega arith) (r .restRecords) i lo (omega arith);
     }
 
 pub parts-outline : (b : List ℕ) → Outline b → RawParts b
@@ -63,17 +74,27 @@ parts-outline b h =
       slots = slots;
       records = records;
       spare = h .spare;
-      states = all-each (stateOk b) (num b nOffset) ∙ at-each (stateOk b) 0 (num b nOffset) (λ p _ l. le-leb (getD b (entryOffset p + 1) 0) 1 (h .states p l));
-      seconds = all-each (secondOk b) (num b bOffset) ∙ at-each (secondOk b) 0 (num b bOffset) (λ q _ l. eq-eqb (getD b (slotOffset (sizesOf b) q + 1) 0) 0 (h .seconds q l));
-      restSlots = byte-zero b (slotOffset (sizesOf b) (num b bOffset)) ((num b sOffset - num b bOffset) * slotSize) (omega arith) (λ i lo hi. h .freeSlots i lo (omega arith));
-      restRecords = byte-zero b (recOffset (sizesOf b) (num b uOffset)) ((num b jOffset - num b uOffset) * recSize) (omega arith) (λ i lo hi. h .freeRecords i lo (omega arith));
+      states =
+          all-each (stateOk b) (num b nOffset)
+          ∙ at-each (stateOk b) 0 (num b nOffset) (λ p _ l. le-leb (getD b (entryOffset p + 1) 0) 1 (h .states p l));
+      seconds =
+          all-each (secondOk b) (num b bOffset)
+          ∙ at-each (secondOk b) 0 (num b bOffset)
+          (λ q _ l. eq-eqb (getD b (slotOffset (sizesOf b) q + 1) 0) 0 (h .seconds q l));
+      restSlots =
+          byte-zero b (slotOffset (sizesOf b) (num b bOffset)) ((num b sOffset - num b bOffset) * slotSize)
+          (omega arith) (λ i lo hi. h .freeSlots i lo (omega arith));
+      restRecords =
+          byte-zero b (recOffset (sizesOf b) (num b uOffset)) ((num b jOffset - num b uOffset) * recSize) (omega arith)
+          (λ i lo hi. h .freeRecords i lo (omega arith));
     }
 
 layout-shape : (b : List ℕ) → Outline b → sizesOk (sizesOf b) ≡ true → layoutOk b ≡ true
 unfolding layoutOk
 layout-shape b h z =
     let len = h .len in
-    rw (le-leb headerSize (length b) (omega arith), eq-eqb (num b 0) layoutNumber (h .layout), z) (eq-eqb (length b) (bookSize (sizesOf b)) len)
+    rw (le-leb headerSize (length b) (omega arith), eq-eqb (num b 0) layoutNumber (h .layout), z)
+    (eq-eqb (length b) (bookSize (sizesOf b)) len)
 
 -- ---- what callers use
 
@@ -95,4 +116,5 @@ book-form b e =
 pub form-bytes : (x : Book) → Sized x → sizesOk (x .sizes) ≡ true → bookOk x ≡ true → formNumber (bytes x) ≡ 0
 form-bytes x s z e =
     let h = shape-bytes x s in
-    parts-form (bytes x) (layout-shape (bytes x) h (rw (sizes-bytes x) z)) (parts-raw (bytes x) (parts-outline (bytes x) h)) (rw (book-bytes x s) e)
+    parts-form (bytes x) (layout-shape (bytes x) h (rw (sizes-bytes x) z))
+    (parts-raw (bytes x) (parts-outline (bytes x) h)) (rw (book-bytes x s) e)

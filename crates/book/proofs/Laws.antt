@@ -13,7 +13,9 @@ use Rattle.words.proofs.NumberLaws.{two-back}
 use Rattle.words.specs.Sections.{flat, tab}
 use Rattle.words.proofs.SectionLaws.{tab-list, getD-fit}
 use Rattle.book.specs.Book.{volumes, Book, freeEntry, noSlot, noRec, entryAt, cellAt, slotAt, recAt, retentionOf, Sized}
-use Rattle.book.specs.Layout.{headerSize, slotSize, recSize, nOffset, lOffset, sOffset, jOffset, bOffset, uOffset, dayOffset, cursorOffset, zeroOffset, retentionOffset, entryOffset, cellOffset, slotOffset, recOffset, stateByte, slotBytes, recBytes, headerWords, bytes, sizesOf, entryOf, slotOf, recOf, bookOf}
+use Rattle.book.specs.Layout.{headerSize, slotSize, recSize, nOffset, lOffset, sOffset, jOffset, bOffset, uOffset, dayOffset}
+use Rattle.book.specs.Layout.{cursorOffset, zeroOffset, retentionOffset, entryOffset, cellOffset, slotOffset, recOffset, stateByte}
+use Rattle.book.specs.Layout.{slotBytes, recBytes, headerWords, bytes, sizesOf, entryOf, slotOf, recOf, bookOf}
 use Rattle.book.proofs.Bytes.{get-head, get-retention, get-entry, get-cell, get-slot, get-rec}
 
 -- a state's byte read back
@@ -24,7 +26,8 @@ state-back false = refl
 module _ (x : Book) where
   -- ---- the header's numbers
 
-  num-head : (k v : ℕ) → k + 1 < headerSize → getD (flat two (headerWords x)) k 0 ≡ v % 256 → getD (flat two (headerWords x)) (k + 1) 0 ≡ v / 256
+  num-head : (k v : ℕ) → k + 1 < headerSize → getD (flat two (headerWords x)) k 0 ≡ v % 256
+      → getD (flat two (headerWords x)) (k + 1) 0 ≡ v / 256
       → num (bytes x) k ≡ v
   num-head k v h e₀ e₁ = rw (get-head x k (omega arith), get-head x (k + 1) h, e₀, e₁) (two-back v)
 
@@ -75,9 +78,14 @@ module _ (x : Book) where
   entry-back p hp hs =
       let e = entryAt (x .entries) p in
       let at = entryOffset p in
-      let held : eqb (getD (bytes x) (at + 1) 0) 1 ≡ e .held = rw (get-entry x p 1 (at + 1) hp (omega arith) (omega arith)) (state-back (e .held)) in
+      let held : eqb (getD (bytes x) (at + 1) 0) 1 ≡ e .held =
+      rw (get-entry x p 1 (at + 1) hp (omega arith) (omega arith)) (state-back (e .held)) in
       let expiry : num (bytes x) (at + 2) ≡ e .expiry =
-      rw (get-entry x p 2 (at + 2) hp (omega arith) (omega arith), get-entry x p 3 (at + 2 + 1) hp (omega arith) (omega arith)) (two-back (e .expiry))
+      rw (
+        get-entry x p 2 (at + 2) hp (omega arith) (omega arith),
+        get-entry x p 3 (at + 2 + 1) hp (omega arith)
+            (omega arith),
+      ) (two-back (e .expiry))
       in
       let print : tab printSize (λ i. getD (bytes x) (at + 4 + i) 0) ≡ e .print =
       tab-list printSize (λ i. getD (bytes x) (at + 4 + i) 0) (e .print) 0 hs
@@ -142,7 +150,8 @@ module _ (x : Book) where
       let ms : tab volumes (λ v. tab (num b lOffset) (λ l. num b (cellOffset (sizesOf b) v l))) ≡ x .maps =
       rw (num-n, num-l)
       (tab-list volumes (λ v. tab (z .l) (λ l. num b (cellOffset z v l))) (x .maps) [] (s .maps)
-      (λ v hv. tab-list (z .l) (λ l. num b (cellOffset z v l)) (getD (x .maps) v []) unmapped (s .cells v hv) (λ l hl. cell-back v l hv hl)))
+      (λ v hv. tab-list (z .l) (λ l. num b (cellOffset z v l)) (getD (x .maps) v []) unmapped (s .cells v hv)
+      (λ l hl. cell-back v l hv hl)))
       in
       let ts : tab (num b bOffset) (λ q. slotOf b (slotOffset (sizesOf b) q)) ≡ x .slots =
       rw (num-n, num-l, num-b)
@@ -150,7 +159,8 @@ module _ (x : Book) where
       in
       let rs : tab (num b uOffset) (λ q. recOf b (recOffset (sizesOf b) q)) ≡ x .records =
       rw (num-n, num-l, num-s, num-u)
-      (tab-list (length (x .records)) (λ q. recOf b (recOffset z q)) (x .records) noRec refl (λ q hq. rec-back q (omega (arith, s .records))))
+      (tab-list (length (x .records)) (λ q. recOf b (recOffset z q)) (x .records) noRec refl
+      (λ q hq. rec-back q (omega (arith, s .records))))
       in
       λ i. record {
         sizes = sizes-bytes i;

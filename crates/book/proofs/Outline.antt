@@ -4,7 +4,8 @@ use mathlib.Core.List.{List}
 use Prim.Native.Nat.{ℕ, _+_, _≤_, _<_}
 use lib.ListN.{length, getD}
 use Rattle.words.specs.Numbers.{num}
-use Rattle.book.specs.Layout.{layoutNumber, nOffset, sOffset, jOffset, bOffset, uOffset, zeroOffset, entryOffset, recordsFrom, slotOffset, recOffset, bookSize, sizesOf}
+use Rattle.book.specs.Layout.{layoutNumber, nOffset, sOffset, jOffset, bOffset, uOffset, zeroOffset, entryOffset, recordsFrom}
+use Rattle.book.specs.Layout.{slotOffset, recOffset, bookSize, sizesOf}
 
 pub record Outline (b : List ℕ) : Type 0 where
   pub len : length b ≡ bookSize (sizesOf b)

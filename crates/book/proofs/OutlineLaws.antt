@@ -6,7 +6,8 @@ use Prim.Native.Nat.{ℕ, _+_, _-_, _≤_, _<_, _/_, _%_}
 use native.Mathlib.Omega.{arith}
 use lib.ListN.{length, getD, getD-replicate, List·getD-eq-default}
 use Rattle.book.specs.Book.{Sizes, Slot, Rec, Book, noSlot, noRec, entryAt, slotAt, recAt, Sized}
-use Rattle.book.specs.Layout.{slotSize, recSize, entryOffset, slotsFrom, slotOffset, recordsFrom, recOffset, bookSize, stateByte, slotBytes, recBytes, bytes}
+use Rattle.book.specs.Layout.{slotSize, recSize, entryOffset, slotsFrom, slotOffset, recordsFrom, recOffset, bookSize, stateByte}
+use Rattle.book.specs.Layout.{slotBytes, recBytes, bytes}
 use Rattle.book.proofs.Bytes.{length-bytes, get-entry, get-slot, get-rec}
 use Rattle.book.proofs.Laws.{num-layout, num-n, num-l, num-s, num-j, num-b, num-u, num-zero}
 use Rattle.book.proofs.Outline.{Outline}
@@ -48,8 +49,12 @@ module _ (x : Book) (s : Sized x) where
         spare = num-zero x;
         slots = rw (num-b x, num-s x) (s .slots);
         records = rw (num-u x, num-j x) (s .records);
-        states = λ p. rw (num-n x) (λ hp. rw (get-entry x p 1 (entryOffset p + 1) hp (omega arith) refl) (state-small (entryAt (x .entries) p .held)));
-        seconds = λ q. rw (num-n x, num-l x, num-b x) (λ hq. get-slot x q 1 (slotOffset z q + 1) (omega (arith, s .slots)) (omega arith) refl);
+        states =
+            λ p. rw (num-n x) (λ hp. rw (get-entry x p 1 (entryOffset p + 1) hp (omega arith) refl)
+            (state-small (entryAt (x .entries) p .held)));
+        seconds =
+            λ q. rw (num-n x, num-l x, num-b x)
+            (λ hq. get-slot x q 1 (slotOffset z q + 1) (omega (arith, s .slots)) (omega arith) refl);
         freeSlots = λ i. rw (num-n x, num-l x, num-s x, num-b x) (free-slots i);
         freeRecords = λ i. rw (num-n x, num-l x, num-s x, num-j x, num-u x) (free-records i);
       }

@@ -11,7 +11,9 @@ use Rattle.words.specs.Numbers.{two, num}
 use Rattle.words.specs.Sections.{flat, tab, part}
 use Rattle.words.proofs.SectionLaws.{length-tab, getD-tab, part-tab, inside}
 use Rattle.book.specs.Book.{volumes, freeEntry, noSlot, noRec, entryAt, cellAt, slotAt, recAt, retentionOf}
-use Rattle.book.specs.Layout.{nOffset, lOffset, sOffset, jOffset, bOffset, uOffset, dayOffset, cursorOffset, retentionOffset, entryOffset, mapsFrom, cellOffset, slotOffset, recOffset, sizesOf, entryOf, cellOf, slotOf, recOf, bookOf, Holds}
+use Rattle.book.specs.Layout.{nOffset, lOffset, sOffset, jOffset, bOffset, uOffset, dayOffset, cursorOffset, retentionOffset}
+use Rattle.book.specs.Layout.{entryOffset, mapsFrom, cellOffset, slotOffset, recOffset, sizesOf, entryOf, cellOf, slotOf, recOf}
+use Rattle.book.specs.Layout.{bookOf, Holds}
 use Rattle.book.proofs.Back.{nums-part}
 
 module _ (b : List ℕ) where
@@ -70,7 +72,8 @@ module _ (b : List ℕ) where
         rw (e, ← entry-at p hp)
         (sym (part-tab printSize b (entryOffset p + 4) (λ k. getD b (entryOffset p + 4 + k) 0) (omega (arith, h)) (λ k hk. refl)))
 
-  pub cell-at : (v l i : ℕ) → v < volumes → l < bookOf b .sizes .l → i ≡ cellOffset (bookOf b .sizes) v l → num b i ≡ cellAt (bookOf b .maps) v l
+  pub cell-at : (v l i : ℕ) → v < volumes → l < bookOf b .sizes .l → i ≡ cellOffset (bookOf b .sizes) v l
+      → num b i ≡ cellAt (bookOf b .maps) v l
   unfolding bookOf
   cell-at v l i hv hl e =
       rw (e, getD-tab volumes (λ v. tab (num b lOffset) (cellOf b v)) v [] hv, getD-tab (num b lOffset) (cellOf b v) l unmapped hl)

@@ -6,7 +6,8 @@ use native.Mathlib.Omega.{arith}
 use lib.ListN.{length, getD, set, replicate, length-set, length-append, length-replicate, getD-replicate}
 use Rattle.words.specs.Blocks.{printSize, unmapped}
 use Rattle.book.specs.Book.{volumes, Sizes, Entry, Slot, Rec, Book, noPrint, freeEntry, entryAt, Sized}
-use Rattle.book.specs.Next.{withDay, withCursor, withRetention, withEntries, withMaps, withSlot, withRecord, countAs, expiryAs, heldAs, madeFree, withEntry, withCell, fresh}
+use Rattle.book.specs.Next.{withDay, withCursor, withRetention, withEntries, withMaps, withSlot, withRecord, countAs, expiryAs}
+use Rattle.book.specs.Next.{heldAs, madeFree, withEntry, withCell, fresh}
 
 -- ---- no change but a format touches the sizes
 

@@ -8,11 +8,14 @@ use Rattle.words.specs.Blocks.{printSize}
 use Rattle.words.specs.Numbers.{two, put}
 use Rattle.words.proofs.Filling.{put-sets}
 use Rattle.book.specs.Book.{volumes, Slot, Rec, Book}
-use Rattle.book.specs.Layout.{bOffset, uOffset, dayOffset, cursorOffset, retentionOffset, entryOffset, cellOffset, slotOffset, recOffset, slotBytes, recBytes, bytes, bookOf, Holds, Is}
-use Rattle.book.specs.Next.{withDay, withCursor, withRetention, withEntries, withMaps, withSlot, withRecord, countAs, expiryAs, heldAs, madeFree, withEntry, withCell}
+use Rattle.book.specs.Layout.{bOffset, uOffset, dayOffset, cursorOffset, retentionOffset, entryOffset, cellOffset, slotOffset}
+use Rattle.book.specs.Layout.{recOffset, slotBytes, recBytes, bytes, bookOf, Holds, Is}
+use Rattle.book.specs.Next.{withDay, withCursor, withRetention, withEntries, withMaps, withSlot, withRecord, countAs, expiryAs}
+use Rattle.book.specs.Next.{heldAs, madeFree, withEntry, withCell}
 use Rattle.book.proofs.FieldsWritten.{set-day, set-cursor, set-retention, set-cell, add-slot, add-record}
 use Rattle.book.proofs.Entries.{set-count, set-expiry, set-held, set-freed}
-use Rattle.book.proofs.Sizing.{sized-day, sized-cursor, sized-retention, sized-count, sized-expiry, sized-held, sized-freed, sized-cell, sized-slot, sized-record}
+use Rattle.book.proofs.Sizing.{sized-day, sized-cursor, sized-retention, sized-count, sized-expiry, sized-held, sized-freed}
+use Rattle.book.proofs.Sizing.{sized-cell, sized-slot, sized-record}
 use Rattle.book.proofs.Holding.{is-bytes, bounds-holds}
 
 module _ {b : List ℕ} (h : Holds b) where
@@ -37,7 +40,8 @@ module _ {b : List ℕ} (h : Holds b) where
       is-bytes (withRetention v r x) (sized-retention x (h .sized) v r) (bounds-holds h)
       (e ∙ put-same (retentionOffset v) r ∙ set-retention x v r hv (h .sized .retentions))
 
-  pub is-cell : {b₁ : List ℕ} (v l p i : ℕ) → v < volumes → l < x .sizes .l → i ≡ cellOffset (x .sizes) v l → b₁ ≡ put b i p → Is b₁ (withCell v l p x)
+  pub is-cell : {b₁ : List ℕ} (v l p i : ℕ) → v < volumes → l < x .sizes .l → i ≡ cellOffset (x .sizes) v l
+      → b₁ ≡ put b i p → Is b₁ (withCell v l p x)
   unfolding withMaps
   is-cell v l p i hv hl ei e =
       is-bytes (withCell v l p x) (sized-cell x (h .sized) v l p hv) (bounds-holds h)
@@ -58,7 +62,8 @@ module _ {b : List ℕ} (h : Holds b) where
         is-bytes (withEntry (expiryAs d) p x) (sized-expiry x (h .sized) p d hp) (bounds-holds h)
         (e ∙ put-same (i + 2) d ∙ set-expiry x p i hp (h .sized .entries) ei d)
 
-    pub is-held : {b₁ : List ℕ} (f : List ℕ) → length f ≡ printSize → b₁ ≡ sets (set b (i + 1) 1) (i + 4) f → Is b₁ (withEntry (heldAs f) p x)
+    pub is-held : {b₁ : List ℕ} (f : List ℕ) → length f ≡ printSize → b₁ ≡ sets (set b (i + 1) 1) (i + 4) f
+        → Is b₁ (withEntry (heldAs f) p x)
     unfolding withEntries
     is-held f hf e =
         is-bytes (withEntry (heldAs f) p x) (sized-held x (h .sized) p f hf) (bounds-holds h)
@@ -68,7 +73,8 @@ module _ {b : List ℕ} (h : Holds b) where
     unfolding withEntries
     is-freed e =
         is-bytes (withEntry madeFree p x) (sized-freed x (h .sized) p) (bounds-holds h)
-        (e ∙ ap (λ (l : List ℕ). sets (set l (i + 1) 0) (i + 4) (replicate printSize 0)) (h .same) ∙ set-freed x p i hp (h .sized .entries) ei)
+        (e ∙ ap (λ (l : List ℕ). sets (set l (i + 1) 0) (i + 4) (replicate printSize 0)) (h .same)
+        ∙ set-freed x p i hp (h .sized .entries) ei)
 
   -- ---- from what the two stores left
 

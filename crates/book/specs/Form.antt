@@ -26,7 +26,8 @@ use Rattle.words.specs.Lists.{all, allZero, upFrom}
 use Rattle.words.specs.Numbers.{num}
 use Rattle.words.specs.Sections.{part}
 use Rattle.book.specs.Book.{Sizes, Entry, Slot, Rec, Book, retentionOf}
-use Rattle.book.specs.Layout.{layoutNumber, headerSize, slotSize, recSize, bOffset, uOffset, zeroOffset, entryOffset, slotOffset, recOffset, bookSize, sizesOf, bookOf}
+use Rattle.book.specs.Layout.{layoutNumber, headerSize, slotSize, recSize, bOffset, uOffset, zeroOffset, entryOffset, slotOffset}
+use Rattle.book.specs.Layout.{recOffset, bookSize, sizesOf, bookOf}
 
 unfoldable pub between : ℕ → ℕ → ℕ → Bool
 between low high k = leb low k && leb k high

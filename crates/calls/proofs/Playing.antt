@@ -44,7 +44,8 @@ module _ {spare : ℕ} {b₀ pool₀ : List ℕ} {cs : List Call} {out₀ : List
         end = ap (λ (o : Ours). endOf (ours spare) o rest) (d .next) ∙ p .end;
         answers =
             ap (λ (x : List ℕ). sets out′ r x) same
-            ∙ ap₂ (λ (o : List ℕ) (k : ℕ). sets o k (answered spare (ours spare (at b pool) c .next) rest)) (d .answer .list) (d .answer .place)
+            ∙ ap₂ (λ (o : List ℕ) (k : ℕ). sets o k (answered spare (ours spare (at b pool) c .next) rest))
+            (d .answer .list) (d .answer .place)
             ∙ sets-append (answerBytes (ours spare (at b pool) c .answer)) (answered spare (ours spare (at b pool) c .next) rest) out to
             ∙ p .answers;
         reach =

@@ -49,5 +49,6 @@ pub record Played (spare : ℕ) (b pool calls out : List ℕ) (w r : ℕ) (b′ 
   pub number : r ≡ numberOf (playable calls (roomOf (length out)))
   pub end : at b′ pool′ ≡ after (endOf (ours spare) (at b pool)) (playable calls (roomOf (length out))) (at b pool)
   pub answers : out′
-      ≡ after (λ cs. answered spare (at b pool) cs ++ drop (length (answered spare (at b pool) cs)) out) (playable calls (roomOf (length out))) out
+      ≡ after (λ cs. answered spare (at b pool) cs ++ drop (length (answered spare (at b pool) cs)) out)
+      (playable calls (roomOf (length out))) out
   pub written : w′ ≡ after (λ cs. length (answered spare (at b pool) cs)) (playable calls (roomOf (length out))) w

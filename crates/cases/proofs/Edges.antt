@@ -202,7 +202,9 @@ damaged = record {
     day = 0;
     cursor = 0;
     retentions = 9 ∷ replicate 7 0;
-    entries = record { count = 0; held = true; expiry = 0; print = printOf A } ∷ record { count = 0; held = false; expiry = 0; print = printOf 0 } ∷ [];
+    entries =
+        record { count = 0; held = true; expiry = 0; print = printOf A }
+        ∷ record { count = 0; held = false; expiry = 0; print = printOf 0 } ∷ [];
     maps = (0 ∷ unmapped ∷ unmapped ∷ unmapped ∷ []) ∷ replicate 7 (replicate 4 unmapped);
     slots = [];
     records = [];

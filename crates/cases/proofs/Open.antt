@@ -40,13 +40,15 @@ unfolding
     Read.image Read.readNumber Read.read
     Audit.noMaps Audit.mapsSound Audit.countSound Audit.expirySound Audit.printsSound Audit.cellSound Audit.currentSound Audit.backupSound
     Audit.backupsSound Audit.audit
-    OnBytes.poolNumber OnBytes.spareNumber OnBytes.formatNumber OnBytes.formatBytes OnBytes.enrolBytes OnBytes.backedBytes OnBytes.backupBytes
+    OnBytes.poolNumber OnBytes.spareNumber OnBytes.formatNumber OnBytes.formatBytes OnBytes.enrolBytes
+    OnBytes.backedBytes OnBytes.backupBytes
     OnBytes.collectedBytes OnBytes.collectBytes OnBytes.readBytes OnBytes.readNumberBytes OnBytes.readPlaceBytes OnBytes.auditBytes
     Views.enrolledNumber Views.outputNumber Views.usedOf Views.volumeOf Views.backupsOf Views.cellsOf Views.blocksOf Views.sizesBytes
     Views.usedBytes Views.volumeBytes Views.withRoom Views.backupsBytes Views.cellsBytes Views.blocksBytes
     Plain.unenrolled Plain.start Plain.atDay Plain.withBlocks Plain.withVolume Plain.currentMaps Plain.enrolNumber Plain.enrol Plain.marked
     Plain.collected Plain.collectNumber Plain.collect Plain.readNumber Plain.read
-    PlainBackup.backupsSoFar PlainBackup.changesSoFar PlainBackup.backupNumber PlainBackup.findHeld PlainBackup.findFree PlainBackup.takeBlock
+    PlainBackup.backupsSoFar PlainBackup.changesSoFar PlainBackup.backupNumber PlainBackup.findHeld PlainBackup.findFree
+    PlainBackup.takeBlock
     PlainBackup.placeFree PlainBackup.placeHeld PlainBackup.place PlainBackup.moveNumber PlainBackup.moved PlainBackup.moveTo
     PlainBackup.changeStep PlainBackup.begun PlainBackup.withImage PlainBackup.closed PlainBackup.backup
     Runs.readAnswer Runs.auditAnswer Runs.oursEnrolled Runs.oursBacked Runs.oursCollected Runs.ours Runs.plainEnrolled Runs.plainBacked

@@ -1,4 +1,5 @@
--- Every number of refusal of these calls, and its place in the checking order: each call breaks its own number and, where it can, later ones.
+-- Every number of refusal of these calls, and its place in the checking order: each call breaks its own number and, where it can, later
+-- ones.
 use Prim.Native.Nat.{ℕ}
 use mathlib.Core.Path.{_≡_, refl}
 use mathlib.Core.List.{List, [], _∷_, _++_, map}
@@ -102,7 +103,8 @@ pub record Damage : Type 0 where
   pub enrols : map (λ b. numberOf (enrolBytes b 8 0)) (nothing ∷ short ∷ odd ∷ more ∷ good ∷ []) ≡ 1 ∷ 1 ∷ 2 ∷ 2 ∷ 5 ∷ []
   pub collects : map (λ b. numberOf (collectBytes b 60001)) (nothing ∷ short ∷ odd ∷ more ∷ good ∷ []) ≡ 1 ∷ 1 ∷ 2 ∷ 2 ∷ 7 ∷ []
   pub audits : map (λ b. numberOf (auditBytes b)) (nothing ∷ short ∷ odd ∷ more ∷ good ∷ []) ≡ 1 ∷ 1 ∷ 2 ∷ 2 ∷ 0 ∷ []
-  pub backups : map (λ b. numberOf (backupBytes b nothing 0 8 60001 nothing)) (nothing ∷ short ∷ odd ∷ more ∷ good ∷ []) ≡ 1 ∷ 1 ∷ 2 ∷ 2 ∷ 3 ∷ []
+  pub backups : map (λ b. numberOf (backupBytes b nothing 0 8 60001 nothing)) (nothing ∷ short ∷ odd ∷ more ∷ good ∷ [])
+      ≡ 1 ∷ 1 ∷ 2 ∷ 2 ∷ 3 ∷ []
   pub spares : map (λ s. numberOf (backupBytes good pool s 8 60001 nothing)) (0 ∷ 219 ∷ 220 ∷ []) ≡ 4 ∷ 4 ∷ 5 ∷ []
   pub reads : map (λ b. readNumberBytes b nothing 8 0 4) (nothing ∷ short ∷ odd ∷ more ∷ good ∷ []) ≡ 1 ∷ 1 ∷ 2 ∷ 2 ∷ 3 ∷ []
   pub readNext : readNumberBytes good pool 8 0 4 ≡ 5

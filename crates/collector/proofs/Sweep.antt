@@ -47,7 +47,8 @@ module _ (b : List ℕ) (t p : ℕ) where
   unfolding sweptEntry withEntries
   free-kept h e = record { holds = h; book = rw (e, set-getD) }
 
-  pub free-freed : {b′ : List ℕ} → isOver t (entryAt (bookOf b .entries) p) ≡ true → Is b′ (withEntry madeFree p (bookOf b)) → Is b′ (withEntry (sweptEntry t) p (bookOf b))
+  pub free-freed : {b′ : List ℕ} → isOver t (entryAt (bookOf b .entries) p) ≡ true
+      → Is b′ (withEntry madeFree p (bookOf b)) → Is b′ (withEntry (sweptEntry t) p (bookOf b))
   unfolding sweptEntry
   free-freed e i = rw e i
 
@@ -66,7 +67,15 @@ sweeping-inside {b₀ = b₀} {t = t} {p = p} s l = rw (s .book .book, swept-n (
 
 module _ {b₀ : List ℕ} (t : ℕ) (h : Holds b₀) where
   pub sweeping-start : Sweeping b₀ t b₀ 0 0
-  sweeping-start = record { inside = omega arith; few = omega arith; len = refl; book = record { holds = h; book = swept-none (bookOf b₀) t }; count = refl }
+  sweeping-start =
+      record {
+        inside = omega arith;
+        few = omega arith;
+        len = refl;
+        book = record
+            { holds = h; book = swept-none (bookOf b₀) t };
+        count = refl;
+      }
 
   module _ {b : List ℕ} {freed p : ℕ} (s : Sweeping b₀ t b freed p) where
     pub sweeping-more : {b′ : List ℕ} {freed′ : ℕ} {r : Bool} → p < bookOf b₀ .sizes .n

@@ -19,8 +19,11 @@ use Rattle.words.specs.Numbers.{num}
 use Rattle.words.specs.Sections.{tab, part}
 use Rattle.words.proofs.SectionLaws.{length-tab}
 use Rattle.book.specs.Book.{volumes, Slot}
-use Rattle.book.specs.Layout.{nOffset, lOffset, sOffset, jOffset, bOffset, uOffset, retentionOffset, entriesFrom, entrySize, mapsFrom, cellOffset, slotsFrom, slotSize, recSize, slotOffset, recordsFrom, recOffset, bookSize, sizesOf, entryOf, cellOf, recOf, bookOf}
-use Rattle.book.specs.Form.{retentionOk, entryOk, pbnOk, recOk, enrolled, slotOk, daysOk, pairsOk, bookOk, stateOk, secondOk, rawOk, layoutOk, formNumber}
+use Rattle.book.specs.Layout.{nOffset, lOffset, sOffset, jOffset, bOffset, uOffset, retentionOffset, entriesFrom, entrySize, mapsFrom}
+use Rattle.book.specs.Layout.{cellOffset, slotsFrom, slotSize, recSize, slotOffset, recordsFrom, recOffset, bookSize, sizesOf, entryOf}
+use Rattle.book.specs.Layout.{cellOf, recOf, bookOf}
+use Rattle.book.specs.Form.{retentionOk, entryOk, pbnOk, recOk, enrolled, slotOk, daysOk, pairsOk, bookOk, stateOk, secondOk, rawOk}
+use Rattle.book.specs.Form.{layoutOk, formNumber}
 use Rattle.book.proofs.FormNumber.{number-0, number-2}
 use Rattle.book.specs.FormFacts.{BookParts}
 use Rattle.book.proofs.Clauses.{book-parts, parts-book, RawParts, raw-parts, parts-raw}
@@ -45,14 +48,17 @@ module _ (b : List ℕ) where
       rw (all-each (stateOk b) (num b nOffset), tab-each entryOk (num b nOffset) (entryOf b))
       (sym (each-and (stateOk b) (λ p. entryOk (entryOf b p)) 0 (num b nOffset)))
 
-  maps-pass : all (all (pbnOk (bookOf b .sizes .n))) (bookOf b .maps) ≡ mapsOk b (mapsFrom (sizesOf b)) (volumes * num b lOffset) (num b nOffset)
+  maps-pass : all (all (pbnOk (bookOf b .sizes .n))) (bookOf b .maps)
+      ≡ mapsOk b (mapsFrom (sizesOf b)) (volumes * num b lOffset) (num b nOffset)
   unfolding bookOf mapsOk
   maps-pass =
       let row : ℕ → ℕ → Bool = λ v k. pbnOk (num b nOffset) (cellOf b v k) in
       tab-each (all (pbnOk (num b nOffset))) volumes (λ v. tab (num b lOffset) (cellOf b v))
-      ∙ each-same (λ v. all (pbnOk (num b nOffset)) (tab (num b lOffset) (cellOf b v))) (λ v. each (λ k. cell (v * num b lOffset + k)) 0 (num b lOffset)) 0 volumes
+      ∙ each-same (λ v. all (pbnOk (num b nOffset)) (tab (num b lOffset) (cellOf b v)))
+      (λ v. each (λ k. cell (v * num b lOffset + k)) 0 (num b lOffset)) 0 volumes
       (λ v _ _. tab-each (pbnOk (num b nOffset)) (num b lOffset) (cellOf b v)
-      ∙ each-same (row v) (λ k. cell (v * num b lOffset + k)) 0 (num b lOffset) (λ k _ _. ap (λ (at : ℕ). pbnOk (num b nOffset) (num b at)) (offset v k)))
+      ∙ each-same (row v) (λ k. cell (v * num b lOffset + k)) 0 (num b lOffset)
+      (λ k _ _. ap (λ (at : ℕ). pbnOk (num b nOffset) (num b at)) (offset v k)))
       ∙ rows-each cell (num b lOffset) volumes
     where
       cell : ℕ → Bool
@@ -83,7 +89,10 @@ module _ (b : List ℕ) where
   unfolding slotsLeft
   slots-pass =
       rw (all-each (secondOk b) (num b bOffset), used)
-      (go (each (secondOk b) 0 (num b bOffset)) (all (slotOk (bookOf b)) (bookOf b .slots)) (pairsOk 0 (bookOf b .slots) (num b uOffset)) (λ e. sym (days-pass (bookOf b .slots) (all-weaker (slotOk (bookOf b)) volumeOk (bookOf b .slots) slot-volume e))))
+      (go (each (secondOk b) 0 (num b bOffset)) (all (slotOk (bookOf b)) (bookOf b .slots))
+      (pairsOk 0 (bookOf b .slots) (num b uOffset))
+      (λ e. sym (days-pass (bookOf b .slots)
+      (all-weaker (slotOk (bookOf b)) volumeOk (bookOf b .slots) slot-volume e))))
     where
       go : (a s p : Bool) {d d′ : Bool} → (s ≡ true → d ≡ d′) → (a && s && d && p) ≡ (a && s && d′ && p)
       go false s p h = refl
@@ -98,13 +107,15 @@ sectionsOk b = headOk b && blocksOk b && slotsOk b && journalOk b
 
 module _ (b : List ℕ) (len : length b ≡ bookSize (sizesOf b)) where
   rest-slots : num b bOffset ≤ num b sOffset
-      → allZero (part b (slotOffset (sizesOf b) (num b bOffset)) ((num b sOffset - num b bOffset) * slotSize)) ≡ zerosIn b (slotOffset (sizesOf b) (num b bOffset)) (recordsFrom (sizesOf b))
+      → allZero (part b (slotOffset (sizesOf b) (num b bOffset)) ((num b sOffset - num b bOffset) * slotSize))
+      ≡ zerosIn b (slotOffset (sizesOf b) (num b bOffset)) (recordsFrom (sizesOf b))
   rest-slots h =
       zeros-each b ((num b sOffset - num b bOffset) * slotSize) (slotOffset (sizesOf b) (num b bOffset)) (omega arith)
       ∙ ap (zerosIn b (slotOffset (sizesOf b) (num b bOffset))) (omega arith)
 
   rest-records : num b uOffset ≤ num b jOffset
-      → allZero (part b (recOffset (sizesOf b) (num b uOffset)) ((num b jOffset - num b uOffset) * recSize)) ≡ zerosIn b (recOffset (sizesOf b) (num b uOffset)) (bookSize (sizesOf b))
+      → allZero (part b (recOffset (sizesOf b) (num b uOffset)) ((num b jOffset - num b uOffset) * recSize))
+      ≡ zerosIn b (recOffset (sizesOf b) (num b uOffset)) (bookSize (sizesOf b))
   rest-records h =
       zeros-each b ((num b jOffset - num b uOffset) * recSize) (recOffset (sizesOf b) (num b uOffset)) (omega arith)
       ∙ ap (zerosIn b (recOffset (sizesOf b) (num b uOffset))) (omega arith)
@@ -112,10 +123,29 @@ module _ (b : List ℕ) (len : length b ≡ bookSize (sizesOf b)) where
   to-sections : RawParts b → BookParts (bookOf b) → sectionsOk b ≡ true
   unfolding blocksOk slotsOk journalOk bookOf
   to-sections r p =
-      let head : headOk b ≡ true = facts-head b (record { slots = r .slots; records = r .records; day = p .day; cursor = p .cursor; spare = r .spare }) in
-      let entries = sym (entries-pass b) ∙ true-and (all (stateOk b) (upFrom 0 (num b nOffset))) (all entryOk (bookOf b .entries)) (r .states) (p .entries) in
+      let head : headOk b ≡ true =
+      facts-head b (record {
+        slots = r .slots;
+        records = r .records;
+        day = p .day;
+        cursor = p .cursor;
+        spare
+            = r .spare;
+      }) in
+      let entries =
+      sym (entries-pass b) ∙ true-and (all (stateOk b) (upFrom 0 (num b nOffset))) (all entryOk (bookOf b .entries))
+      (r .states) (p .entries) in
       let slots : slotsLeft b 0 noLasts 0 0 ≡ true = sym (slots-pass b) ∙ rw (r .seconds, p .slots, p .days) (p .pairs) in
-      rw (head, sym (retentions-pass b) ∙ p .retentions, entries, sym (maps-pass b) ∙ p .maps, slots, sym (rest-slots (r .slots)) ∙ r .restSlots, sym (records-pass b) ∙ p .records)
+      rw (
+        head,
+        sym (retentions-pass b) ∙ p .retentions,
+        entries,
+        sym (maps-pass b)
+            ∙ p .maps,
+        slots,
+        sym (rest-slots (r .slots)) ∙ r .restSlots,
+        sym (records-pass b) ∙ p .records,
+      )
       (sym (rest-records (r .records)) ∙ r .restRecords)
 
   from-sections : sectionsOk b ≡ true → RawParts b × BookParts (bookOf b)
@@ -131,10 +161,14 @@ module _ (b : List ℕ) (len : length b ≡ bookSize (sizesOf b)) where
       let n = and-true retentions entries (m .0) in
       let states = and-true (all (stateOk b) (upFrom 0 (num b nOffset))) (all entryOk (bookOf b .entries)) (entries-pass b ∙ n .1) in
       let s = and-true (slotsLeft b 0 noLasts 0 0) (zerosIn b (slotOffset (sizesOf b) (num b bOffset)) (recordsFrom (sizesOf b))) (t₂ .1) in
-      let j = and-true (recordsOk b (recordsFrom (sizesOf b)) (num b uOffset)) (zerosIn b (recOffset (sizesOf b) (num b uOffset)) (bookSize (sizesOf b))) (t₃ .1) in
+      let j =
+      and-true (recordsOk b (recordsFrom (sizesOf b)) (num b uOffset))
+      (zerosIn b (recOffset (sizesOf b) (num b uOffset)) (bookSize (sizesOf b))) (t₃ .1) in
       let second = all (secondOk b) (upFrom 0 (num b bOffset)) in
       let used = all (slotOk (bookOf b)) (bookOf b .slots) in
-      let s₃ = and-true (second && used && daysOk (bookOf b .slots)) (pairsOk 0 (bookOf b .slots) (length (bookOf b .records))) (slots-pass b ∙ s .0) in
+      let s₃ =
+      and-true (second && used && daysOk (bookOf b .slots))
+      (pairsOk 0 (bookOf b .slots) (length (bookOf b .records))) (slots-pass b ∙ s .0) in
       let s₂ = and-true (second && used) (daysOk (bookOf b .slots)) (s₃ .0) in
       let s₁ = and-true second used (s₂ .0) in (
         record {
@@ -184,7 +218,9 @@ module _ (b : List ℕ) where
   unfolding slotsOk
   slots-tests ef eu es er ez = rw (er, ez, ef, eu, es)
 
-  pub journal-tests : {from used s : ℕ} {r z : Bool} → length b ≡ bookSize (sizesOf b) → from ≡ slotsFrom (sizesOf b) → s ≡ num b sOffset → used ≡ num b uOffset
-      → r ≡ recordsOk b (from + s * slotSize) used → z ≡ zerosIn b (from + s * slotSize + used * recSize) (length b) → (r && z) ≡ journalOk b
+  pub journal-tests : {from used s : ℕ} {r z : Bool} → length b ≡ bookSize (sizesOf b) → from ≡ slotsFrom (sizesOf b)
+      → s ≡ num b sOffset → used ≡ num b uOffset
+      → r ≡ recordsOk b (from + s * slotSize) used → z ≡ zerosIn b (from + s * slotSize + used * recSize) (length b)
+      → (r && z) ≡ journalOk b
   unfolding journalOk
   journal-tests len ef es eu er ez = rw (er, ez, len, ef, es, eu)

@@ -75,7 +75,8 @@ module _ (es : List Entry) (p : ℕ) where
   apart-free k = rw k
 
   -- by the first block above with its fingerprint
-  pub apart-held : p < length es → entryAt es p .held ≡ true → {f : List ℕ} → f ≡ entryAt es p .print → {r n : ℕ} → r ≡ firstFrom (hasPrint f) es (p + 1) → n ≡ length es
+  pub apart-held : p < length es → entryAt es p .held ≡ true → {f : List ℕ} → f ≡ entryAt es p .print → {r n : ℕ}
+      → r ≡ firstFrom (hasPrint f) es (p + 1) → n ≡ length es
       → eqb r n ≡ apart es p
   unfolding apart
   apart-held l k e i m = rw (k, m, i, e) (first-none (hasPrint (entryAt es p .print)) es freeEntry (p + 1) (omega arith))

@@ -32,7 +32,13 @@ module _ (es : List Entry) where
     chain-up = rw next-is (omega (arith, after .above))
 
     pub chain-more : Chain es h nexts (getD nexts q 0)
-    chain-more = rw next-is (record { within = after .within; inside = after .passes; next = λ r b k. s .next r (omega (arith, after .above)) k })
+    chain-more =
+        rw next-is (record {
+          within = after .within;
+          inside = after .passes;
+          next = λ r b k. s .next r
+              (omega (arith, after .above)) k;
+        })
 
   -- ---- the first block with fingerprint f on the way
 
@@ -41,10 +47,12 @@ module _ (es : List Entry) where
     skip-out : (a : ℕ) → a ≤ length es → firstFrom (hasPrint f) es a ≡ firstFrom (hasPrint f) es (firstIn es (bucketOf f) a)
     skip-out a i =
         let m = first-is (inBucket (bucketOf f)) es freeEntry a i in
-        first-skip (hasPrint f) es freeEntry a (firstIn es (bucketOf f) a) (m .above) (m .within) (λ q b k. out-print f (entryAt es q) (m .skips q b k))
+        first-skip (hasPrint f) es freeEntry a (firstIn es (bucketOf f) a) (m .above) (m .within)
+        (λ q b k. out-print f (entryAt es q) (m .skips q b k))
 
     -- from the head of its bucket
-    module _ (a : ℕ) {heads nexts : List ℕ} (x : IndexedFrom a es heads nexts) (i : a ≤ length es) (h : ℕ) (e : h ≡ bucketOf f) (l : h < tableSize) where
+    module _ (a : ℕ) {heads nexts : List ℕ} (x : IndexedFrom a es heads nexts) (i : a ≤ length es) (h : ℕ)
+        (e : h ≡ bucketOf f) (l : h < tableSize) where
       head-is : getD heads h 0 ≡ firstIn es (bucketOf f) a
       head-is = x .head h l ∙ ap (λ (g : ℕ). firstIn es g a) e
 
@@ -65,7 +73,8 @@ module _ (es : List Entry) where
       search-start = rw head-is (sym (skip-out a i))
 
     module _ (nexts : List ℕ) (q : ℕ) (s : Chain es (bucketOf f) nexts q) where
-      pub search-more : q < length es → same (entryAt es q .print) f ≡ false → firstFrom (hasPrint f) es q ≡ firstFrom (hasPrint f) es (getD nexts q 0)
+      pub search-more : q < length es → same (entryAt es q .print) f ≡ false
+          → firstFrom (hasPrint f) es q ≡ firstFrom (hasPrint f) es (getD nexts q 0)
       search-more l e =
           rw (next-is (bucketOf f) nexts q s l)
           (first-past (hasPrint f) es freeEntry q l (other-print f (entryAt es q) e) ∙ skip-out (q + 1) (omega arith))
@@ -93,4 +102,7 @@ module _ (es : List Entry) where
       where
         go : (o : Option ℕ) → placeFrom 0 (λ (e : Entry). e .held && same (e .print) f) es ≡ o → q ≡ placeOr (length es) o → o ≡ none
         go none k e = refl
-        go (some p) k e = let r = place-found (λ (e : Entry). e .held && same (e .print) f) freeEntry 0 es p k in absurd (omega (arith, r .place, r .inside))
+        go (some p) k e =
+            let r =
+            place-found (λ (e : Entry). e .held && same (e .print) f) freeEntry 0 es p k
+            in absurd (omega (arith, r .place, r .inside))

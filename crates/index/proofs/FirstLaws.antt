@@ -64,7 +64,8 @@ module _ {A : Type 0} (f : A → Bool) (xs : List A) (d : A) where
   first-at {a} {r} m = first-only (first-is a (omega (arith, m .above, m .within))) m
 
   -- a place that fails is passed over, and so is a row of them; one that passes is the first
-  pub first-skip : (a b : ℕ) → a ≤ b → b ≤ length xs → ((q : ℕ) → a ≤ q → q < b → f (getD xs q d) ≡ false) → firstFrom f xs a ≡ firstFrom f xs b
+  pub first-skip : (a b : ℕ) → a ≤ b → b ≤ length xs → ((q : ℕ) → a ≤ q → q < b → f (getD xs q d) ≡ false)
+      → firstFrom f xs a ≡ firstFrom f xs b
   first-skip a b h l s =
       let m = first-is b l in
       first-at (record {
@@ -74,7 +75,8 @@ module _ {A : Type 0} (f : A → Bool) (xs : List A) (d : A) where
         passes = m .passes;
       })
     where
-      go : (q : ℕ) → a ≤ q → (b ≤ q → q < firstFrom f xs b → f (getD xs q d) ≡ false) → q < firstFrom f xs b → Dec (q < b) → f (getD xs q d) ≡ false
+      go : (q : ℕ) → a ≤ q → (b ≤ q → q < firstFrom f xs b → f (getD xs q d) ≡ false) → q < firstFrom f xs b
+          → Dec (q < b) → f (getD xs q d) ≡ false
       go q i t k (yes e) = s q i e
       go q i t k (no e) = t (omega arith) k
 
@@ -92,7 +94,8 @@ module _ {A : Type 0} (f : A → Bool) (xs : List A) (d : A) where
   some-found i [] o e = ap found e
   some-found i (y ∷ ys) o e = go (f y) e (some-found (suc i) ys o)
     where
-      go : (t : Bool) → (if t then some i else placeFrom (suc i) f ys) ≡ o → (placeFrom (suc i) f ys ≡ o → someOf f ys ≡ found o) → (t || someOf f ys) ≡ found o
+      go : (t : Bool) → (if t then some i else placeFrom (suc i) f ys) ≡ o
+          → (placeFrom (suc i) f ys ≡ o → someOf f ys ≡ found o) → (t || someOf f ys) ≡ found o
       go true k ih = ap found k
       go false k ih = ih k
 
@@ -104,4 +107,5 @@ module _ {A : Type 0} (f : A → Bool) (xs : List A) (d : A) where
       go none e = eq-eqb (length xs) (length xs) refl ∙ ap not (sym (some-found a (drop a xs) none e))
       go (some p) e =
           let r = place-found f d a (drop a xs) p e in
-          ne-eqb p (length xs) (λ z. absurd (omega (arith, r .place, r .inside, length-drop a xs))) ∙ ap not (sym (some-found a (drop a xs) (some p) e))
+          ne-eqb p (length xs) (λ z. absurd (omega (arith, r .place, r .inside, length-drop a xs)))
+          ∙ ap not (sym (some-found a (drop a xs) (some p) e))

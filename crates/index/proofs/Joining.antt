@@ -33,7 +33,9 @@ module _ {es : List Entry} {p : ℕ} (j : Joins es p) where
   other q n = getD-set-other es p q freeEntry freeEntry n
 
   nowhere : (h : ℕ) → inBucket h (entryAt (without p es) p) ≡ false
-  nowhere h = free-out h (entryAt (without p es) p) (ap (λ (e : Entry). e .held) (getD-set-same es p freeEntry freeEntry (j .inside)) ∙ free-held)
+  nowhere h =
+      free-out h (entryAt (without p es) p)
+      (ap (λ (e : Entry). e .held) (getD-set-same es p freeEntry freeEntry (j .inside)) ∙ free-held)
 
   pub was : (h a : ℕ) → a ≤ length es → First (inBucket h) (without p es) freeEntry a (firstIn (without p es) h a)
   was h a i = first-is (inBucket h) (without p es) freeEntry a (omega (arith, as-long))
@@ -80,5 +82,7 @@ module _ {es : List Entry} {p : ℕ} (j : Joins es p) where
           above = omega arith;
           within = omega (arith, m .within, as-long);
           skips = λ q u v. rw (other q (λ e. absurd (omega arith))) at (m .skips q (omega arith) v);
-          passes = λ u. rw (other (firstIn (without p es) (homeOf es p) a) (λ e. absurd (omega arith))) at (m .passes (omega (arith, as-long)));
+          passes =
+              λ u. rw (other (firstIn (without p es) (homeOf es p) a) (λ e. absurd (omega arith))) at
+              (m .passes (omega (arith, as-long)));
         }))

@@ -41,7 +41,8 @@ module _ (book pool spare : Lent (List ℕ)) (v t : ℕ) (list : Lent (List ℕ)
       touched = rw f untouched;
     }
 
-  module _ (plan : Plan) (ready : Ready (now (book .entry)) (now (pool .entry)) (length (now (spare .entry))) v t (now (list .entry)) plan) where
+  module _ (plan : Plan) (ready : Ready (now (book .entry)) (now (pool .entry)) (length (now (spare .entry))) v t
+      (now (list .entry)) plan) where
     abbrev x : Book
     x = told (book .entry)
 
@@ -50,7 +51,8 @@ module _ (book pool spare : Lent (List ℕ)) (v t : ℕ) (list : Lent (List ℕ)
 
     -- the call, by what the changes came to
     comes-to : (o : Outcome Work) → runChanges v (plan .until) (changes (now (list .entry))) begin ≡ o
-        → outcome book pool spare v t list ≡ andThen o (λ (w : Work). accepted (backedBytes (closed x v t (changeCount (now (list .entry))) w)))
+        → outcome book pool spare v t list
+        ≡ andThen o (λ (w : Work). accepted (backedBytes (closed x v t (changeCount (now (list .entry))) w)))
     comes-to o e =
         ready .goes
         ∙ ap (λ (o : Outcome Work). andThen o (λ (w : Work). accepted (backedBytes (closed x v t (changeCount (now (list .entry))) w))))

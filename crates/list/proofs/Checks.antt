@@ -19,7 +19,8 @@ module _ (L : ℕ) (b : List ℕ) where
   abbrev answer : Bool → Checked
   answer t = if t then Good (shapeOf b) else Refused
 
-  pub accepted-good : (e n : ℕ) → Accepted L b → e ≡ pairCount b → n ≡ changeCount b → checkedOf L b ≡ Good (record { pairs = e; changes = n })
+  pub accepted-good : (e n : ℕ) → Accepted L b → e ≡ pairCount b → n ≡ changeCount b
+      → checkedOf L b ≡ Good (record { pairs = e; changes = n })
   unfolding checkedOf shapeOf
   accepted-good e n a p q =
       rw (p, q) (ap answer (eq-eqb (listNumber L b) 0 (accepted-number L b a)))

@@ -26,10 +26,12 @@ module _ (b : List ℕ) where
 
 -- one turn of a loop over the pairs, at pair i
 module _ (b : List ℕ) (i first many : ℕ) (h : i < pairCount b) (p : first ≡ pairAt b i .first) (q : many ≡ pairAt b i .many) where
-  fit-turn : (L end : ℕ) → pairsFit L end (drop i (pairs b)) ≡ (pairFits L end first many && pairsFit L (first + many) (drop (i + 1) (pairs b)))
+  fit-turn : (L end : ℕ) → pairsFit L end (drop i (pairs b))
+      ≡ (pairFits L end first many && pairsFit L (first + many) (drop (i + 1) (pairs b)))
   fit-turn L end = rw (p, q) (ap (λ (ps : List Pair). pairsFit L end ps) (drop-pairs b i h))
 
-  pub fit-more : (L end : ℕ) → pairFits L end first many ≡ true → pairsFit L end (drop i (pairs b)) ≡ pairsFit L (first + many) (drop (i + 1) (pairs b))
+  pub fit-more : (L end : ℕ) → pairFits L end first many ≡ true
+      → pairsFit L end (drop i (pairs b)) ≡ pairsFit L (first + many) (drop (i + 1) (pairs b))
   fit-more L end e = fit-turn L end ∙ ap (λ (t : Bool). t && pairsFit L (first + many) (drop (i + 1) (pairs b))) e
 
   pub fit-stop : (L end : ℕ) → pairFits L end first many ≡ false → pairsFit L end (drop i (pairs b)) ≡ false

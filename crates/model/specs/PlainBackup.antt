@@ -11,7 +11,8 @@ use Rattle.words.specs.Lists.{countOf, placeFrom, orElse, joined, same, sum}
 use Rattle.words.specs.Outcome.{Outcome, refused, accepted, andThen, unless}
 use Rattle.runs.specs.Changes.{Change, changes, changeCount, listNumber}
 use Rattle.model.specs.Days.{badDay, notAfter}
-use Rattle.model.specs.Plain.{Block, free, held, Image, Volume, Plain, atDay, withBlocks, withVolume, volumeAt, isEnrolled, daysOf, current, currentMaps, isFree, bytesOf}
+use Rattle.model.specs.Plain.{Block, free, held, Image, Volume, Plain, atDay, withBlocks, withVolume, volumeAt, isEnrolled, daysOf}
+use Rattle.model.specs.Plain.{current, currentMaps, isFree, bytesOf}
 
 -- "9 and 10 count all backups and changes so far"
 unfoldable pub backupsSoFar : Plain → ℕ

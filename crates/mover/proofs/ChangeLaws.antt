@@ -50,12 +50,14 @@ module _ (v until lbn p : ℕ) (y : Book) where
   unfolding nameBlock withEntries withMaps withRecord
   named-held q = moved-held until (cellAt (y .maps) v lbn) p (y .entries) q
 
-  named-maps : p < y .sizes .n → all (all (pbnOk (y .sizes .n))) (y .maps) ≡ true → all (all (pbnOk (y .sizes .n))) (namedBook v until lbn p y .maps) ≡ true
+  named-maps : p < y .sizes .n → all (all (pbnOk (y .sizes .n))) (y .maps) ≡ true
+      → all (all (pbnOk (y .sizes .n))) (namedBook v until lbn p y .maps) ≡ true
   unfolding nameBlock withEntries withMaps withRecord pbnOk
   named-maps h e =
       let f = pbnOk (y .sizes .n) in
       all-set (all f) (y .maps) v (set (getD (y .maps) v []) lbn p) e
-      (all-set f (getD (y .maps) v []) lbn p (all-getD (all f) (y .maps) [] v e refl) (or-l (ltb p (y .sizes .n)) (eqb p unmapped) (lt-ltb p (y .sizes .n) h)))
+      (all-set f (getD (y .maps) v []) lbn p (all-getD (all f) (y .maps) [] v e refl)
+      (or-l (ltb p (y .sizes .n)) (eqb p unmapped) (lt-ltb p (y .sizes .n) h)))
 
   named-records : length (namedBook v until lbn p y .records) ≡ length (y .records) + 1
   unfolding nameBlock withEntries withMaps withRecord
@@ -115,7 +117,8 @@ module _ (book pool work list taker : Lent (List ℕ)) (i : ℕ) (t : Tally) whe
       → SteppedBy book pool work list taker v until i t r′
   stepped-as v until e h = rw e at h
 
-pub indexed-as : (work heads nexts : Lent (List ℕ)) {r r′ : Step} → r ≡ r′ → StillIndexed work heads nexts r → StillIndexed work heads nexts r′
+pub indexed-as : (work heads nexts : Lent (List ℕ)) {r r′ : Step} → r ≡ r′ → StillIndexed work heads nexts r
+    → StillIndexed work heads nexts r′
 indexed-as work heads nexts e h = rw e at h
 
 -- ---- a change
@@ -131,10 +134,12 @@ module _ (x : Book) (pool list : List ℕ) (v until i : ℕ) (b taker : List ℕ
   -- the model's change, once the block is known
   change-placed : (p : PBN) (u : Tally) (b₁ taker₁ : List ℕ) → PlacedAt x pool list i b taker t p u b₁ taker₁
       → changeStep v until (changeAt list i) (workOf x pool list (bookOf b) taker t)
-      ≡ moveTo v until (changeAt list i .lbn) (cellAt (bookOf b₁ .maps) v (changeAt list i .lbn)) (record { pbn = p .0; work = workOf x pool list (bookOf b₁) taker₁ u })
+      ≡ moveTo v until (changeAt list i .lbn) (cellAt (bookOf b₁ .maps) v (changeAt list i .lbn))
+      (record { pbn = p .0; work = workOf x pool list (bookOf b₁) taker₁ u })
   unfolding changeStep
   change-placed p u b₁ taker₁ h =
-      rw (h .0) (ap (λ (ms : List (List ℕ)). moveTo v until (changeAt list i .lbn) (cellAt ms v (changeAt list i .lbn)) (record { pbn = p .0; work = workOf x pool list (bookOf b₁) taker₁ u })) (sym (h .1)))
+      rw (h .0) (ap (λ (ms : List (List ℕ)). moveTo v until (changeAt list i .lbn) (cellAt ms v (changeAt list i .lbn))
+      (record { pbn = p .0; work = workOf x pool list (bookOf b₁) taker₁ u })) (sym (h .1)))
 
 module _ (book pool work list taker : Lent (List ℕ)) (v until i : ℕ) (t : Tally) where
   abbrev x : Book
@@ -166,7 +171,8 @@ module _ (book pool work list taker : Lent (List ℕ)) (v until i : ℕ) (t : Ta
       )
   change-by p u (Stop k) moved m h same =
       let P = poolNow (x .entries) (told (moved .entry) .entries) (now (taker .exit)) changed (now (pool .entry)) in
-      change-placed x (now (pool .entry)) changed v until i (now (work .entry)) (now (taker .entry)) t p u (now (moved .entry)) (now (taker .exit)) h ∙ m P
+      change-placed x (now (pool .entry)) changed v until i (now (work .entry)) (now (taker .entry)) t p u
+      (now (moved .entry)) (now (taker .exit)) h ∙ m P
 
 -- ---- one change after another
 
@@ -181,7 +187,8 @@ module _ (v until : ℕ) (list : List ℕ) (i : ℕ) (w : Work) where
       → runChanges v until (drop i (changes list)) w ≡ runChanges v until (drop (i + 1) (changes list)) w′
   run-more w′ h e = ap (λ (cs : List Change). runChanges v until cs w) (drop-changes h) ∙ rw e
 
-  run-stop : (k : ℕ) → i < changeCount list → changeStep v until (changeAt list i) w ≡ refused k → runChanges v until (drop i (changes list)) w ≡ refused k
+  run-stop : (k : ℕ) → i < changeCount list → changeStep v until (changeAt list i) w ≡ refused k
+      → runChanges v until (drop i (changes list)) w ≡ refused k
   run-stop k h e = ap (λ (cs : List Change). runChanges v until cs w) (drop-changes h) ∙ rw e
 
   run-end : changeCount list ≤ i → runChanges v until (drop i (changes list)) w ≡ accepted w

@@ -53,7 +53,8 @@ module _ (work : Lent (List ℕ)) (before until : ℕ) where
     book = λ f. absurd (let z : _≡_ {A = ℕ} 0 1 = cc in omega arith);
   }
 
-  module _ (e : before ≡ unmapped → ⊥) (z : entryAt (bookOf b .entries) before .count ≡ 0 → ⊥) (h : before < length (bookOf b .entries)) (b₁ : List ℕ)
+  module _ (e : before ≡ unmapped → ⊥) (z : entryAt (bookOf b .entries) before .count ≡ 0 → ⊥)
+      (h : before < length (bookOf b .entries)) (b₁ : List ℕ)
       (i : Is b₁ (withEntry (countAs (entryAt (bookOf b .entries) before .count - 1)) before (bookOf b))) where
     abbrev es : List Entry
     es = bookOf b .entries
@@ -68,7 +69,8 @@ module _ (work : Lent (List ℕ)) (before until : ℕ) where
     goes-on = rw (ne-eqb before unmapped e, ne-eqb (entryAt (bookOf b .entries) before .count) 0 z)
 
     -- the entry between the two writers
-    pub entry-down : entryAt (bookOf b₁ .entries) before ≡ countAs (entryAt (bookOf b .entries) before .count - 1) (entryAt (bookOf b .entries) before)
+    pub entry-down : entryAt (bookOf b₁ .entries) before
+        ≡ countAs (entryAt (bookOf b .entries) before .count - 1) (entryAt (bookOf b .entries) before)
     unfolding withEntries
     entry-down = ap (λ (x : Book). entryAt (x .entries) before) (i .book) ∙ getD-set-same es before down freeEntry h
 
@@ -80,10 +82,13 @@ module _ (work : Lent (List ℕ)) (before until : ℕ) where
     unfolding lower lowered countAs expiryAs
     lower-late same k = record {
       goes = goes-on;
-      book = λ _. rw same (is-same (let m : max (own .expiry) until ≡ own .expiry = omega (arith, expiry-down) in rw (ne-eqb before unmapped e, m)) i);
+      book =
+          λ _. rw same (is-same (let m : max (own .expiry) until ≡ own .expiry = omega (arith, expiry-down)
+          in rw (ne-eqb before unmapped e, m)) i);
     }
 
-    pub lower-early : entryAt (bookOf b₁ .entries) before .expiry < until → Is (now (work .exit)) (withEntry (expiryAs until) before (bookOf b₁)) → LoweredBy work before until true
+    pub lower-early : entryAt (bookOf b₁ .entries) before .expiry < until
+        → Is (now (work .exit)) (withEntry (expiryAs until) before (bookOf b₁)) → LoweredBy work before until true
     unfolding lower lowered withEntries
     lower-early k j = record {
       goes = goes-on;
@@ -95,7 +100,8 @@ module _ (work : Lent (List ℕ)) (before until : ℕ) where
 
 -- ---- step 4
 
-pub named : (v lbn p count before : ℕ) (b b₁ b₂ b₃ : List ℕ) → count ≡ entryAt (bookOf b .entries) p .count → before ≡ cellAt (bookOf b .maps) v lbn
+pub named : (v lbn p count before : ℕ) (b b₁ b₂ b₃ : List ℕ) → count ≡ entryAt (bookOf b .entries) p .count
+    → before ≡ cellAt (bookOf b .maps) v lbn
     → Is b₁ (withEntry (countAs (count + 1)) p (bookOf b)) → Is b₂ (withCell v lbn p (bookOf b₁))
     → Is b₃ (withRecord (record { lbn = lbn; before = before; after = p }) (bookOf b₂))
     → Is b₃ (nameBlock v lbn p (bookOf b .entries) (bookOf b))
@@ -115,12 +121,17 @@ module _ (v until lbn p : ℕ) (x : Book) (pool : List ℕ) (t : Tally) where
   unfolding moveTo moveNumber
   move-zero e = rw (not-false (not (eqb before unmapped) && eqb (entryAt (x .entries) before .count) 0) e)
 
-  module _ (e : not (not (eqb (cellAt (x .maps) v lbn) unmapped) && eqb (entryAt (x .entries) (cellAt (x .maps) v lbn) .count) 0) ≡ true) where
+  module _ (e : not (not (eqb (cellAt (x .maps) v lbn) unmapped)
+      && eqb (entryAt (x .entries) (cellAt (x .maps) v lbn) .count) 0) ≡ true) where
     pub move-full : entryAt (lower until (cellAt (x .maps) v lbn) (x .entries)) p .count ≡ 255
         → moveTo v until lbn (cellAt (x .maps) v lbn) (record { pbn = p; work = workAt x pool t }) ≡ refused 14
     unfolding moveTo moveNumber
     move-full f =
-        rw (not-true (not (eqb before unmapped) && eqb (entryAt (x .entries) before .count) 0) e, eq-eqb (entryAt (lower until before (x .entries)) p .count) 255 f)
+        rw (
+          not-true (not (eqb before unmapped) && eqb (entryAt (x .entries) before .count) 0) e,
+          eq-eqb
+              (entryAt (lower until before (x .entries)) p .count) 255 f,
+        )
 
     pub move-goes : (entryAt (lower until (cellAt (x .maps) v lbn) (x .entries)) p .count ≡ 255 → ⊥) → (y : Book) (t′ : Tally)
         → y ≡ nameBlock v lbn p (lower until (cellAt (x .maps) v lbn) (x .entries)) x
@@ -128,10 +139,18 @@ module _ (v until lbn p : ℕ) (x : Book) (pool : List ℕ) (t : Tally) where
         → moveTo v until lbn (cellAt (x .maps) v lbn) (record { pbn = p; work = workAt x pool t }) ≡ accepted (workAt y pool t′)
     unfolding moveTo moveNumber moved
     move-goes f y t′ g k l =
-        rw (not-true (not (eqb before unmapped) && eqb (entryAt (x .entries) before .count) 0) e, ne-eqb (entryAt (lower until before (x .entries)) p .count) 255 f, g, k, l)
+        rw (
+          not-true (not (eqb before unmapped) && eqb (entryAt (x .entries) before .count) 0) e,
+          ne-eqb
+              (entryAt (lower until before (x .entries)) p .count) 255 f,
+          g,
+          k,
+          l,
+        )
 
 -- naming a block in the lowered book
-pub name-lowered : (v lbn p : ℕ) (es : List Entry) (x : Book) → nameBlock v lbn p (withEntries es x .entries) (withEntries es x) ≡ nameBlock v lbn p es x
+pub name-lowered : (v lbn p : ℕ) (es : List Entry) (x : Book)
+    → nameBlock v lbn p (withEntries es x .entries) (withEntries es x) ≡ nameBlock v lbn p es x
 unfolding nameBlock withEntries
 name-lowered v lbn p es x = refl
 

@@ -7,7 +7,8 @@ use lib.ListN.{length}
 use Rattle.words.specs.Lists.{joined}
 use Rattle.book.specs.Book.{noPrint, freeEntry, noSlot, noRec}
 use Rattle.book.specs.Layout.{bytes, bookOf}
-use Rattle.book.specs.Form.{between, sizesOk, layoutOk, retentionOk, entryOk, pbnOk, recOk, slotOk, laterOk, bookOk, stateOk, secondOk, rawOk, formNumber}
+use Rattle.book.specs.Form.{between, sizesOk, layoutOk, retentionOk, entryOk, pbnOk, recOk, slotOk, laterOk, bookOk, stateOk, secondOk}
+use Rattle.book.specs.Form.{rawOk, formNumber}
 use Rattle.book.specs.Next.{withDay}
 use Rattle.book.proofs.AfterD.{afterD}
 use Rattle.pages.specs.Tally.{tallyNumber, blocks, held, free, waiting, references, decimal, line, refusedWord, bookPage, tallyPage}
@@ -27,7 +28,8 @@ pageAfterD =
 -- opens all that the cases compute with
 unfoldable opened : ℕ
 unfolding
-    noPrint freeEntry noSlot noRec bytes bookOf between sizesOk layoutOk retentionOk entryOk pbnOk recOk slotOk laterOk bookOk stateOk secondOk rawOk
+    noPrint freeEntry noSlot noRec bytes bookOf between sizesOk layoutOk retentionOk entryOk pbnOk recOk slotOk laterOk
+    bookOk stateOk secondOk rawOk
     formNumber withDay tallyNumber blocks held free waiting references decimal line bookPage tallyPage afterD pageAfterD
 opened = 0
 

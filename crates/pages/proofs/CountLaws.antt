@@ -21,19 +21,25 @@ use Rattle.pages.specs.Counts.{countsOf, counted, Few}
 -- ---- one entry more, by what the code tells of it
 
 alike : {a b c d a′ b′ c′ d′ : ℕ} → a ≡ a′ → b ≡ b′ → c ≡ c′ → d ≡ d′
-    → _≡_ {A = Counts} (record { held = a; free = b; waiting = c; references = d }) (record { held = a′; free = b′; waiting = c′; references = d′ })
+    → _≡_ {A = Counts} (record { held = a; free = b; waiting = c; references = d })
+    (record { held = a′; free = b′; waiting = c′; references = d′ })
 alike p q r s = λ i. record { held = p i; free = q i; waiting = r i; references = s i }
 
 module _ (t : Counts) (h : Bool) {c r : ℕ} (w : r ≡ c) where
-  pub counted-free : h ≡ false → record { held = t .held; free = t .free + 1; waiting = t .waiting; references = t .references + r } ≡ counted t h c
+  pub counted-free : h ≡ false → record
+      { held = t .held; free = t .free + 1; waiting = t .waiting; references = t .references + r } ≡ counted t h c
   unfolding counted
   counted-free e = rw (e, w) (alike (omega arith) refl (omega arith) refl)
 
-  pub counted-waiting : h ≡ true → c ≡ 0 → record { held = t .held + 1; free = t .free; waiting = t .waiting + 1; references = t .references + r } ≡ counted t h c
+  pub counted-waiting : h ≡ true → c ≡ 0
+      → record { held = t .held + 1; free = t .free; waiting = t .waiting + 1; references = t .references + r }
+      ≡ counted t h c
   unfolding counted
   counted-waiting e z = rw (e, eq-eqb c 0 z, w) (alike refl (omega arith) refl refl)
 
-  pub counted-named : h ≡ true → (c ≡ 0 → ⊥) → record { held = t .held + 1; free = t .free; waiting = t .waiting; references = t .references + r } ≡ counted t h c
+  pub counted-named : h ≡ true → (c ≡ 0 → ⊥)
+      → record { held = t .held + 1; free = t .free; waiting = t .waiting; references = t .references + r }
+      ≡ counted t h c
   unfolding counted
   counted-named e z = rw (e, ne-eqb c 0 z, w) (alike refl (omega arith) (omega arith) refl)
 
@@ -52,7 +58,8 @@ few-less m n h f = record { held = omega arith; free = omega arith; waiting = om
 
 -- ---- the entries before p, and the one at p
 
-counts-more : (es : List Entry) (p : ℕ) → p < length es → countsOf (take (p + 1) es) ≡ counted (countsOf (take p es)) (entryAt es p .held) (entryAt es p .count)
+counts-more : (es : List Entry) (p : ℕ) → p < length es
+    → countsOf (take (p + 1) es) ≡ counted (countsOf (take p es)) (entryAt es p .held) (entryAt es p .count)
 unfolding countsOf counted held free waiting references
 counts-more es p b =
     alike
@@ -69,7 +76,12 @@ pub record Passing (es : List Entry) (p : ℕ) (t : Counts) : Type 0 where
 
 pub passing-none : (es : List Entry) → Passing es 0 (record { held = 0; free = 0; waiting = 0; references = 0 })
 unfolding countsOf held free waiting references
-passing-none es = record { counts = refl; few = record { held = omega arith; free = omega arith; waiting = omega arith; references = omega arith } }
+passing-none es =
+    record {
+      counts = refl;
+      few = record
+          { held = omega arith; free = omega arith; waiting = omega arith; references = omega arith };
+    }
 
 pub passing-more : {es : List Entry} {p : ℕ} {t t′ : Counts} {h : Bool} {c : ℕ} → p < length es → c < 256
     → h ≡ entryAt es p .held → c ≡ entryAt es p .count → t′ ≡ counted t h c → Passing es p t → Passing es (p + 1) t′

@@ -35,7 +35,8 @@ module _ (es : List Entry) (c : ℕ) where
   pub free-round : foundOf (placeIn isFree es c (length es)) ≡ Nothing → foundOf (placeIn isFree es 0 c) ≡ foundOf (findFree es c)
   free-round e = go (placeIn isFree es c (length es)) refl e
     where
-      go : (o : Option ℕ) → placeIn isFree es c (length es) ≡ o → foundOf o ≡ Nothing → foundOf (placeIn isFree es 0 c) ≡ foundOf (findFree es c)
+      go : (o : Option ℕ) → placeIn isFree es c (length es) ≡ o → foundOf o ≡ Nothing
+          → foundOf (placeIn isFree es 0 c) ≡ foundOf (findFree es c)
       go (some q) h k = cc
       go none h k = sym (ap foundOf (free-search ∙ ap (λ (u : Option ℕ). orElse u (placeIn isFree es 0 c)) h))
 
@@ -60,5 +61,8 @@ found-free es c p e = go (placeFrom c isFree (drop c es)) refl e
         (omega (arith, length-drop c es), rw (k, ← getD-drop c es (r .index) freeEntry) (not-true _ (r .passes)))
     go none h e′ =
         let r = place-found isFree freeEntry 0 (take c es) p e′ in
-        let k : p ≡ r .index = omega arith in
-        (omega (arith, length-take c es), rw (k, ← getD-take c es (r .index) freeEntry (omega (arith, length-take c es))) (not-true _ (r .passes)))
+        let k : p ≡ r .index = omega arith in (
+          omega (arith, length-take c es),
+          rw
+              (k, ← getD-take c es (r .index) freeEntry (omega (arith, length-take c es))) (not-true _ (r .passes)),
+        )

@@ -16,7 +16,8 @@ use Rattle.index.specs.Indexed.{Indexed}
 use Rattle.index.proofs.Keeping.{indexed-alike, alike-set}
 
 -- the cursor is no entry
-pub cursor-indexed : (k : ℕ) (b b₁ : List ℕ) {heads nexts : List ℕ} → Is b₁ (withCursor k (bookOf b)) → Indexed (bookOf b .entries) heads nexts → Indexed (bookOf b₁ .entries) heads nexts
+pub cursor-indexed : (k : ℕ) (b b₁ : List ℕ) {heads nexts : List ℕ} → Is b₁ (withCursor k (bookOf b))
+    → Indexed (bookOf b .entries) heads nexts → Indexed (bookOf b₁ .entries) heads nexts
 unfolding withCursor
 cursor-indexed k b b₁ i x = let e : bookOf b₁ .entries ≡ bookOf b .entries = ap (λ (y : Book). y .entries) (i .book) in rw e x
 

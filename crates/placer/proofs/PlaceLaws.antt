@@ -37,7 +37,8 @@ use Rattle.placer.specs.declared.placing.Tally.{Tally}
 -- ---- the model's steps, by what is found
 
 module _ (c : Change) (w : Work) where
-  place-twelve : findHeld (w .book .entries) (c .print) ≡ none → findFree (w .book .entries) (w .book .cursor) ≡ none → place c w ≡ refused 12
+  place-twelve : findHeld (w .book .entries) (c .print) ≡ none → findFree (w .book .entries) (w .book .cursor) ≡ none
+      → place c w ≡ refused 12
   unfolding place placeHeld placeFree
   place-twelve e f = ap (placeHeld c w) e ∙ ap (placeFree c w) f
 
@@ -46,11 +47,13 @@ module _ (c : Change) (w : Work) where
   unfolding place placeHeld placeFree
   place-taken p e f = ap (placeHeld c w) e ∙ ap (placeFree c w) f
 
-  place-eleven : (p : ℕ) → findHeld (w .book .entries) (c .print) ≡ some p → same (blockAt (w .pool) p) (c .block) ≡ false → place c w ≡ refused 11
+  place-eleven : (p : ℕ) → findHeld (w .book .entries) (c .print) ≡ some p
+      → same (blockAt (w .pool) p) (c .block) ≡ false → place c w ≡ refused 11
   unfolding place placeHeld
   place-eleven p e f = ap (placeHeld c w) e ∙ rw f
 
-  place-found : (p : ℕ) → findHeld (w .book .entries) (c .print) ≡ some p → same (blockAt (w .pool) p) (c .block) ≡ true → place c w ≡ accepted (record { pbn = p; work = w })
+  place-found : (p : ℕ) → findHeld (w .book .entries) (c .print) ≡ some p → same (blockAt (w .pool) p) (c .block) ≡ true
+      → place c w ≡ accepted (record { pbn = p; work = w })
   unfolding place placeHeld
   place-found p e f = ap (placeHeld c w) e ∙ rw f
 
@@ -66,7 +69,8 @@ PlacedAt x pool list i b taker t p t′ b′ taker′ =
     × Holds b′
     × Standing x (bookOf b′) taker′ t′ (i + 1) i
 
-pub known : (x y : Book) (pool list taker : List ℕ) (shape : Shape) (t : Tally) (m i : ℕ) → Sized x → Job x pool list shape → Standing x y taker t m i → m ≤ changeCount list
+pub known : (x y : Book) (pool list taker : List ℕ) (shape : Shape) (t : Tally) (m i : ℕ) → Sized x
+    → Job x pool list shape → Standing x y taker t m i → m ≤ changeCount list
     → Known (x .entries) (y .entries) taker list pool (changeCount list)
 known x y pool list taker shape t m i sx j s h = record {
   size = rw (sx .entries) (j .size);
@@ -143,7 +147,9 @@ module _ (x : Book) (pool list : List ℕ) (shape : Shape) (t : Tally) (i : ℕ)
     unfolding withCursor withEntries heldAs
     taken-here = ap (λ (e : Entry). e .held) (getD-set-same (y .entries) p (heldAs (c .print) (entryAt (y .entries) p)) freeEntry l)
 
-    taken-other : (q : ℕ) → (q ≡ p → ⊥) → entryAt (takenBook (changeAt list i .print) p (bookOf b) .entries) q .held ≡ entryAt (bookOf b .entries) q .held
+    taken-other : (q : ℕ) → (q ≡ p → ⊥)
+        → entryAt (takenBook (changeAt list i .print) p (bookOf b) .entries) q .held
+        ≡ entryAt (bookOf b .entries) q .held
     unfolding withCursor withEntries
     taken-other q d = ap (λ (e : Entry). e .held) (getD-set-other (y .entries) p q (heldAs (c .print) (entryAt (y .entries) p)) freeEntry d)
 
@@ -164,11 +170,13 @@ module _ (x : Book) (pool list : List ℕ) (shape : Shape) (t : Tally) (i : ℕ)
         (length-block list shape (j .whole) i h) free-old taken-here taken-other
 
     taken-work : takeBlock (changeAt list i) p (workOf x pool list (bookOf b) taker t)
-        ≡ workOf x pool list (takenBook (changeAt list i .print) p (bookOf b)) (set taker p i) (record { taken = t .taken + 1; touched = t .touched })
+        ≡ workOf x pool list (takenBook (changeAt list i .print) p (bookOf b)) (set taker p i)
+        (record { taken = t .taken + 1; touched = t .touched })
     unfolding takeBlock
     taken-work = rw (taken-pool, add-one)
 
-    taken-standing : Standing x (takenBook (changeAt list i .print) p (bookOf b)) (set taker p i) (record { taken = t .taken + 1; touched = t .touched }) (i + 1) i
+    taken-standing : Standing x (takenBook (changeAt list i .print) p (bookOf b)) (set taker p i)
+        (record { taken = t .taken + 1; touched = t .touched }) (i + 1) i
     unfolding withCursor withEntries
     taken-standing = record {
       sizes = s .sizes;
@@ -187,7 +195,8 @@ module _ (x : Book) (pool list : List ℕ) (shape : Shape) (t : Tally) (i : ℕ)
         kept q e true z = rw (eqb-true q p z) taken-here
         kept q e false z = taken-other q (eqb-false q p z) ∙ s .kept q e
 
-        marks : (q : ℕ) → entryAt (x .entries) q .held ≡ false → entryAt (y′ .entries) q .held ≡ true → (u : Bool) → eqb q p ≡ u → getD (set taker p i) q 0 < i + 1
+        marks : (q : ℕ) → entryAt (x .entries) q .held ≡ false → entryAt (y′ .entries) q .held ≡ true → (u : Bool)
+            → eqb q p ≡ u → getD (set taker p i) q 0 < i + 1
         marks q f e true z = rw (eqb-true q p z, getD-set-same taker p i 0 fits) (omega arith)
         marks q f e false z =
             let d = eqb-false q p z in
@@ -209,11 +218,14 @@ module _ (x : Book) (pool list : List ℕ) (shape : Shape) (t : Tally) (i : ℕ)
       )
 
 -- the fingerprints are a part of the list
-pub prints-size : (list : List ℕ) (shape : Shape) → Whole list shape → length (part list (printsFrom list) (shape .changes * printSize)) ≡ shape .changes * printSize
+pub prints-size : (list : List ℕ) (shape : Shape) → Whole list shape
+    → length (part list (printsFrom list) (shape .changes * printSize)) ≡ shape .changes * printSize
 unfolding printsFrom
-prints-size list shape w = let e = w .size in let f = w .pairs in length-part list (printsFrom list) (shape .changes * printSize) (omega arith)
+prints-size list shape w =
+    let e = w .size in let f = w .pairs in length-part list (printsFrom list) (shape .changes * printSize) (omega arith)
 
 -- the two writers of a taken block
-pub taken-is : (f : List ℕ) (p k : ℕ) (b b₁ b₂ : List ℕ) → k ≡ suc p % bookOf b .sizes .n → Is b₁ (withEntry (heldAs f) p (bookOf b)) → Is b₂ (withCursor k (bookOf b₁))
+pub taken-is : (f : List ℕ) (p k : ℕ) (b b₁ b₂ : List ℕ) → k ≡ suc p % bookOf b .sizes .n
+    → Is b₁ (withEntry (heldAs f) p (bookOf b)) → Is b₂ (withCursor k (bookOf b₁))
     → Is b₂ (takenBook f p (bookOf b))
 taken-is f p k b b₁ b₂ e i j = is-same (rw e) (is-then (withCursor k) i j)

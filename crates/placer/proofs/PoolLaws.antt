@@ -30,9 +30,11 @@ map-same : {B : Type 0} (f g : ℕ → B) (i m : ℕ) → ((k : ℕ) → i ≤ k
 map-same f g i zero h = refl
 map-same f g i (suc m) h = rw (h i (omega arith) (omega arith), map-same f g (suc i) m (λ k a b. h k (omega arith) (omega arith)))
 
-pub by-blocks : (n : ℕ) (pool : List ℕ) (f : ℕ → List ℕ) → length pool ≡ poolSize n → ((p : ℕ) → p < n → blockAt pool p ≡ f p) → pool ≡ joined (map f (upFrom 0 n))
+pub by-blocks : (n : ℕ) (pool : List ℕ) (f : ℕ → List ℕ) → length pool ≡ poolSize n
+    → ((p : ℕ) → p < n → blockAt pool p ≡ f p) → pool ≡ joined (map f (upFrom 0 n))
 by-blocks n pool f l h =
-    sym (all-pieces blockSize pool n l) ∙ ap (λ (bs : List (List ℕ)). joined bs) (map-same (blockAt pool) f 0 n (λ k a b. h k (omega arith)))
+    sym (all-pieces blockSize pool n l)
+    ∙ ap (λ (bs : List (List ℕ)). joined bs) (map-same (blockAt pool) f 0 n (λ k a b. h k (omega arith)))
 
 -- ---- a block written
 
@@ -72,7 +74,9 @@ module _ (pool c : List ℕ) (p n : ℕ) (h : p < n) (l : length pool ≡ poolSi
       let o′ : p * blockSize + blockSize + r ≡ q * blockSize = omega arith in
       ap (λ (b : List ℕ). blockAt b q) with-parts
       ∙ ap (λ (i : ℕ). take blockSize (drop i (head ++ (c ++ last)))) o
-      ∙ ap (λ (b : List ℕ). take blockSize b) (drop-append-add head (c ++ last) (length c + r) ∙ drop-append-add c last r ∙ drop-drop r (p * blockSize + blockSize) pool)
+      ∙ ap (λ (b : List ℕ). take blockSize b)
+      (drop-append-add head (c ++ last) (length c + r) ∙ drop-append-add c last r
+      ∙ drop-drop r (p * blockSize + blockSize) pool)
       ∙ ap (λ (o : ℕ). part pool o blockSize) o′
 
   pub block-with : (q : ℕ) → blockAt (withBlock pool p c) q ≡ (if eqb q p then c else blockAt pool q)
@@ -106,7 +110,8 @@ module _ (old new : List Entry) (taker list pool : List ℕ) where
       all-upFrom (λ p. eqb (length (blockNow old new taker list pool p)) blockSize) 0 (length old)
       (λ p a b. eq-eqb (length (blockNow old new taker list pool p)) blockSize (block-size m k p (omega arith)))
 
-  pub block-now : (m : ℕ) → Known m → (p : ℕ) → p < length old → blockAt (poolNow old new taker list pool) p ≡ blockNow old new taker list pool p
+  pub block-now : (m : ℕ) → Known m → (p : ℕ) → p < length old
+      → blockAt (poolNow old new taker list pool) p ≡ blockNow old new taker list pool p
   unfolding poolNow
   block-now m k p h =
       let f = blockNow old new taker list pool in
@@ -119,7 +124,9 @@ module _ (old new : List Entry) (taker list pool : List ℕ) where
   length-now m k = length-sized blockSize (blockNow old new taker list pool) (upFrom 0 (length old)) (sized-now m k) ∙ rw length-upFrom
 
   -- a pool with these blocks is it
-  pub is-now : (b : List ℕ) → length b ≡ poolSize (length old) → ((p : ℕ) → p < length old → blockAt b p ≡ blockNow old new taker list pool p) → b ≡ poolNow old new taker list pool
+  pub is-now : (b : List ℕ) → length b ≡ poolSize (length old)
+      → ((p : ℕ) → p < length old → blockAt b p ≡ blockNow old new taker list pool p)
+      → b ≡ poolNow old new taker list pool
   unfolding poolNow
   is-now b l h = by-blocks (length old) b (blockNow old new taker list pool) l h
 
@@ -128,12 +135,15 @@ pub start-now : (old : List Entry) (taker list pool : List ℕ) → length pool 
 unfolding blockNow heldBlock
 start-now old taker list pool l = sym (is-now old old taker list pool pool l (λ p h. go (entryAt old p .held) p))
   where
-    go : (t : Bool) (p : ℕ) → blockAt pool p ≡ (if t then if t then blockAt pool p else changeAt list (getD taker p 0) .block else blockAt pool p)
+    go : (t : Bool) (p : ℕ) → blockAt pool p
+        ≡ (if t then if t then blockAt pool p else changeAt list (getD taker p 0) .block else blockAt pool p)
     go true p = refl
     go false p = refl
 
 -- only which blocks are held shows
-pub same-now : (old new new′ : List Entry) (taker list pool : List ℕ) → ((p : ℕ) → entryAt new′ p .held ≡ entryAt new p .held) → poolNow old new taker list pool ≡ poolNow old new′ taker list pool
+pub same-now : (old new new′ : List Entry) (taker list pool : List ℕ)
+    → ((p : ℕ) → entryAt new′ p .held ≡ entryAt new p .held)
+    → poolNow old new taker list pool ≡ poolNow old new′ taker list pool
 unfolding poolNow blockNow
 same-now old new new′ taker list pool h =
     ap (λ (bs : List (List ℕ)). joined bs)
@@ -142,7 +152,8 @@ same-now old new new′ taker list pool h =
 
 -- block p, free until now, is taken by change i
 module _ (old new new′ : List Entry) (taker list pool : List ℕ) (m : ℕ) (k : Known old new taker list pool m) (p i : ℕ) where
-  pub taken-now : p < length old → p < length taker → length (changeAt list i .block) ≡ blockSize → entryAt old p .held ≡ false → entryAt new′ p .held ≡ true
+  pub taken-now : p < length old → p < length taker → length (changeAt list i .block) ≡ blockSize
+      → entryAt old p .held ≡ false → entryAt new′ p .held ≡ true
       → ((q : ℕ) → (q ≡ p → ⊥) → entryAt new′ q .held ≡ entryAt new q .held)
       → withBlock (poolNow old new taker list pool) p (changeAt list i .block) ≡ poolNow old new′ (set taker p i) list pool
   unfolding blockNow heldBlock
@@ -162,7 +173,8 @@ module _ (old new new′ : List Entry) (taker list pool : List ℕ) (m : ℕ) (k
 
       go : (q : ℕ) → q < length old → (t : Bool) → eqb q p ≡ t
           → (if t then c else blockAt P q)
-          ≡ (if entryAt new′ q .held then if entryAt old q .held then blockAt pool q else changeAt list (getD (set taker p i) q 0) .block else blockAt pool q)
+          ≡ (if entryAt new′ q .held then if entryAt old q .held then blockAt pool q
+          else changeAt list (getD (set taker p i) q 0) .block else blockAt pool q)
       go q h true z = rw (eqb-true q p z, e, f, getD-set-same taker p i 0 hb)
       go q h false z =
           let d = eqb-false q p z in

@@ -46,25 +46,32 @@ module _ (spare : ℕ) (book : Lent (List ℕ)) (pool out : List ℕ) (to : ℕ)
   pub enrol-did : (v retention k : ℕ) → Enrolled book v retention k → Stored out to (0 ∷ two k) out′ r
       → Did spare (was book) pool (enrol v retention) out to (is book) pool out′ r
   unfolding ours oursEnrolled
-  enrol-did v retention k e s = let g = go (enrolBytes (was book) v retention) (e .number) (e .book) in record { next = g .0; answer = g .1 }
+  enrol-did v retention k e s =
+      let g = go (enrolBytes (was book) v retention) (e .number) (e .book) in record { next = g .0; answer = g .1 }
     where
-      go : (o : Outcome (List ℕ)) → k ≡ numberOf o → is book ≡ bookAfter o (was book) → By (oursEnrolled (at (was book) pool) o) out to (is book) pool out′ r
+      go : (o : Outcome (List ℕ)) → k ≡ numberOf o → is book ≡ bookAfter o (was book)
+          → By (oursEnrolled (at (was book) pool) o) out to (is book) pool out′ r
       go (refused j) n m = (ap (λ (x : List ℕ). at x pool) m, rw n at s)
       go (accepted d) n m = (ap (λ (x : List ℕ). at x pool) m, rw n at s)
 
   module _ (t : ℕ) (f : Lent ℕ) (k : ℕ) (e : Swept book t f k) where
-    pub collect-refused : (k ≡ 0 → ⊥) → Stored out to (0 ∷ two k) out′ r → Did spare (was book) pool (collect t) out to (is book) pool out′ r
+    pub collect-refused : (k ≡ 0 → ⊥) → Stored out to (0 ∷ two k) out′ r
+        → Did spare (was book) pool (collect t) out to (is book) pool out′ r
     unfolding ours oursCollected
     collect-refused h s = let g = go (collectBytes (was book) t) (e .number) (e .book) in record { next = g .0; answer = g .1 }
       where
-        go : (o : Outcome CollectedBytes) → k ≡ numberOf o → is book ≡ collectedBook o (was book) → By (oursCollected (at (was book) pool) o) out to (is book) pool out′ r
+        go : (o : Outcome CollectedBytes) → k ≡ numberOf o → is book ≡ collectedBook o (was book)
+            → By (oursCollected (at (was book) pool) o) out to (is book) pool out′ r
         go (refused j) n m = (ap (λ (x : List ℕ). at x pool) m, rw n at s)
         go (accepted d) n m = absurd (h n)
 
-    pub collect-done : k ≡ 0 → Stored out to (2 ∷ two (now (f .exit))) out′ r → Did spare (was book) pool (collect t) out to (is book) pool out′ r
+    pub collect-done : k ≡ 0 → Stored out to (2 ∷ two (now (f .exit))) out′ r
+        → Did spare (was book) pool (collect t) out to (is book) pool out′ r
     unfolding ours oursCollected
     collect-done z s =
-        let g = go (collectBytes (was book) t) (collect-proper (was book) t) (e .number) (e .book) (e .answer) in record { next = g .0; answer = g .1 }
+        let g =
+        go (collectBytes (was book) t) (collect-proper (was book) t) (e .number) (e .book) (e .answer)
+        in record { next = g .0; answer = g .1 }
       where
         go : (o : Outcome CollectedBytes) → Proper o → k ≡ numberOf o → is book ≡ collectedBook o (was book)
             → now (f .exit) ≡ collectedFreed o (now (f .entry))
@@ -120,7 +127,9 @@ module _ (book pool room : Lent (List ℕ)) (v t : ℕ) (list : Lent (List ℕ))
       → Did (length (was room)) (was book) (was pool) (backup v t (was list)) out to (is book) (is pool) out′ r
   unfolding ours oursBacked
   backup-refused h s =
-      let g = go (backupBytes (was book) (was pool) (length (was room)) v t (was list)) (e .refusal) (e .book) (e .stored) in record { next = g .0; answer = g .1 }
+      let g =
+      go (backupBytes (was book) (was pool) (length (was room)) v t (was list)) (e .refusal) (e .book) (e .stored)
+      in record { next = g .0; answer = g .1 }
     where
       go : (o : Outcome BackedBytes) → k ≡ numberOf o → is book ≡ backedBook o (was book) → is pool ≡ backedPool o (was pool)
           → By (oursBacked (at (was book) (was pool)) o) out to (is book) (is pool) out′ r
@@ -132,7 +141,9 @@ module _ (book pool room : Lent (List ℕ)) (v t : ℕ) (list : Lent (List ℕ))
       → Did (length (was room)) (was book) (was pool) (backup v t (was list)) out to (is book) (is pool) out′ r
   unfolding ours oursBacked
   backup-done z s =
-      let g = go (backupBytes (was book) (was pool) (length (was room)) v t (was list)) (backup-proper (was book) (was pool) (length (was room)) v t (was list)) (e .refusal) (e .book)
+      let g =
+      go (backupBytes (was book) (was pool) (length (was room)) v t (was list))
+      (backup-proper (was book) (was pool) (length (was room)) v t (was list)) (e .refusal) (e .book)
       (e .stored) (e .number) (e .taken) (e .touched) in record { next = g .0; answer = g .1 }
     where
       go : (o : Outcome BackedBytes) → Proper o → k ≡ numberOf o → is book ≡ backedBook o (was book) → is pool ≡ backedPool o (was pool)

@@ -53,7 +53,8 @@ pub record ReadIn (x : Book) (r : Record) : Type 0 where
   pub inRow : r .lbn .0 < 1024
   pub before : (r .before .0 < x .sizes .n) ⊎ (r .before .0 ≡ unmapped)
 
-pub read-in : {b : List ℕ} → FormFacts b → (q : ℕ) → q < length (bookOf b .records) → {r : Record} → RecordIs (recAt (bookOf b .records) q) r
+pub read-in : {b : List ℕ} → FormFacts b → (q : ℕ) → q < length (bookOf b .records) → {r : Record}
+    → RecordIs (recAt (bookOf b .records) q) r
     → ReadIn (bookOf b) r
 read-in {b} f q h {r} i =
     let w = rec-in (bookOf b) (f .parts) q h in

@@ -55,7 +55,8 @@ module _ {a₀ : List ℕ} {f₀ : ℕ → ℕ} where
   pub raising-start : Raising a₀ f₀ a₀ f₀
   raising-start = record { long = refl; at = λ p h. refl }
 
-  pub raising-more : {a a′ : List ℕ} {f : ℕ → ℕ} (g f′ : ℕ → ℕ) → ((p : ℕ) → f p ≡ max (g p) (f′ p)) → Raised a g a′ → Raising a₀ f₀ a f → Raising a₀ f₀ a′ f′
+  pub raising-more : {a a′ : List ℕ} {f : ℕ → ℕ} (g f′ : ℕ → ℕ) → ((p : ℕ) → f p ≡ max (g p) (f′ p)) → Raised a g a′
+      → Raising a₀ f₀ a f → Raising a₀ f₀ a′ f′
   raising-more g f′ e r w = record { long = r .long ∙ w .long; at = λ p h. omega (arith, e p, r .at p h, w .at p h) }
 
   pub raising-end : {a : List ℕ} {f : ℕ → ℕ} → ((p : ℕ) → f p ≡ 0) → Raising a₀ f₀ a f → Raised a₀ f₀ a
@@ -75,14 +76,17 @@ pub until-end : (u : ℕ) (rs : List Rec) (q e : ℕ) → q ≡ e → (p : ℕ) 
 until-end u rs q e h p = let z : slice q e rs ≡ [] = rw h (slice-empty e rs) in rw z
 
 -- the next backup of a journal, its last day in u
-pub until-next : (x : Book) (b : Backup) {bs : List Backup} (bs′ : List Backup) {u : ℕ} → bs ≡ b ∷ bs′ → u ≡ b .day + retentionOf x (b .volume) → (p : ℕ)
+pub until-next : (x : Book) (b : Backup) {bs : List Backup} (bs′ : List Backup) {u : ℕ} → bs ≡ b ∷ bs′
+    → u ≡ b .day + retentionOf x (b .volume) → (p : ℕ)
     → untilIn x p bs ≡ max (untilEach u (b .records) p) (untilIn x p bs′)
 until-next x b bs′ e f p = rw (e, f)
 
 -- ---- "each expiry is the largest slot day plus retention over records with that before, 0 if none"
 
-pub expiries-sound : {b : List ℕ} → FormFacts b → {a : List ℕ} {t : Bool} → Raised (replicate poolBlocks 0) (λ p. untilIn (bookOf b) p (journal (bookOf b))) a
-    → t ≡ matching (expiryOfBlock (bookOf b .entries)) (numberAt a) (bookOf b .sizes .n) → t ≡ all (expirySound (bookOf b)) (upFrom 0 (bookOf b .sizes .n))
+pub expiries-sound : {b : List ℕ} → FormFacts b → {a : List ℕ} {t : Bool}
+    → Raised (replicate poolBlocks 0) (λ p. untilIn (bookOf b) p (journal (bookOf b))) a
+    → t ≡ matching (expiryOfBlock (bookOf b .entries)) (numberAt a) (bookOf b .sizes .n)
+    → t ≡ all (expirySound (bookOf b)) (upFrom 0 (bookOf b .sizes .n))
 unfolding expirySound
 expiries-sound {b} f {a} c e =
     let x = bookOf b in

@@ -34,7 +34,9 @@ journal-in x p s =
     place-all (backupIn (x .sizes)) (journal x) noBackup
     (λ q k. let h : q < length (x .slots) = omega (arith, length-journal x) in
     let t = slotAt (x .slots) q in
-    let ok = all-take (recOk (x .sizes)) (t .number) (drop (t .first) (x .records)) (all-drop (recOk (x .sizes)) (t .first) (x .records) (p .records)) in
+    let ok =
+    all-take (recOk (x .sizes)) (t .number) (drop (t .first) (x .records))
+    (all-drop (recOk (x .sizes)) (t .first) (x .records) (p .records)) in
     true-and (ltb (backupAt x q .volume) volumes) (all (recOk (x .sizes)) (backupAt x q .records))
     (rw (volume-at x q) (lt-ltb (t .volume) volumes (slot-bounds x s p q h .volume)))
     (rw (records-at x q (p .pairs) h) ok))
@@ -50,7 +52,8 @@ pub record SlotRead (x : Book) (r : read.Slot) : Type 0 where
   pub records : r .first + r .number ≤ length (x .records)
   pub room : length (x .records) ≤ 16384
 
-module _ {b : List ℕ} (f : FormFacts b) (q : ℕ) (h : q < length (bookOf b .slots)) {r : read.Slot} (i : SlotIs (slotAt (bookOf b .slots) q) r) where
+module _ {b : List ℕ} (f : FormFacts b) (q : ℕ) (h : q < length (bookOf b .slots)) {r : read.Slot}
+    (i : SlotIs (slotAt (bookOf b .slots) q) r) where
   pub slot-read : SlotRead (bookOf b) r
   slot-read =
       let w = slot-bounds (bookOf b) (f .holds .sized) (f .parts) q h in
@@ -68,6 +71,8 @@ module _ {b : List ℕ} (f : FormFacts b) (q : ℕ) (h : q < length (bookOf b .s
       let v = volume-at x q ∙ sym (i .volume) in
       let d = day-at x q ∙ sym (i .day) in
       let rs : backupAt x q .records ≡ slice (r .first) (r .first + r .number) (x .records) =
-      records-at x q (f .parts .pairs) h ∙ rw (i .first, i .number) (sym (drop-take (slotAt (x .slots) q .first) (slotAt (x .slots) q .number) (x .records)))
+      records-at x q (f .parts .pairs) h
+      ∙ rw (i .first, i .number) (sym
+      (drop-take (slotAt (x .slots) q .first) (slotAt (x .slots) q .number) (x .records)))
       in
       λ j. record { volume = v j; day = d j; records = rs j }

@@ -22,11 +22,19 @@ use Rattle.replay.specs.Records.{Notes, RecordTaken, recordsTest, Record
 
 -- .. of a record as the code has it
 pub record-taken : {x : Book} {t : Taking} {r : Rec} {c : Record} {n n′ : Notes} {same met held : Bool} → RecordIs r c
-    → same ≡ eqb (getD (n .cells) (t .volume * rowSize + c .lbn .0) 0) (c .before .0) → n′ .cells ≡ set (n .cells) (t .volume * rowSize + c .lbn .0) (c .after .0)
+    → same ≡ eqb (getD (n .cells) (t .volume * rowSize + c .lbn .0) 0) (c .before .0)
+    → n′ .cells ≡ set (n .cells) (t .volume * rowSize + c .lbn .0) (c .after .0)
     → Raised (n .expiries) (untilOne (t .until) (c .before .0)) (n′ .expiries)
     → met ≡ eqb (getD (n .stamps) (c .lbn .0) 0) (t .stamp) → n′ .stamps ≡ set (n .stamps) (c .lbn .0) (t .stamp)
     → held ≡ cellSound x (c .before .0) → RecordTaken x t r (same && ((t .past || met) || held)) n n′
-record-taken i a b e f g h = record { test = rw (← (i .lbn), ← (i .before)) (rw (a, f, h)); cells = rw (← (i .lbn), ← (i .after)) b; expiries = rw (← (i .before)) e; stamps = rw (← (i .lbn)) g }
+record-taken i a b e f g h =
+    record {
+      test = rw (← (i .lbn), ← (i .before)) (rw (a, f, h));
+      cells = rw (← (i .lbn), ← (i .after)) b;
+      expiries
+          = rw (← (i .before)) e;
+      stamps = rw (← (i .lbn)) g;
+    }
 
 -- ---- a pass so far: what is left of it decides as the whole does
 
@@ -41,7 +49,8 @@ module _ (x : Book) (t : Taking) (n₀ : Notes) (rs₀ : List Rec) where
   records-start = record { test = refl; cells = refl; expiries = raising-start; stamps = refl }
 
   pub records-more : {good good′ : Bool} {n n′ : Notes} (rs : List Rec) (q e : ℕ) → q < e → e ≤ length rs
-      → RecordTaken x t (recAt rs q) good′ n n′ → RecordsLeft x t n₀ rs₀ good n (slice q e rs) → RecordsLeft x t n₀ rs₀ (good && good′) n′ (slice (q + 1) e rs)
+      → RecordTaken x t (recAt rs q) good′ n n′ → RecordsLeft x t n₀ rs₀ good n (slice q e rs)
+      → RecordsLeft x t n₀ rs₀ (good && good′) n′ (slice (q + 1) e rs)
   records-more {good} {good′} {n} {n′} rs q e h k s w =
       let c = slice-cons q e rs noRec h k in
       let r = recAt rs q in
@@ -56,11 +65,14 @@ module _ (x : Book) (t : Taking) (n₀ : Notes) (rs₀ : List Rec) where
             ∙ rw (c, add-one q, s .test, s .cells, s .stamps)
             (ap (λ (b : Bool). good && b) (and-swap same befores first firsts) ∙ sym (and-assoc good (same && first) (befores && firsts)));
         cells = w .cells ∙ rw (c, add-one q, s .cells);
-        expiries = raising-more (untilOne (t .until) (r .before)) (untilEach (t .until) (slice (q + 1) e rs)) (until-more (t .until) rs q e h k) (s .expiries) (w .expiries);
+        expiries =
+            raising-more (untilOne (t .until) (r .before)) (untilEach (t .until) (slice (q + 1) e rs))
+            (until-more (t .until) rs q e h k) (s .expiries) (w .expiries);
         stamps = w .stamps ∙ rw (c, add-one q, s .stamps);
       }
 
-  pub records-end : {good : Bool} {n : Notes} (rs : List Rec) (q e : ℕ) → q ≡ e → RecordsLeft x t n₀ rs₀ good n (slice q e rs) → RecordsTaken x t rs₀ good n₀ n
+  pub records-end : {good : Bool} {n : Notes} (rs : List Rec) (q e : ℕ) → q ≡ e
+      → RecordsLeft x t n₀ rs₀ good n (slice q e rs) → RecordsTaken x t rs₀ good n₀ n
   records-end {good} rs q e h w =
       let z : slice q e rs ≡ [] = rw h (slice-empty e rs) in
       record {

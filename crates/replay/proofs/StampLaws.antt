@@ -49,7 +49,9 @@ module _ (x : Book) (k : ℕ) where
     here : at a (r ∷ rs) (r .lbn) ≡ (eqb (getD a (r .lbn) 0) k || cellSound x (r .before))
     here = rw (first-cons r rs (r .lbn) true (eq-eqb (r .lbn) (r .lbn) refl))
 
-    one-more : (n : ℕ) → r .lbn < n → ((eqb (getD a (r .lbn) 0) k || cellSound x (r .before)) && each (at (set a (r .lbn) k) rs) 0 n) ≡ each (at a (r ∷ rs)) 0 n
+    one-more : (n : ℕ) → r .lbn < n
+        → ((eqb (getD a (r .lbn) 0) k || cellSound x (r .before)) && each (at (set a (r .lbn) k) rs) 0 n)
+        ≡ each (at a (r ∷ rs)) 0 n
     one-more n hn =
         same-test (first && each (at (set a (r .lbn) k) rs) 0 n) (each (at a (r ∷ rs)) 0 n)
         (λ e. let w = and-true first (each (at (set a (r .lbn) k) rs) 0 n) e in
@@ -69,7 +71,8 @@ module _ (x : Book) (k : ℕ) where
         from l true e w = ap (λ j. at (set a (r .lbn) k) rs j) (sym (eqb-true (r .lbn) l e)) ∙ own
         from l false e w = other l e ∙ w
 
-  firsts-each : (rs : List Rec) (z : Sizes) (a : List ℕ) → z .l ≤ length a → all (recOk z) rs ≡ true → firstsSound x false k a rs ≡ each (at a rs) 0 (z .l)
+  firsts-each : (rs : List Rec) (z : Sizes) (a : List ℕ) → z .l ≤ length a → all (recOk z) rs ≡ true
+      → firstsSound x false k a rs ≡ each (at a rs) 0 (z .l)
   unfolding recOk cellSound
   firsts-each [] z a h ok = sym (at-each (at a []) 0 (z .l) (λ l _ _. or-unmapped (eqb (getD a l 0) k)))
     where
@@ -79,8 +82,11 @@ module _ (x : Book) (k : ℕ) where
   firsts-each (r ∷ rs) z a h ok =
       let w = and-true (recOk z r) (all (recOk z) rs) ok in
       let lbn = ltb (r .lbn) (z .l) in
-      let l = ltb-true (r .lbn) (z .l) (and-true lbn (pbnOk (z .n) (r .before)) (and-true (lbn && pbnOk (z .n) (r .before)) (ltb (r .after) (z .n)) (w .0) .0) .0) in
-      ap (λ (t : Bool). (eqb (getD a (r .lbn) 0) k || cellSound x (r .before)) && t) (firsts-each rs z (set a (r .lbn) k) (rw (length-set a (r .lbn) k) h) (w .1))
+      let l =
+      ltb-true (r .lbn) (z .l) (and-true lbn (pbnOk (z .n) (r .before))
+      (and-true (lbn && pbnOk (z .n) (r .before)) (ltb (r .after) (z .n)) (w .0) .0) .0) in
+      ap (λ (t : Bool). (eqb (getD a (r .lbn) 0) k || cellSound x (r .before)) && t)
+      (firsts-each rs z (set a (r .lbn) k) (rw (length-set a (r .lbn) k) h) (w .1))
       ∙ one-more r rs a (omega arith) (z .l) l
 
   -- where no LBN has the stamp yet, every first record is tested
@@ -88,7 +94,8 @@ module _ (x : Book) (k : ℕ) where
       → firstsSound x false k a rs ≡ all (λ l. cellSound x (firstBefore l rs unmapped)) (upFrom 0 (z .l))
   firsts-fresh rs z a h ok low =
       firsts-each rs z a h ok
-      ∙ each-same (at a rs) (λ l. cellSound x (firstBefore l rs unmapped)) 0 (z .l) (λ l _ _. rw (ne-eqb (getD a l 0) k (λ e. absurd (omega (arith, low l)))))
+      ∙ each-same (at a rs) (λ l. cellSound x (firstBefore l rs unmapped)) 0 (z .l)
+      (λ l _ _. rw (ne-eqb (getD a l 0) k (λ e. absurd (omega (arith, low l)))))
       ∙ sym (all-each (λ l. cellSound x (firstBefore l rs unmapped)) (z .l))
 
 -- no stamp is above k

@@ -60,7 +60,9 @@ module _ (b pool : List ℕ) (v k lbn : ℕ) where
 
   offset-sought : readPlaceBytes b pool v k lbn ≡ andThen (soughtBytes b pool v k lbn) (λ p. accepted (p * blockSize))
   unfolding readPlaceBytes readNumberBytes soughtBytes soughtIn
-  offset-sought = rw read-sought (same-numbers (formNumber b) (poolNumber b pool) (readNumber (bookOf b) v k lbn) (image (bookOf b) v k lbn) (blockAt pool) (λ p. p * blockSize))
+  offset-sought =
+      rw read-sought (same-numbers (formNumber b) (poolNumber b pool) (readNumber (bookOf b) v k lbn)
+      (image (bookOf b) v k lbn) (blockAt pool) (λ p. p * blockSize))
 
   -- ---- what each call makes of the search's answer
 

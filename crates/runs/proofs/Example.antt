@@ -4,7 +4,8 @@ use mathlib.Core.Path.{_≡_, refl}
 use mathlib.Core.Bool.{true}
 use mathlib.Core.List.{List, [], _∷_, _++_}
 use lib.ListN.{replicate}
-use Rattle.runs.specs.Changes.{Change, changes, listNumber, pairCount, pairAt, pairs, changeCount, lbns, printsFrom, blocksFrom, listSize, changeAt}
+use Rattle.runs.specs.Changes.{Change, changes, listNumber, pairCount, pairAt, pairs, changeCount, lbns, printsFrom, blocksFrom}
+use Rattle.runs.specs.Changes.{listSize, changeAt}
 use Rattle.runs.specs.Writer.{imageChange, markedChanges, pairBytes, listBytes, markedList, inputOk, writeNumber}
 
 marks : List ℕ

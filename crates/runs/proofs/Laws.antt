@@ -8,7 +8,8 @@ use Rattle.words.specs.Sections.{part}
 use Rattle.words.proofs.SectionLaws.{length-tab, getD-tab, tab-list}
 use Rattle.words.proofs.Runs.{map-tab}
 use Rattle.words.proofs.Parts.{length-part, part-part}
-use Rattle.runs.specs.Changes.{Change, pairSize, pairCount, pairAt, pairs, changeCount, lbns, printsFrom, blocksFrom, listSize, changeAt, changes, listNumber}
+use Rattle.runs.specs.Changes.{Change, pairSize, pairCount, pairAt, pairs, changeCount, lbns, printsFrom, blocksFrom, listSize}
+use Rattle.runs.specs.Changes.{changeAt, changes, listNumber}
 use Rattle.words.specs.Blocks.{blockSize, printSize}
 use Rattle.runs.proofs.Pairs.{length-pairs, getD-pairs, length-runs, fit-sum, fit-count, fit-each, fit-bounds, fit-rise}
 use Rattle.runs.proofs.Number.{number-accepted}

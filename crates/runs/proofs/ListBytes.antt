@@ -16,7 +16,8 @@ use Rattle.words.proofs.NumberLaws.{two-back}
 use Rattle.words.specs.Sections.{flat, part}
 use Rattle.words.proofs.SectionLaws.{tab-list, length-flat, getD-flat, inside}
 use Rattle.words.proofs.Pieces.{sized, part-past, length-sized, part-sized}
-use Rattle.runs.specs.Changes.{Pair, Change, pairSize, pairCount, pairAt, pairs, lengths, run, changeCount, lbns, printsFrom, blocksFrom, listSize, changeAt, changes, pairsFit, listNumber}
+use Rattle.runs.specs.Changes.{Pair, Change, pairSize, pairCount, pairAt, pairs, lengths, run, changeCount, lbns, printsFrom}
+use Rattle.runs.specs.Changes.{blocksFrom, listSize, changeAt, changes, pairsFit, listNumber}
 use Rattle.words.specs.Blocks.{blockSize, printSize}
 use Rattle.runs.specs.Writer.{pairBytes, listBytes}
 
@@ -50,7 +51,8 @@ many-read p = two-back (p .many)
 pairByte : (ps : List Pair) (tail : List ℕ) (i j : ℕ) → i < length ps → j < pairSize
     → getD (two (length ps) ++ (flat pairBytes ps ++ tail)) (2 + i * pairSize + j) 0 ≡ getD (pairBytes (getD ps i noPair)) j 0
 pairByte ps tail i j hi hj =
-    let here : i * pairSize + j < length (flat pairBytes ps) = rw (length-flat pairSize pairBytes length-pairBytes ps) (inside i j (length ps) pairSize hi hj) in
+    let here : i * pairSize + j < length (flat pairBytes ps) =
+    rw (length-flat pairSize pairBytes length-pairBytes ps) (inside i j (length ps) pairSize hi hj) in
     ap (λ (n : ℕ). getD (two (length ps) ++ (flat pairBytes ps ++ tail)) n 0) (add-assoc 2 (i * pairSize) j)
     ∙ getD-append-add (two (length ps)) (flat pairBytes ps ++ tail) (i * pairSize + j) 0
     ∙ List·getD-append (flat pairBytes ps) tail 0 (i * pairSize + j) here
@@ -61,7 +63,8 @@ module _ (ps : List Pair) (cs : List Change) where
   unfolding pairCount listBytes
   pairCount-back = two-back (length ps)
 
-  pairNumber : (i j : ℕ) → i < length ps → j + 1 < pairSize → num (listBytes ps cs) (2 + i * pairSize + j) ≡ num (pairBytes (getD ps i noPair)) j
+  pairNumber : (i j : ℕ) → i < length ps → j + 1 < pairSize
+      → num (listBytes ps cs) (2 + i * pairSize + j) ≡ num (pairBytes (getD ps i noPair)) j
   unfolding listBytes
   pairNumber i j hi hj =
       ap₂ (λ (a b : ℕ). a + b * 256) (pairByte ps _ i j hi (omega arith))
@@ -71,9 +74,11 @@ module _ (ps : List Pair) (cs : List Change) where
   unfolding pairAt
   pairAt-back i hi =
       let a : num (listBytes ps cs) (2 + i * pairSize) ≡ getD ps i noPair .first =
-      ap (λ (n : ℕ). num (listBytes ps cs) n) (sym (add-zero (2 + i * pairSize))) ∙ pairNumber i 0 hi (omega arith) ∙ first-read (getD ps i noPair)
+      ap (λ (n : ℕ). num (listBytes ps cs) n) (sym (add-zero (2 + i * pairSize))) ∙ pairNumber i 0 hi (omega arith)
+      ∙ first-read (getD ps i noPair)
       in
-      let b : num (listBytes ps cs) (2 + i * pairSize + 2) ≡ getD ps i noPair .many = pairNumber i 2 hi (omega arith) ∙ many-read (getD ps i noPair) in
+      let b : num (listBytes ps cs) (2 + i * pairSize + 2) ≡ getD ps i noPair .many =
+      pairNumber i 2 hi (omega arith) ∙ many-read (getD ps i noPair) in
       ap₂ (λ (x y : ℕ). record { first = x; many = y }) a b
 
   pub pairs-back : pairs (listBytes ps cs) ≡ ps
@@ -106,7 +111,9 @@ pub record Fitting (ps : List Pair) (cs : List Change) : Type 0 where
 
 pub length-runs : (ps : List Pair) → length (joined (map run ps)) ≡ sum (lengths ps)
 length-runs [] = refl
-length-runs (p ∷ ps) = length-append (run p) (joined (map run ps)) ∙ ap₂ (λ (a b : ℕ). a + b) (length-upFrom (p .first) (p .many)) (length-runs ps)
+length-runs (p ∷ ps) =
+    length-append (run p) (joined (map run ps))
+    ∙ ap₂ (λ (a b : ℕ). a + b) (length-upFrom (p .first) (p .many)) (length-runs ps)
 
 noChange : Change
 noChange = record { lbn = 0; print = []; block = [] }
@@ -161,7 +168,8 @@ module _ (ps : List Pair) (cs : List Change) (f : Fitting ps cs) where
   size-back =
       let e = pairCount-back ps cs in
       let n = count-fitting in
-      eq-eqb (length (listBytes ps cs)) (2 + pairCount (listBytes ps cs) * pairSize + changeCount (listBytes ps cs) * (printSize + blockSize))
+      eq-eqb (length (listBytes ps cs))
+      (2 + pairCount (listBytes ps cs) * pairSize + changeCount (listBytes ps cs) * (printSize + blockSize))
       (omega (arith, length-back))
 
   pub listNumber-back : (L : ℕ) → pairsFit L 0 ps ≡ true → listNumber L (listBytes ps cs) ≡ 0

@@ -27,7 +27,8 @@ pub record Input (L : ℕ) (marks prints image : List ℕ) : Type 0 where
   pub image-long : length image ≡ L * blockSize
   pub tests : all (λ m. leb m 1) marks ≡ true
 
-six-true : (a b c d e f : Bool) → (a && b && c && d && e && f) ≡ true → (a ≡ true) × (b ≡ true) × (c ≡ true) × (d ≡ true) × (e ≡ true) × (f ≡ true)
+six-true : (a b c d e f : Bool) → (a && b && c && d && e && f) ≡ true
+    → (a ≡ true) × (b ≡ true) × (c ≡ true) × (d ≡ true) × (e ≡ true) × (f ≡ true)
 six-true a b c d e f h =
     let t = and-true (a && b && c && d && e) f h in
     let u = and-true (a && b && c && d) e (t .0) in

@@ -32,7 +32,8 @@ module _ (L : ℕ) (b : List ℕ) where
   pub number-accepted : listNumber L b ≡ 0 → Accepted L b
   number-accepted e = go (ltb (length b) 2) (pairsFit L 0 (pairs b)) (eqb (length b) (listSize b)) refl refl refl (sym number-ladder ∙ e)
     where
-      go : (s f n : Bool) → ltb (length b) 2 ≡ s → pairsFit L 0 (pairs b) ≡ f → eqb (length b) (listSize b) ≡ n → ladder s f n ≡ 0 → Accepted L b
+      go : (s f n : Bool) → ltb (length b) 2 ≡ s → pairsFit L 0 (pairs b) ≡ f → eqb (length b) (listSize b) ≡ n
+          → ladder s f n ≡ 0 → Accepted L b
       go true f n p q r z = absurd (omega arith)
       go false false n p q r z = absurd (omega arith)
       go false true false p q r z = absurd (omega arith)

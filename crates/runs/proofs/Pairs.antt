@@ -135,6 +135,7 @@ module _ (L : ℕ) where
       (λ a. rw (first-run p ps i (omega arith), first-run p ps j a) (omega arith))
       (λ a. rw (later-from p ps j a) (⊎-elim
       (λ b. rw (first-run p ps i b) (omega (arith, fit-bounds (p .first + p .many) ps (j - p .many) (rest-fit end p ps e) (omega arith))))
-      (λ b. rw (later-from p ps i b) (fit-rise (p .first + p .many) ps (i - p .many) (j - p .many) (rest-fit end p ps e) (omega arith) (omega arith)))
+      (λ b. rw (later-from p ps i b)
+      (fit-rise (p .first + p .many) ps (i - p .many) (j - p .many) (rest-fit end p ps e) (omega arith) (omega arith)))
       (below-or-not i (p .many))))
       (below-or-not j (p .many))

@@ -18,7 +18,8 @@ use Rattle.runs.proofs.RunLaws.{marked-none, runs-fit, runs-none}
 use Rattle.runs.specs.Writer.{runs, markedChanges, listBytes, markedList, inputOk, writeNumber, answerAfter, outputAfter, Wrote}
 use Rattle.runs.specs.RoundTrip.{Recovered}
 
-pub recovered : (L : ℕ) (marks prints image : List ℕ) → inputOk L marks prints image ≡ true → Recovered L marks prints image (markedList marks prints image)
+pub recovered : (L : ℕ) (marks prints image : List ℕ) → inputOk L marks prints image ≡ true
+    → Recovered L marks prints image (markedList marks prints image)
 unfolding markedList
 recovered L marks prints image h =
     let g = input-facts L marks prints image h in
@@ -30,11 +31,13 @@ recovered L marks prints image h =
 
 -- ---- what an accepted call leaves: the list is as many bytes of the output as the answer says
 
-pub input-written : (L : ℕ) (marks prints image out : List ℕ) → writeNumber L marks prints image out ≡ 0 → inputOk L marks prints image ≡ true
+pub input-written : (L : ℕ) (marks prints image out : List ℕ) → writeNumber L marks prints image out ≡ 0
+    → inputOk L marks prints image ≡ true
 unfolding writeNumber
 input-written L marks prints image out h = go (inputOk L marks prints image) h
   where
-    go : (t : Bool) → _≡_ {A = ℕ} (if not t then 19 else if ltb (length out) (length (markedList marks prints image)) then 20 else 0) 0 → t ≡ true
+    go : (t : Bool) → _≡_ {A = ℕ}
+        (if not t then 19 else if ltb (length out) (length (markedList marks prints image)) then 20 else 0) 0 → t ≡ true
     go true h = refl
     go false h = absurd (omega arith)
 
@@ -51,7 +54,8 @@ module _ (L : ℕ) (marks prints image out : Lent (List ℕ)) (answer : Lent ℕ
       let list = markedList ms ps bs in
       let a : now (answer .exit) ≡ length list = w .answered in
       let o : now (out .exit) ≡ list ++ drop (length list) before = w .output in
-      let e : take (now (answer .exit)) (now (out .exit)) ≡ list = rw (a, o) (take-at list (drop (length list) before) (length list) refl) in
+      let e : take (now (answer .exit)) (now (out .exit)) ≡ list =
+      rw (a, o) (take-at list (drop (length list) before) (length list) refl) in
       rw e (recovered L ms ps bs (input-written L ms ps bs before n))
 
 -- "E = 0 is a backup without changes"

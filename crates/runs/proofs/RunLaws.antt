@@ -24,7 +24,8 @@ marked-before : (l : ℕ) (ms : List ℕ) (i : ℕ) → l < i → someOf (eqb l)
 marked-before l [] i h = refl
 marked-before l (m ∷ ms) i h = go (eqb m 1) (marked-before l ms (suc i) (omega arith))
   where
-    go : (t : Bool) → someOf (eqb l) (markedFrom (suc i) ms) ≡ false → someOf (eqb l) (if t then i ∷ markedFrom (suc i) ms else markedFrom (suc i) ms) ≡ false
+    go : (t : Bool) → someOf (eqb l) (markedFrom (suc i) ms) ≡ false
+        → someOf (eqb l) (if t then i ∷ markedFrom (suc i) ms else markedFrom (suc i) ms) ≡ false
     go true ih = rw (ne-eqb l i (λ e. omega arith)) ih
     go false ih = ih
 
@@ -56,7 +57,8 @@ ordered-from ws (m ∷ ms) i h =
   where
     go : (t : Bool) → markedFrom (suc i) ms ≡ those (λ l. eqb (getD ws l 0) 1) (upFrom (suc i) (length ms))
         → (if t then i ∷ markedFrom (suc i) ms else markedFrom (suc i) ms)
-        ≡ (if t then i ∷ those (λ l. eqb (getD ws l 0) 1) (upFrom (suc i) (length ms)) else those (λ l. eqb (getD ws l 0) 1) (upFrom (suc i) (length ms)))
+        ≡ (if t then i ∷ those (λ l. eqb (getD ws l 0) 1) (upFrom (suc i) (length ms))
+        else those (λ l. eqb (getD ws l 0) 1) (upFrom (suc i) (length ms)))
     go true ih = ap (λ (r : List ℕ). i ∷ r) ih
     go false ih = ih
 
@@ -115,7 +117,13 @@ runs-none (m ∷ ms) i h =
 
 fit-from : (L : ℕ) (ms : List ℕ) (end i k : ℕ) → end + k ≤ i → i + length ms ≤ L → pairsFit L end (runs i k ms) ≡ true
 fit-from L [] end i zero h b = refl
-fit-from L [] end i (suc k) h b = rw (ne-eqb (suc k) 0 (λ e. omega arith), le-leb end (i - suc k) (omega arith), le-leb (i - suc k + suc k) L (omega arith))
+fit-from L [] end i (suc k) h b =
+    rw (
+      ne-eqb (suc k) 0 (λ e. omega arith),
+      le-leb end (i - suc k) (omega arith),
+      le-leb (i - suc k + suc k) L
+          (omega arith),
+    )
 fit-from L (m ∷ ms) end i k h b = go (eqb m 1) k h (λ e n j. fit-from L ms e (suc i) n j (omega arith))
   where
     go : (t : Bool) (k : ℕ) → end + k ≤ i → ((e n : ℕ) → e + n ≤ suc i → pairsFit L e (runs (suc i) n ms) ≡ true)
@@ -157,8 +165,10 @@ pub runs-apart : (marks : List ℕ) → apart (runs 0 0 marks) ≡ true
 runs-apart marks = apart-from marks 0 0 (omega arith)
 
 -- pair j ends before pair j + 1 starts
-pub apart-at : (d : Pair) (ps : List Pair) (j : ℕ) → apart ps ≡ true → suc j < length ps → getD ps j d .first + getD ps j d .many < getD ps (suc j) d .first
+pub apart-at : (d : Pair) (ps : List Pair) (j : ℕ) → apart ps ≡ true → suc j < length ps
+    → getD ps j d .first + getD ps j d .many < getD ps (suc j) d .first
 apart-at d [] j h b = absurd (not-suc-le-zero b)
 apart-at d (p ∷ []) zero h b = absurd (omega arith)
-apart-at d (p ∷ q ∷ ps) zero h b = ltb-true (p .first + p .many) (q .first) (and-true (ltb (p .first + p .many) (q .first)) (apart (q ∷ ps)) h .0)
+apart-at d (p ∷ q ∷ ps) zero h b =
+    ltb-true (p .first + p .many) (q .first) (and-true (ltb (p .first + p .many) (q .first)) (apart (q ∷ ps)) h .0)
 apart-at d (p ∷ ps) (suc j) h b = apart-at d ps j (and-true (startsPast (p .first + p .many) ps) (apart ps) h .1) (le-of-suc-le-suc b)

@@ -14,7 +14,8 @@ use Rattle.words.proofs.Each.{zeros-each}
 use Rattle.words.specs.Lists.{allZero}
 use Rattle.words.specs.Numbers.{num}
 use Rattle.words.proofs.SectionLaws.{part-tab}
-use Rattle.book.specs.Layout.{layoutNumber, headerSize, bookSize, entryOffset, entrySize, nOffset, lOffset, sOffset, jOffset, bOffset, uOffset, dayOffset, cursorOffset, zeroOffset, sizesOf, entryOf, recOf}
+use Rattle.book.specs.Layout.{layoutNumber, headerSize, bookSize, entryOffset, entrySize, nOffset, lOffset, sOffset, jOffset, bOffset}
+use Rattle.book.specs.Layout.{uOffset, dayOffset, cursorOffset, zeroOffset, sizesOf, entryOf, recOf}
 use Rattle.book.specs.Form.{layoutOk, sizesOk, stateOk, entryOk, pbnOk, recOk}
 use Rattle.sections.specs.Checks.{zerosIn, headOk, HeadIn}
 
@@ -39,13 +40,21 @@ head-facts b e =
 pub facts-head : (b : List ℕ) → HeadIn b → headOk b ≡ true
 unfolding headOk
 facts-head b h =
-    rw (le-leb (num b bOffset) (num b sOffset) (h .slots), le-leb (num b uOffset) (num b jOffset) (h .records), le-leb (num b dayOffset) 60000 (h .day), lt-ltb (num b cursorOffset) (num b nOffset) (h .cursor))
+    rw (
+      le-leb (num b bOffset) (num b sOffset) (h .slots),
+      le-leb (num b uOffset) (num b jOffset) (h .records),
+      le-leb
+          (num b dayOffset) 60000 (h .day),
+      lt-ltb (num b cursorOffset) (num b nOffset) (h .cursor),
+    )
     (eq-eqb (num b zeroOffset) 0 (h .spare))
 
 -- ---- the tests as the code makes them, on numbers that it read
 
-pub layout-tests : (b : List ℕ) {k n l s j w : ℕ} {t : Bool} → headerSize ≤ length b → n ≡ num b nOffset → l ≡ num b lOffset → s ≡ num b sOffset
-    → j ≡ num b jOffset → k ≡ num b 0 → t ≡ sizesOk (record { n = n; l = l; s = s; j = j }) → w ≡ bookSize (record { n = n; l = l; s = s; j = j })
+pub layout-tests : (b : List ℕ) {k n l s j w : ℕ} {t : Bool} → headerSize ≤ length b → n ≡ num b nOffset
+    → l ≡ num b lOffset → s ≡ num b sOffset
+    → j ≡ num b jOffset → k ≡ num b 0 → t ≡ sizesOk (record { n = n; l = l; s = s; j = j })
+    → w ≡ bookSize (record { n = n; l = l; s = s; j = j })
     → (eqb k layoutNumber && t && eqb (length b) w) ≡ layoutOk b
 unfolding layoutOk
 layout-tests b h en el es ej ek et ew = rw (le-leb headerSize (length b) h, et, ew, ek, en, el, es, ej)
@@ -69,7 +78,9 @@ module _ (b : List ℕ) (p : ℕ) (fits : entryOffset p + entrySize ≤ length b
   entry-tests =
       let t = part-tab printSize b (entryOffset p + 4) (λ i. getD b (entryOffset p + 4 + i) 0) (omega arith) (λ i hi. refl) in
       let e : entryOffset p + 4 + printSize ≡ entryOffset p + entrySize = omega arith in
-      let z : allZero (entryOf b p .print) ≡ clear = ap allZero t ∙ zeros-each b printSize (entryOffset p + 4) (omega arith) ∙ ap (zerosIn b (entryOffset p + 4)) e in
+      let z : allZero (entryOf b p .print) ≡ clear =
+      ap allZero t ∙ zeros-each b printSize (entryOffset p + 4) (omega arith) ∙ ap (zerosIn b (entryOffset p + 4)) e
+      in
       ap (λ (r : Bool). leb state 1 && (leb expiry 65000 && (eqb state 1 || (eqb count 0 && r)))) z
 
   pub bad-state : 1 < state → false ≡ (stateOk b p && entryOk (entryOf b p))

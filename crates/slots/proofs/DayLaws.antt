@@ -22,7 +22,8 @@ volumeOk t = ltb (t .volume) volumes
 
 -- ---- the pass says what the rule says
 
-module _ (lasts : List ℕ) (prev : ℕ) (t : Slot) (inside : t .volume < length lasts) (low : prev ≤ t .day) (last : getD lasts (t .volume) 0 ≤ t .day) where
+module _ (lasts : List ℕ) (prev : ℕ) (t : Slot) (inside : t .volume < length lasts) (low : prev ≤ t .day)
+    (last : getD lasts (t .volume) 0 ≤ t .day) where
   abbrev after : List ℕ
   after = set lasts (t .volume) (t .day + 1)
 
@@ -34,11 +35,19 @@ module _ (lasts : List ℕ) (prev : ℕ) (t : Slot) (inside : t .volume < length
 
   -- a slot of the same volume, and one of another
   same-volume : (u : Slot) → t .volume ≡ u .volume → (a : Bool) → ltb (t .day) (u .day) ≡ a
-      → (leb (t .day) (u .day) && leb (getD after (u .volume) 0) (u .day)) ≡ ((leb prev (u .day) && leb (getD lasts (u .volume) 0) (u .day)) && (leb (t .day) (u .day) && a))
+      → (leb (t .day) (u .day) && leb (getD after (u .volume) 0) (u .day))
+      ≡ ((leb prev (u .day) && leb (getD lasts (u .volume) 0) (u .day)) && (leb (t .day) (u .day) && a))
   same-volume u v true e =
       let h = ltb-true (t .day) (u .day) e in
       let g : getD lasts (u .volume) 0 ≤ t .day = rw v at last in
-      rw (new u v, le-leb (t .day) (u .day) (omega arith), le-leb (t .day + 1) (u .day) (omega arith), le-leb prev (u .day) (omega arith), le-leb (getD lasts (u .volume) 0) (u .day) (omega arith))
+      rw (
+        new u v,
+        le-leb (t .day) (u .day) (omega arith),
+        le-leb (t .day + 1) (u .day) (omega arith),
+        le-leb prev
+            (u .day) (omega arith),
+        le-leb (getD lasts (u .volume) 0) (u .day) (omega arith),
+      )
   same-volume u v false e =
       let h = ltb-false (t .day) (u .day) e in
       simp (new u v, lt-leb (t .day + 1) (u .day) (omega arith), and-false)
@@ -72,7 +81,9 @@ from-here : (ts : List Slot) (lasts : List ℕ) (prev : ℕ) → length lasts �
 from-here [] lasts prev n v = refl
 from-here (t ∷ ts) lasts prev n v =
     let w = and-true (volumeOk t) (all volumeOk ts) v in
-    go (ltb-true (t .volume) volumes (w .0)) (from-here ts (set lasts (t .volume) (t .day + 1)) (t .day) (length-set lasts (t .volume) (t .day + 1) ∙ n) (w .1)) (dayOk lasts prev t) refl
+    go (ltb-true (t .volume) volumes (w .0))
+    (from-here ts (set lasts (t .volume) (t .day + 1)) (t .day) (length-set lasts (t .volume) (t .day + 1) ∙ n) (w .1))
+    (dayOk lasts prev t) refl
   where
     rest : Bool
     rest = daysFrom (set lasts (t .volume) (t .day + 1)) (t .day) ts

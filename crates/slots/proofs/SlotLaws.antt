@@ -39,7 +39,8 @@ module _ (b : List ℕ) (q : ℕ) where
   slots-drop h =
       let slot : ℕ → Slot = λ k. slotOf b (slotOffset (sizesOf b) k) in
       let n = length-tab (num b bOffset) slot in
-      rw (add-one q) (drop-cons (tab (num b bOffset) slot) q noSlot (omega arith) ∙ ap (λ (t : Slot). t ∷ drop (suc q) (tab (num b bOffset) slot)) (getD-tab (num b bOffset) slot q noSlot h))
+      rw (add-one q) (drop-cons (tab (num b bOffset) slot) q noSlot (omega arith)
+      ∙ ap (λ (t : Slot). t ∷ drop (suc q) (tab (num b bOffset) slot)) (getD-tab (num b bOffset) slot q noSlot h))
 
   slots-none : num b bOffset ≤ q → drop q (bookOf b .slots) ≡ []
   unfolding bookOf
@@ -49,7 +50,8 @@ module _ (b : List ℕ) (q : ℕ) where
 
   module _ (lasts : List ℕ) (prev next : ℕ) where
     slots-first : q < num b bOffset → slotsLeft b q lasts prev next
-        ≡ (slotHere b (slotOffset (sizesOf b) q) lasts prev next && slotsLeft b (q + 1) (set lasts (this .volume) (this .day + 1)) (this .day) (next + this .number))
+        ≡ (slotHere b (slotOffset (sizesOf b) q) lasts prev next
+        && slotsLeft b (q + 1) (set lasts (this .volume) (this .day + 1)) (this .day) (next + this .number))
     unfolding slotsLeft slotHere secondOk
     slots-first h =
         let rest = drop (q + 1) (bookOf b .slots) in
@@ -79,7 +81,9 @@ retention-of b v h = getD-tab volumes (λ v. num b (retentionOffset v)) v 0 h
 
 pub no-retention : (b : List ℕ) (v : ℕ) → volumes ≤ v → getD (bookOf b .retentions) v 0 ≡ 0
 unfolding bookOf
-no-retention b v h = List·getD-eq-default (tab volumes (λ v. num b (retentionOffset v))) 0 {n = v} (omega (arith, length-tab volumes (λ v. num b (retentionOffset v))))
+no-retention b v h =
+    List·getD-eq-default (tab volumes (λ v. num b (retentionOffset v))) 0 {n = v}
+    (omega (arith, length-tab volumes (λ v. num b (retentionOffset v))))
 
 day-of : (b : List ℕ) → bookOf b .day ≡ num b dayOffset
 unfolding bookOf
@@ -92,9 +96,11 @@ module _ (b : List ℕ) (at : ℕ) (lasts : List ℕ) (prev next : ℕ) where
   slot-above h = rw (no-retention b (getD b at 0) h, and-false (eqb (getD b (at + 1) 0) 0))
 
   -- any other passes by these tests
-  pub slot-tests : {v d r f today : ℕ} → v < volumes → v ≡ getD b at 0 → d ≡ num b (at + 2) → r ≡ num b (retentionOffset v) → f ≡ num b (at + 4)
+  pub slot-tests : {v d r f today : ℕ} → v < volumes → v ≡ getD b at 0 → d ≡ num b (at + 2)
+      → r ≡ num b (retentionOffset v) → f ≡ num b (at + 4)
       → today ≡ num b dayOffset
-      → (eqb (getD b (at + 1) 0) 0 && (not (eqb r 0) && leb d today) && (leb prev d && leb (getD lasts v 0) d) && eqb f next) ≡ slotHere b at lasts prev next
+      → (eqb (getD b (at + 1) 0) 0 && (not (eqb r 0) && leb d today) && (leb prev d && leb (getD lasts v 0) d)
+      && eqb f next) ≡ slotHere b at lasts prev next
   unfolding slotHere slotOk dayOk
   slot-tests {v = v} h ev ed er ef et = rw (er, ← retention-of b v h, ed, ef, et, ← day-of b, ev)
 
@@ -113,4 +119,5 @@ module _ (b : List ℕ) (at : ℕ) (lasts : List ℕ) (prev next : ℕ) where
           let first = eqb (getD b (at + 1) 0) 0 && slotOk (bookOf b) t in
           let p = and-true (first && dayOk lasts prev t) (eqb (t .first) next) e .0 in
           let k = and-true (eqb (getD b (at + 1) 0) 0) (slotOk (bookOf b) t) (and-true first (dayOk lasts prev t) p .0) .1 in
-          rw (day-of b) at (leb-true (t .day) (bookOf b .day) (and-true (enrolled (bookOf b) (t .volume)) (leb (t .day) (bookOf b .day)) k .1))
+          rw (day-of b) at (leb-true (t .day) (bookOf b .day)
+          (and-true (enrolled (bookOf b) (t .volume)) (leb (t .day) (bookOf b .day)) k .1))

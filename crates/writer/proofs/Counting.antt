@@ -57,7 +57,9 @@ module _ (ms : List ℕ) (t r : Tally) (i : ℕ) where
   unfolding counted
   counting-more h c g =
       let m = getD ms i 0 in
-      let e = ap length (runs-more ms i (t .row) h) ∙ length-append (endedRun i (t .row) m) (runs (i + 1) (rowAfter (t .row) m) (drop (i + 1) ms)) in
+      let e =
+      ap length (runs-more ms i (t .row) h)
+      ∙ length-append (endedRun i (t .row) m) (runs (i + 1) (rowAfter (t .row) m) (drop (i + 1) ms)) in
       subst (λ (x : Tally). Counting ms x (i + 1)) (sym c)
       (record {
         marked = omega (arith, g .marked, marked-more ms i h);

@@ -44,7 +44,8 @@ length-elements size b (m ∷ ms) i h =
 -- the changes' sections are those of the marked fingerprints and blocks
 module _ (prints image : List ℕ) where
   pub list-sections : (marks : List ℕ) → markedList marks prints image
-      ≡ two (length (runs 0 0 marks)) ++ (pairsFrom 0 0 marks ++ (markedElements printSize prints 0 marks ++ markedElements blockSize image 0 marks))
+      ≡ two (length (runs 0 0 marks))
+      ++ (pairsFrom 0 0 marks ++ (markedElements printSize prints 0 marks ++ markedElements blockSize image 0 marks))
   unfolding markedList listBytes markedChanges imageChange pairsFrom element markedElements
   list-sections marks =
       ap₂ (λ (p q : List ℕ). two (length (runs 0 0 marks)) ++ (pairsFrom 0 0 marks ++ (p ++ q)))

@@ -90,7 +90,8 @@ module _ (out : List ℕ) (at i k m : ℕ) where
   unfolding pairOf pairBytes
   pair-room n e h = rw (ended-run i k m n e) at h
 
-  pub pair-put : {o : List ℕ} → (m ≡ 1 → ⊥) → (k ≡ 0 → ⊥) → o ≡ put (put out at (i - k)) (at + 2) k → Stored out at (pairOf i k m) o (at + 4)
+  pub pair-put : {o : List ℕ} → (m ≡ 1 → ⊥) → (k ≡ 0 → ⊥) → o ≡ put (put out at (i - k)) (at + 2) k
+      → Stored out at (pairOf i k m) o (at + 4)
   unfolding pairOf pairBytes
   pair-put n e s = rw (ended-run i k m n e) (record {
     list = s ∙ rw (put-sets out at (i - k), put-sets) (sets-next (two (i - k)) (two k) out at (at + 2) refl);

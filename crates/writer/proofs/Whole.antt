@@ -68,7 +68,8 @@ module _ {out : List ℕ} {E : ℕ} {marks prints image : List ℕ} (r : Room ou
 
   pub number-room : 2 ≤ length out
   number-room =
-      left-room all-left (two (length (runs 0 0 marks))) (pairsFrom 0 0 marks ++ changeSections marks prints image) (list-sections prints image marks)
+      left-room all-left (two (length (runs 0 0 marks))) (pairsFrom 0 0 marks ++ changeSections marks prints image)
+      (list-sections prints image marks)
 
   pub number-stored : {o : List ℕ} → o ≡ put out 0 E → AfterNumber marks prints image out o 2
   number-stored e =

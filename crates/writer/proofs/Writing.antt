@@ -67,7 +67,8 @@ row-room {p = p} {i = i} {m = m} s h = rw (s .row) (go (eqb m 1))
 -- ---- fingerprints and blocks
 
 module _ (size : ℕ) (b : List ℕ) where
-  elements-cons : (i m : ℕ) (ms : List ℕ) → markedElements size b i (m ∷ ms) ≡ ifMarked m (element size b i) ++ markedElements size b (suc i) ms
+  elements-cons : (i m : ℕ) (ms : List ℕ)
+      → markedElements size b i (m ∷ ms) ≡ ifMarked m (element size b i) ++ markedElements size b (suc i) ms
   unfolding markedElements ifMarked
   elements-cons i m ms = go (eqb m 1)
     where
@@ -104,13 +105,15 @@ module _ (size : ℕ) (b ms : List ℕ) (next from i : ℕ) {old section out : L
   pub part-room : i < length ms → next + length (ifMarked (getD ms i 0) (take (from + size - from) (drop from b))) ≤ length out
   part-room h =
       rw (taken size b from i f)
-      (left-room l (ifMarked (getD ms i 0) (element size b i)) (markedElements size b (i + 1) (drop (i + 1) ms)) (elements-more size b ms i h))
+      (left-room l (ifMarked (getD ms i 0) (element size b i)) (markedElements size b (i + 1) (drop (i + 1) ms))
+      (elements-more size b ms i h))
 
   pub part-stored : {out′ : List ℕ} {next′ : ℕ} → i < length ms
       → Stored out next (ifMarked (getD ms i 0) (take (from + size - from) (drop from b))) out′ next′
       → Left old start section out′ next′ (markedElements size b (i + 1) (drop (i + 1) ms))
   part-stored {out′} {next′} h s =
-      left-more l (ifMarked (getD ms i 0) (element size b i)) (markedElements size b (i + 1) (drop (i + 1) ms)) (elements-more size b ms i h)
+      left-more l (ifMarked (getD ms i 0) (element size b i)) (markedElements size b (i + 1) (drop (i + 1) ms))
+      (elements-more size b ms i h)
       (subst (λ (x : List ℕ). Stored out next (ifMarked (getD ms i 0) x) out′ next′) (taken size b from i f) s)
 
   pub all-stored : length ms ≤ i → Stored old start section out next

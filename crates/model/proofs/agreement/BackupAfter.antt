@@ -28,7 +28,8 @@ use Rattle.model.specs.PlainBackup
 use Rattle.model.specs.PlainBackup.{withImage, PlainWork}
 use Rattle.model.proofs.kept.Sound.{SoundAll, Days, Rising, AllRise}
 use Rattle.model.proofs.agreement.Agree.{Fit, Agree, imagesOf, named, reaches}
-use Rattle.model.proofs.kept.JournalLaws.{journalOf-append, backupsIn-append, replayed-append, soundAll-append, days-append, allRise-append, untilIn-append, untilIn-book, reaches-append}
+use Rattle.model.proofs.kept.JournalLaws.{journalOf-append, backupsIn-append, replayed-append, soundAll-append, days-append}
+use Rattle.model.proofs.kept.JournalLaws.{allRise-append, untilIn-append, untilIn-book, reaches-append}
 use Rattle.model.proofs.kept.Replays.{mapAfter, imagesOf-append}
 use Rattle.model.proofs.agreement.AgreeLaws.{map-after}
 use Rattle.model.proofs.kept.Reaches.{reached-earlier}
@@ -44,10 +45,12 @@ unfolding Rising
 rising-from a [] low up = tt
 rising-from a (r ∷ rs) low up = (
   low 0 (omega arith),
-  rising-from (suc (r .lbn)) rs (λ i h. up 0 (suc i) (omega arith) (omega arith)) (λ i j h k. up (suc i) (suc j) (omega arith) (omega arith)),
+  rising-from (suc (r .lbn)) rs (λ i h. up 0 (suc i) (omega arith) (omega arith))
+      (λ i j h k. up (suc i) (suc j) (omega arith) (omega arith)),
 )
 
-module _ {x : Book} {pool : List ℕ} {q : Plain} (g : Agree x pool q) (v t : ℕ) (list : List ℕ) (ok : Allowed x v t list) (inside : v < volumes)
+module _ {x : Book} {pool : List ℕ} {q : Plain} (g : Agree x pool q) (v t : ℕ) (list : List ℕ) (ok : Allowed x v t list)
+    (inside : v < volumes)
     (w : Work) (u : PlainWork) (a : Level x v w u) (r : Trail x v (t + retentionOf x v) (changes list) w u) where
   -- our book and the store after
   abbrev pub y : Book
@@ -62,14 +65,17 @@ module _ {x : Book} {pool : List ℕ} {q : Plain} (g : Agree x pool q) (v t : �
 
   length-new : length (r .new) ≡ changeCount list
   length-new =
-      sym (length-map (r .new) (λ (r : Rec). r .lbn)) ∙ ap length (r .lbns) ∙ length-map (changes list) (λ (c : Change). c .lbn) ∙ length-changes list
+      sym (length-map (r .new) (λ (r : Rec). r .lbn)) ∙ ap length (r .lbns)
+      ∙ length-map (changes list) (λ (c : Change). c .lbn) ∙ length-changes list
 
   pub journal-after : journal y ≡ journal x ++ (b ∷ [])
   unfolding journal closed withDay withSlot
   journal-after =
-      ap₂ (λ (ts : List Slot) (rs : List Rec). journalOf (ts ++ (record { volume = v; day = t; first = length (x .records); number = changeCount list } ∷ [])) rs)
+      ap₂ (λ (ts : List Slot) (rs : List Rec). journalOf
+      (ts ++ (record { volume = v; day = t; first = length (x .records); number = changeCount list } ∷ [])) rs)
       (a .slots) (r .records)
-      ∙ journalOf-append (x .slots) (x .records) (record { volume = v; day = t; first = length (x .records); number = changeCount list }) (r .new) 0
+      ∙ journalOf-append (x .slots) (x .records)
+      (record { volume = v; day = t; first = length (x .records); number = changeCount list }) (r .new) 0
       (rw zero-add (book-parts x (g .fit .form) .pairs)) length-new
 
   pub rising-new : Rising 0 (r .new)
@@ -93,7 +99,8 @@ module _ {x : Book} {pool : List ℕ} {q : Plain} (g : Agree x pool q) (v t : �
       ∙ g .retentions z h ∙ ap (λ (l : List ℕ). getD l z 0) (sym (a .retentions))
 
   -- the image that is added is the backup's
-  image-added : imagesOf (mapAfter (noMap (x .sizes)) (backupsIn v (journal x))) (b ∷ []) ≡ record { day = t; cells = u .copy; changed = changeCount list } ∷ []
+  image-added : imagesOf (mapAfter (noMap (x .sizes)) (backupsIn v (journal x))) (b ∷ [])
+      ≡ record { day = t; cells = u .copy; changed = changeCount list } ∷ []
   image-added =
       ap₂ (λ (m : List ℕ) (k : ℕ). record { day = t; cells = m; changed = k } ∷ [])
       (ap (λ (m : List ℕ). applied m (r .new)) (sym (map-after g v inside)) ∙ sym (r .copy)) length-new

@@ -1,5 +1,5 @@
--- A backup on both sides, from where they agree: refused by the same number, which is never 1 to 4 or 13, or accepted with the same answer, and
--- then both agree again. Entries that the changes don't name stay.
+-- A backup on both sides, from where they agree: refused by the same number, which is never 1 to 4 or 13, or accepted with the same
+-- answer, and then both agree again. Entries that the changes don't name stay.
 use Prim.Native.Nat.{ℕ, zero, suc, _+_, _<_}
 use mathlib.Core.Path.{_≡_, refl, sym, ap, subst, _∙_}
 use mathlib.Core.Bool.{false, _&&_}
@@ -75,7 +75,9 @@ module _ {x : Book} {pool : List ℕ} {q : Plain} (g : Agree x pool q) (v t : �
       ours = andThen (runChanges v (t + retentionOf x v) (changes list) (begun x pool)) (λ w. accepted (closed x v t (changeCount list) w))
 
       theirs : Outcome PlainBacked
-      theirs = andThen (PlainBackup.runChanges (currentMaps q) v (changes list) (PlainBackup.begun q v)) (λ u. accepted (PlainBackup.closed q v t (changeCount list) u))
+      theirs =
+          andThen (PlainBackup.runChanges (currentMaps q) v (changes list) (PlainBackup.begun q v))
+          (λ u. accepted (PlainBackup.closed q v t (changeCount list) u))
 
       go : (k : ℕ) → backupNumber x v t list ≡ k → BothBacked x q v list (unless k ours) (unless k theirs)
       go zero e = run-agree (number-zero x v t list e)

@@ -101,4 +101,5 @@ module _ {x : Book} {pool : List ℕ} {q : Plain} (g : Agree x pool q) (v : ℕ)
   changes-both until cs f =
       let small = sizes-facts (x .sizes) (g .fit .sizes) in
       rw (maps-agree g)
-      (run-both x v until (omega (arith, g .fit .sized .maps)) (omega arith) [] cs f (begun x pool) (PlainBackup.begun q v) start-level (start-trail until))
+      (run-both x v until (omega (arith, g .fit .sized .maps)) (omega arith) [] cs f (begun x pool)
+      (PlainBackup.begun q v) start-level (start-trail until))

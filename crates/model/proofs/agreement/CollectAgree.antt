@@ -30,7 +30,8 @@ module _ {x : Book} {pool : List ℕ} {q : Plain} (g : Agree x pool q) where
   collect-number t = rw (g .day)
 
   -- the test of each held entry
-  pub over-entry : (t p : ℕ) → p < x .sizes .n → entryAt (x .entries) p .held ≡ true → isOver t (entryAt (x .entries) p) ≡ not (marked q t p)
+  pub over-entry : (t p : ℕ) → p < x .sizes .n → entryAt (x .entries) p .held ≡ true
+      → isOver t (entryAt (x .entries) p) ≡ not (marked q t p)
   over-entry t p h k = over-held t (entryAt (x .entries) p) k ∙ over-marked g t p h k
 
   over-place : (t j : ℕ) → j < length (x .entries) → entryAt (x .entries) j .held ≡ true
@@ -78,14 +79,16 @@ module _ {x : Book} {pool : List ℕ} {q : Plain} (g : Agree x pool q) where
   unfolding reaches
   free-after t p late h k = go (entryAt (x .entries) p .held) (isOver t (entryAt (x .entries) p)) refl refl
     where
-      go : (a o : Bool) → entryAt (x .entries) p .held ≡ a → isOver t (entryAt (x .entries) p) ≡ o → (named x p ≡ 0) × (reaches x t p ≡ false)
+      go : (a o : Bool) → entryAt (x .entries) p .held ≡ a → isOver t (entryAt (x .entries) p) ≡ o
+          → (named x p ≡ 0) × (reaches x t p ≡ false)
       go a true e f = over-free t p h f
       go false false e f = let w = g .free p h e in (w .0, reached-earlier x (x .day) t p (journal x) late (w .1))
       go true false e f =
           let a : sweptEntry t (entryAt (x .entries) p) .held ≡ true = rw (after-held, e, f) in
           absurd (not-both (sweptEntry t (entryAt (x .entries) p) .held) a (ap (λ (e : Entry). e .held) (sym (entry-after t p h)) ∙ k))
 
-  pub collect-agree : (t : ℕ) → collectNumber x t ≡ 0 → Fit (collected x t .book) → Agree (collected x t .book) pool (Plain.collected q t .store)
+  pub collect-agree : (t : ℕ) → collectNumber x t ≡ 0 → Fit (collected x t .book)
+      → Agree (collected x t .book) pool (Plain.collected q t .store)
   unfolding collected withDay withEntries Plain.collected Plain.atDay Plain.withBlocks journal noMaps named reaches printsSound
   collect-agree t ok fit = record {
     fit = fit;

@@ -50,7 +50,8 @@ module _ (x : Book) (v r : ℕ) where
   apart-reaches d p (b ∷ bs) a = rw (apart-reaches d p bs (a .1), getD-set-other (x .retentions) v (b .volume) r 0 (a .0))
 
 -- "used slots name enrolled volumes"
-slots-apart : (x : Book) (v : ℕ) (ts : List Slot) (rs : List Rec) → enrolled x v ≡ false → all (slotOk x) ts ≡ true → Apart v (journalOf ts rs)
+slots-apart : (x : Book) (v : ℕ) (ts : List Slot) (rs : List Rec) → enrolled x v ≡ false → all (slotOk x) ts ≡ true
+    → Apart v (journalOf ts rs)
 unfolding Apart slotOk
 slots-apart x v [] rs n e = tt
 slots-apart x v (t ∷ ts) rs n e =
@@ -64,7 +65,8 @@ pub enrol-volume : (x : Book) (v r : ℕ) → enrolNumber x v r ≡ 0 → (v < v
 unfolding enrolNumber
 enrol-volume x v r e = go (ltb 7 v) (enrolled x v) (badRetention r) refl refl e
   where
-    go : (a b c : Bool) → ltb 7 v ≡ a → enrolled x v ≡ b → _≡_ {A = ℕ} (if a || b then 5 else if c then 6 else 0) 0 → (v < volumes) × (b ≡ false)
+    go : (a b c : Bool) → ltb 7 v ≡ a → enrolled x v ≡ b → _≡_ {A = ℕ} (if a || b then 5 else if c then 6 else 0) 0
+        → (v < volumes) × (b ≡ false)
     go true b c f h e = absurd (omega arith)
     go false true c f h e = absurd (omega arith)
     go false false c f h e = (omega (arith, ltb-false 7 v f), refl)
@@ -98,7 +100,9 @@ module _ {x : Book} {pool : List ℕ} {q : Plain} (g : Agree x pool q) where
       u : Volume
       u = record { retention = r; images = [] }
 
-      go : (t : Bool) → eqb v w ≡ t → getD (set (q .volumes) v u) w Plain.unenrolled .images ≡ imagesOf (noMap (x .sizes)) (backupsIn w (journal x))
+      go : (t : Bool) → eqb v w ≡ t
+          → getD (set (q .volumes) v u) w Plain.unenrolled .images
+          ≡ imagesOf (noMap (x .sizes)) (backupsIn w (journal x))
       go true e =
           let f = eqb-true v w e in
           let a : w < length (q .volumes) = rw (g .volumeCount) h in

@@ -40,7 +40,8 @@ unnamed z p ok h =
     (named-none (fresh z) p ∙ ap not (none-replicated (names p) volumes (replicate (z .l) unmapped)
     (none-replicated (eqb p) (z .l) unmapped (ne-eqb p unmapped (pbn-mapped (fresh z) p ok h)))))
 
-pub fresh-agree : (z : Sizes) (pool : List ℕ) → sizesOk z ≡ true → length pool ≡ poolSize (z .n) → Fit (fresh z) → Agree (fresh z) pool (start z)
+pub fresh-agree : (z : Sizes) (pool : List ℕ) → sizesOk z ≡ true → length pool ≡ poolSize (z .n) → Fit (fresh z)
+    → Agree (fresh z) pool (start z)
 unfolding fresh start journal noMaps reaches printsSound SoundAll Days AllRise freeEntry Plain.unenrolled
 fresh-agree z pool ok long fit = record {
   fit = fit;

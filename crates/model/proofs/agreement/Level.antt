@@ -72,7 +72,8 @@ module _ (x : Book) (v : ℕ) (inside : v < length (x .maps)) (small : x .sizes 
     before = getD (u .copy) lbn unmapped
 
     -- the cells without this one
-    out : (q : ℕ) → q < x .sizes .n → namesIn (x .maps) v (set (u .copy) lbn unmapped) q + bit (eqb q before) ≡ namesIn (x .maps) v (u .copy) q
+    out : (q : ℕ) → q < x .sizes .n
+        → namesIn (x .maps) v (set (u .copy) lbn unmapped) q + bit (eqb q before) ≡ namesIn (x .maps) v (u .copy) q
     out q k =
         names-set (x .maps) v (u .copy) lbn unmapped q inside (omega (arith, a .width))
         ∙ rw (ne-eqb q unmapped (λ (z : q ≡ unmapped). omega arith)) (omega arith)
@@ -90,7 +91,8 @@ module _ (x : Book) (v : ℕ) (inside : v < length (x .maps)) (small : x .sizes 
         omega (arith, a .counts before k, out before k, ap bit (eq-eqb before before refl)))
 
     -- never 13
-    pub number-same : moveNumber until before p (w .book .entries) ≡ (if eqb (namesIn (x .maps) v (set (u .copy) lbn unmapped) p) 255 then 14 else 0)
+    pub number-same : moveNumber until before p (w .book .entries)
+        ≡ (if eqb (namesIn (x .maps) v (set (u .copy) lbn unmapped) p) 255 then 14 else 0)
     unfolding moveNumber
     number-same = go (eqb before unmapped) refl
       where
@@ -102,10 +104,12 @@ module _ (x : Book) (v : ℕ) (inside : v < length (x .maps)) (small : x .sizes 
         go true e = rw (lowered-is p h)
         go false e = rw (some-left (eqb-false before unmapped e), lowered-is p h)
 
-    cell-in : (j : ℕ) (t : Bool) → eqb j lbn ≡ t → getD (set (u .copy) lbn p) j unmapped ≢ unmapped → getD (set (u .copy) lbn p) j unmapped < x .sizes .n
+    cell-in : (j : ℕ) (t : Bool) → eqb j lbn ≡ t → getD (set (u .copy) lbn p) j unmapped ≢ unmapped
+        → getD (set (u .copy) lbn p) j unmapped < x .sizes .n
     cell-in j true e z = rw (eqb-true j lbn e, getD-set-same (u .copy) lbn p unmapped (omega (arith, a .width))) h
     cell-in j false e z =
-        let s : getD (set (u .copy) lbn p) j unmapped ≡ getD (u .copy) j unmapped = getD-set-other (u .copy) lbn j p unmapped (eqb-false j lbn e) in
+        let s : getD (set (u .copy) lbn p) j unmapped ≡ getD (u .copy) j unmapped =
+        getD-set-other (u .copy) lbn j p unmapped (eqb-false j lbn e) in
         rw s (a .cells j (λ (y : getD (u .copy) j unmapped ≡ unmapped). z (s ∙ y)))
 
     abbrev ourNext : Work
@@ -137,7 +141,8 @@ module _ (x : Book) (v : ℕ) (inside : v < length (x .maps)) (small : x .sizes 
           ∙ rw (getD-set-same (x .maps) v (u .copy) [] inside) (set-set (x .maps) v (u .copy) (set (u .copy) lbn p));
       width = length-set (u .copy) lbn p ∙ a .width;
       counts = λ q k.
-          moved-count until before p (w .book .entries) q (omega arith) (before-inside x v lbn w u a) (omega (arith, a .alike .entries, ap (λ s. s .n) (a .sizes)))
+          moved-count until before p (w .book .entries) q (omega arith) (before-inside x v lbn w u a)
+          (omega (arith, a .alike .entries, ap (λ s. s .n) (a .sizes)))
           ∙ omega (arith, lowered-is q k, out q k, names-set (x .maps) v (u .copy) lbn p q inside (omega (arith, a .width)));
       cells = λ j k. cell-in j (eqb j lbn) refl k;
     }

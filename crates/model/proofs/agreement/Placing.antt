@@ -126,7 +126,8 @@ module _ (c : Change) (w : Work) (u : PlainWork) (l : length (c .block) ≡ bloc
   unfolding placeHeld PlainBackup.placeHeld
   held-placed none e =
       let s : PlainBackup.findFree (u .blocks) (u .cursor) ≡ findFree es (w .book .cursor) =
-      ap₂ (λ (bs : List Block) (k : ℕ). PlainBackup.findFree bs k) (a .blocks) (a .cursor) ∙ sym (free-same es (w .pool) (w .book .cursor)) in
+      ap₂ (λ (bs : List Block) (k : ℕ). PlainBackup.findFree bs k) (a .blocks) (a .cursor)
+      ∙ sym (free-same es (w .pool) (w .book .cursor)) in
       rw s (free-placed e _ refl)
   held-placed (some p) e =
       let f = held-lowest es (c .print) p e in

@@ -82,7 +82,8 @@ ones : (bs : List Backup) → sum (map (λ (b : Backup). 1) bs) ≡ length bs
 ones [] = refl
 ones (b ∷ bs) = omega (arith, ones bs)
 
-changes-images : (m : List ℕ) (bs : List Backup) → sum (map (λ (i : Image). i .changed) (imagesOf m bs)) ≡ sum (map (λ (b : Backup). length (b .records)) bs)
+changes-images : (m : List ℕ) (bs : List Backup)
+    → sum (map (λ (i : Image). i .changed) (imagesOf m bs)) ≡ sum (map (λ (b : Backup). length (b .records)) bs)
 changes-images m [] = refl
 changes-images m (b ∷ bs) = ap (λ (s : ℕ). length (b .records) + s) (changes-images (applied m (b .records)) bs)
 
@@ -102,12 +103,15 @@ module _ {x : Book} {pool : List ℕ} {q : Plain} (g : Agree x pool q) where
   unfolding backupsSoFar journal
   backups-so-far =
       over-volumes (λ u. length (u .images)) (λ b. 1)
-      (λ v h. ap length (g .images v h) ∙ length-imagesOf (noMap (x .sizes)) (backupsIn v (journal x)) ∙ sym (ones (backupsIn v (journal x))))
+      (λ v h. ap length (g .images v h) ∙ length-imagesOf (noMap (x .sizes)) (backupsIn v (journal x))
+      ∙ sym (ones (backupsIn v (journal x))))
       ∙ length-journal (x .slots) (x .records)
 
   pub changes-so-far : changesSoFar q ≡ length (x .records)
   unfolding changesSoFar journal
   changes-so-far =
       over-volumes changesIn (λ b. length (b .records))
-      (λ v h. ap (λ is. sum (map (λ (i : Image). i .changed) is)) (g .images v h) ∙ changes-images (noMap (x .sizes)) (backupsIn v (journal x)))
-      ∙ records-journal (x .slots) (x .records) (omega (arith, pairs-sum 0 (x .slots) (length (x .records)) (book-parts x (g .fit .form) .pairs)))
+      (λ v h. ap (λ is. sum (map (λ (i : Image). i .changed) is)) (g .images v h)
+      ∙ changes-images (noMap (x .sizes)) (backupsIn v (journal x)))
+      ∙ records-journal (x .slots) (x .records)
+      (omega (arith, pairs-sum 0 (x .slots) (length (x .records)) (book-parts x (g .fit .form) .pairs)))

@@ -117,7 +117,8 @@ unfolding sweptEntry madeFree
 after-all f t [] h = refl
 after-all f t (e ∷ es) h = go (isOver t e) (e .held) refl h (after-all f t es (all-held f e es h))
   where
-    go : (o k : Bool) → e .held ≡ k → all f (map (λ e. e .print) (if k then e ∷ those (λ e. e .held) es else those (λ e. e .held) es)) ≡ true
+    go : (o k : Bool) → e .held ≡ k
+        → all f (map (λ e. e .print) (if k then e ∷ those (λ e. e .held) es else those (λ e. e .held) es)) ≡ true
         → all f (heldPrints (map (sweptEntry t) es)) ≡ true
         → all f (heldPrints ((if o then madeFree e else e) ∷ map (sweptEntry t) es)) ≡ true
     go true k b h ih = ih
@@ -129,7 +130,8 @@ unfolding sweptEntry madeFree
 after-differ t [] h = refl
 after-differ t (e ∷ es) h = go (isOver t e) (e .held) refl h (after-differ t es)
   where
-    go : (o k : Bool) → e .held ≡ k → differ (map (λ e. e .print) (if k then e ∷ those (λ e. e .held) es else those (λ e. e .held) es)) ≡ true
+    go : (o k : Bool) → e .held ≡ k
+        → differ (map (λ e. e .print) (if k then e ∷ those (λ e. e .held) es else those (λ e. e .held) es)) ≡ true
         → (differ (heldPrints es) ≡ true → differ (heldPrints (map (sweptEntry t) es)) ≡ true)
         → differ (heldPrints ((if o then madeFree e else e) ∷ map (sweptEntry t) es)) ≡ true
     go true true b h ih = ih (and-true (all (λ y. not (same (e .print) y)) (heldPrints es)) (differ (heldPrints es)) h .1)

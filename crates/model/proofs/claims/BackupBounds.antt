@@ -16,7 +16,8 @@ use Rattle.runs.specs.Changes.{Change, changes, changeCount}
 use Rattle.runs.proofs.Laws.{length-changes}
 use Rattle.book.specs.Book.{Book, cellAt, retentionOf}
 use Rattle.model.specs.Pool.{blockAt}
-use Rattle.model.specs.Backup.{Work, Placed, Backed, findHeld, findFree, takeBlock, placeFree, placeHeld, place, moveNumber, moved, moveTo, changeStep, runChanges, begun, closed, backupNumber, backup}
+use Rattle.model.specs.Backup.{Work, Placed, Backed, findHeld, findFree, takeBlock, placeFree, placeHeld, place, moveNumber, moved}
+use Rattle.model.specs.Backup.{moveTo, changeStep, runChanges, begun, closed, backupNumber, backup}
 
 -- ---- a step that answers so much more
 

@@ -104,7 +104,8 @@ freed-some t [] = refl
 freed-some t (e ∷ es) = go (isOver t e) (e .held) refl refl (freed-some t es)
   where
     go : (o h : Bool) → isOver t e ≡ o → e .held ≡ h → countOf (isOver t) es + heldIn (map (sweptEntry t) es) ≡ heldIn es
-        → (if o then suc (countOf (isOver t) es) else countOf (isOver t) es) + heldIn ((if o then madeFree e else e) ∷ map (sweptEntry t) es)
+        → (if o then suc (countOf (isOver t) es) else countOf (isOver t) es)
+        + heldIn ((if o then madeFree e else e) ∷ map (sweptEntry t) es)
         ≡ (if h then suc (heldIn es) else heldIn es)
     go true true f k ih = omega arith
     go true false f k ih = absurd (not-both (e .held) (over-was-held t e f) k)

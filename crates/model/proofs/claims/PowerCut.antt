@@ -26,7 +26,8 @@ use Rattle.model.specs.Claims.{Fresh, plainEnd}
 use Rattle.model.specs.OnBytes.{CollectedBytes, backedBytes, enrolBytes, collectBytes}
 use Rattle.model.proofs.form.OnBytesFit.{backup-on-bytes}
 use Rattle.model.specs.Plain.{Block, free, held, Plain, start, currentMaps, atDay, withBlocks, withVolume}
-use Rattle.model.specs.PlainBackup.{PlainWork, place, moveNumber, moved, moveTo, changeStep, runChanges, begun, closed, backupNumber, PlainBacked}
+use Rattle.model.specs.PlainBackup.{PlainWork, place, moveNumber, moved, moveTo, changeStep, runChanges, begun, closed, backupNumber}
+use Rattle.model.specs.PlainBackup.{PlainBacked}
 use Rattle.model.specs.PlainBackup
 use Rattle.model.proofs.plain.PlainPlacing.{Grown, grown-self, grown-then, place-placed}
 use Rattle.model.proofs.plain.PlainShows.{heldBytes, shownAt}
@@ -78,14 +79,16 @@ agree-pool {x} {pool} {pool′} {q} g l h = record {
   prints = g .prints;
 }
 
-stand-serves : {z : Sizes} {o : Ours} {q : Plain} (pool : List ℕ) → Stand z o q → Serves o pool → Stand z (record { book = o .book; pool = pool }) q
+stand-serves : {z : Sizes} {o : Ours} {q : Plain} (pool : List ℕ) → Stand z o q → Serves o pool
+    → Stand z (record { book = o .book; pool = pool }) q
 stand-serves pool′ (stand x pool q g e) s =
     stand x pool′ q
     (agree-pool g (s .long) (λ p k. s .holds p (ap (λ (y : Book). entryAt (y .entries) p .held) (fit-book (g .fit)) ∙ k))) e
 
 -- ---- a backup of the plain store leaves its held blocks
 
-change-grown : (maps : List (List ℕ)) (v : ℕ) (c : Change) (w w′ : PlainWork) → changeStep maps v c w ≡ accepted w′ → Grown (w .blocks) (w′ .blocks)
+change-grown : (maps : List (List ℕ)) (v : ℕ) (c : Change) (w w′ : PlainWork) → changeStep maps v c w ≡ accepted w′
+    → Grown (w .blocks) (w′ .blocks)
 unfolding changeStep moveTo moved
 change-grown maps v c w w′ e =
     let p = then-accepted (place c w) (moveTo maps v (c .lbn)) w′ e in
@@ -93,7 +96,8 @@ change-grown maps v c w w′ e =
     let same : moved (c .lbn) (p .0) ≡ w′ = cc (m .1) in
     rw (← (ap (λ (w : PlainWork). w .blocks) same)) (place-placed c w (p .0) (p .1) .grown)
 
-run-grown : (maps : List (List ℕ)) (v : ℕ) (cs : List Change) (w w′ : PlainWork) → runChanges maps v cs w ≡ accepted w′ → Grown (w .blocks) (w′ .blocks)
+run-grown : (maps : List (List ℕ)) (v : ℕ) (cs : List Change) (w w′ : PlainWork) → runChanges maps v cs w ≡ accepted w′
+    → Grown (w .blocks) (w′ .blocks)
 run-grown maps v [] w w′ e = let same : w ≡ w′ = cc in rw (← same) (grown-self (w .blocks))
 run-grown maps v (c ∷ cs) w w′ e =
     let p = then-accepted (changeStep maps v c w) (λ u. runChanges maps v cs u) w′ e in
@@ -145,7 +149,8 @@ module _ (spare : ℕ) {x : Book} {pool : List ℕ} {q : Plain} (g : Agree x poo
   here = record { book = bytes x; pool = pool }
 
   -- a pool that serves the book, block by block
-  serves : (pool′ : List ℕ) → length pool′ ≡ length pool → ((p : ℕ) → entryAt (x .entries) p .held ≡ true → blockAt pool′ p ≡ blockAt pool p)
+  serves : (pool′ : List ℕ) → length pool′ ≡ length pool
+      → ((p : ℕ) → entryAt (x .entries) p .held ≡ true → blockAt pool′ p ≡ blockAt pool p)
       → Serves here pool′
   serves pool′ l h = record {
     long = l;
@@ -188,7 +193,8 @@ module _ (spare : ℕ) {x : Book} {pool : List ℕ} {q : Plain} (g : Agree x poo
   call-serves (read v k lbn) = serves-same
   call-serves audit = serves-same
 
-stand-leaves : {z : Sizes} (spare : ℕ) → bookSize z ≤ spare → {o : Ours} {q : Plain} → Stand z o q → (c : Call) → Serves o (ours spare o c .next .pool)
+stand-leaves : {z : Sizes} (spare : ℕ) → bookSize z ≤ spare → {o : Ours} {q : Plain} → Stand z o q → (c : Call)
+    → Serves o (ours spare o c .next .pool)
 stand-leaves spare enough (stand x pool q g e) c = call-serves spare g (rw e enough) c
 
 -- ---- the claim, for every fresh book, every list of calls and all cuts
@@ -196,7 +202,8 @@ stand-leaves spare enough (stand x pool q g e) c = call-serves spare g (rw e eno
 reached-stands : (f : Fresh) (cs : List Call) (o : Ours) → Reached f cs o → Stand (f .sizes) o (plainEnd f cs)
 reached-stands f cs o begins = fresh-stands f
 reached-stands f cs o (calls cs′ o′ c r) =
-    rw (end-append plain (start (f .sizes)) cs′ (c ∷ [])) (call-alike (f .sizes) (f .spare) (f .spareEnough) (reached-stands f cs′ o′ r) c .next)
+    rw (end-append plain (start (f .sizes)) cs′ (c ∷ []))
+    (call-alike (f .sizes) (f .spare) (f .spareEnough) (reached-stands f cs′ o′ r) c .next)
 reached-stands f cs o (cut cs′ o′ pool s r) = stand-serves pool (reached-stands f cs o′ r) s
 
 pub power-cut : (f : Fresh) (cs : List Call) (o : Ours) → Reached f cs o → PowerCut f cs o

@@ -78,7 +78,8 @@ module _ (x : Book) (k : ℕ) (c : Change) (good : ChangeFit (x .sizes .l) c) (w
 
   -- ---- step 2, and step 1 before it
 
-  free-placed : (o : Option ℕ) (d : Placed) → findFree (w .book .entries) (w .book .cursor) ≡ o → placeFree c w o ≡ accepted d → PlacedFit x k d
+  free-placed : (o : Option ℕ) (d : Placed) → findFree (w .book .entries) (w .book .cursor) ≡ o
+      → placeFree c w o ≡ accepted d → PlacedFit x k d
   unfolding placeFree
   free-placed none d e q = absurd (refused-not 12 d q)
   free-placed (some p) d e q =

@@ -1,5 +1,5 @@
--- Collect's test and the plain store's mark: a held block has count 0 and an expiry before the day exactly when no current map and no backup
--- kept on that day names it.
+-- Collect's test and the plain store's mark: a held block has count 0 and an expiry before the day exactly when no current map and no
+-- backup kept on that day names it.
 use Prim.Native.Nat.{ℕ, _<_}
 use mathlib.Core.Path.{_≡_, refl, sym, ap, _∙_}
 use mathlib.Core.Logic.{_≢_}
@@ -95,7 +95,8 @@ module _ {x : Book} {pool : List ℕ} {q : Plain} (g : Agree x pool q) where
           place-some (keptIn p d) (q .volumes) Plain.unenrolled (w .0) (rw (g .volumeCount) h)
           (rw (g .retentions (w .0) h) (cell-kept-names p (retentionOf x (w .0)) d (w .2 .0) (volumeAt q (w .0) .images) n k))
 
-  -- document 01, "Collect": "each held block with count 0 and expiry < T", and the plain store's "marks each block in a current or kept map"
+  -- document 01, "Collect": "each held block with count 0 and expiry < T", and the plain store's "marks each block in a current or kept
+  -- map"
   pub over-marked : (t p : ℕ) → p < x .sizes .n → entryAt (x .entries) p .held ≡ true
       → (eqb (entryAt (x .entries) p .count) 0 && ltb (entryAt (x .entries) p .expiry) t) ≡ not (marked q t p)
   unfolding marked reaches

@@ -63,7 +63,8 @@ module _ (l : ℕ) (bs : List Block) (room : length bs ≤ unmapped) where
       let p = then-accepted (place c w) (moveTo maps v (c .lbn)) w′ e in
       let m = unless-accepted (moveNumber maps v (c .lbn) (p .0)) (accepted (moved (c .lbn) (p .0))) w′ (p .2) in
       let same : moved (c .lbn) (p .0) ≡ w′ = let z = m .1 in cc in
-      subst (λ (x : PlainWork). Copies l bs (changed (c .lbn) (c .block) s) x) same (move-copies s c w (p .0) a (place-placed c w (p .0) (p .1)))
+      subst (λ (x : PlainWork). Copies l bs (changed (c .lbn) (c .block) s) x) same
+      (move-copies s c w (p .0) a (place-placed c w (p .0) (p .1)))
 
   -- the copy shows what the changes sent last, or else what it showed
   pub run-copies : (maps : List (List ℕ)) (v : ℕ) (cs : List Change) (s : ℕ → Option (List ℕ)) (w w′ : PlainWork) → Copies l bs s w

@@ -82,7 +82,8 @@ module _ {l d : ℕ} {q : Plain} {h : ℕ → History} (a : AllRecall l d q h) w
       after = accepted (withVolume v (record { retention = r; images = [] }) q)
 
       go : (n : ℕ) → enrolNumber q v r ≡ n
-          → AllRecall l d (plainEnrolled q (unless n after) .next) (λ w. noted w (h w) (enrol v r) (plainEnrolled q (unless n after) .answer))
+          → AllRecall l d (plainEnrolled q (unless n after) .next)
+          (λ w. noted w (h w) (enrol v r) (plainEnrolled q (unless n after) .answer))
       go zero e = let b = enrol-allowed q v r e in enrol-recalls a v r (b .0) (b .1)
       go (suc k) e = not-noted v (λ w. withEnrol r (h w)) (eqb (suc k) 0) (eqb·suc-zero k)
 

@@ -41,7 +41,8 @@ free-empty : (b : Block) → isFree b ≡ true → heldBytes b ≡ none
 free-empty free e = refl
 free-empty (held f b) e = cc
 
-found-held : (bs : List Block) (f : List ℕ) (p : ℕ) → findHeld bs f ≡ some p → (p < length bs) × (shownAt bs p ≡ some (bytesOf (getD bs p free)))
+found-held : (bs : List Block) (f : List ℕ) (p : ℕ) → findHeld bs f ≡ some p
+    → (p < length bs) × (shownAt bs p ≡ some (bytesOf (getD bs p free)))
 unfolding findHeld
 found-held bs f p e =
     let r = place-found (hasPrint f) free 0 bs p e in
@@ -56,13 +57,19 @@ found-free bs c p e = go (placeFrom c isFree (drop c bs)) refl e
         → (p < length bs) × (shownAt bs p ≡ none)
     go (some q) h e′ =
         let r = place-found isFree free c (drop c bs) q h in
-        let k : p ≡ c + r .index = let z : q ≡ p = cc in omega arith in
-        (omega (arith, length-drop c bs), rw (k, ← getD-drop c bs (r .index) free) (free-empty (getD (drop c bs) (r .index) free) (r .passes)))
+        let k : p ≡ c + r .index = let z : q ≡ p = cc in omega arith in (
+          omega (arith, length-drop c bs),
+          rw (k, ← getD-drop c bs (r .index) free)
+              (free-empty (getD (drop c bs) (r .index) free) (r .passes)),
+        )
     go none h e′ =
         let r = place-found isFree free 0 (take c bs) p e′ in
         let k : p ≡ r .index = omega arith in
-        let i : r .index < c = omega (arith, length-take c bs) in
-        (omega (arith, length-take c bs), rw (k, ← getD-take c bs (r .index) free i) (free-empty (getD (take c bs) (r .index) free) (r .passes)))
+        let i : r .index < c = omega (arith, length-take c bs) in (
+          omega (arith, length-take c bs),
+          rw (k, ← getD-take c bs (r .index) free i)
+              (free-empty (getD (take c bs) (r .index) free) (r .passes)),
+        )
 
 -- a change that found its block: only a free block is written, and block pbn holds the change's bytes
 pub record PlacedFor (c : Change) (w : PlainWork) (d : PlainPlaced) : Type 0 where

@@ -48,7 +48,8 @@ module _ {l d : ℕ} {q : Plain} {h : ℕ → History} (a : AllRecall l d q h) (
   same-count : (k : ℕ) → (eqb k 0 || ltb (length (u .images)) k) ≡ (eqb k 0 || ltb (length (h v .sent)) k)
   same-count k = rw (as-many (a .each v))
 
-  same-kept : (k : ℕ) → kept (daysOf (u .images)) (u .retention) (q .day) k ≡ kept (map (λ (s : Sent). s .day) (h v .sent)) (h v .retention) d k
+  same-kept : (k : ℕ) → kept (daysOf (u .images)) (u .retention) (q .day) k
+      ≡ kept (map (λ (s : Sent). s .day) (h v .sent)) (h v .retention) d k
   same-kept k = rw (a .each v .days, a .each v .retention, a .day)
 
   same-logical : (lbn : ℕ) → leb (q .sizes .l) lbn ≡ leb l lbn

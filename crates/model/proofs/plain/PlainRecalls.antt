@@ -59,15 +59,19 @@ current-image z u = last-at (noMap z) (noMap z) (mapsOf (u .images)) ∙ rw leng
 module _ (l : ℕ) (is : List Image) (i : Image) where
   pub image-earlier : (k : ℕ) → k ≤ length is → imageAt l (is ++ (i ∷ [])) k ≡ imageAt l is k
   image-earlier k h =
-      rw map-append (List·getD-append (replicate l unmapped ∷ mapsOf is) (i .cells ∷ []) (replicate l unmapped) k (rw length-map (omega arith)))
+      rw map-append (List·getD-append (replicate l unmapped ∷ mapsOf is) (i .cells ∷ []) (replicate l unmapped) k
+      (rw length-map (omega arith)))
 
   pub image-newest : imageAt l (is ++ (i ∷ [])) (suc (length is)) ≡ i .cells
-  image-newest = rw map-append (getD-at (mapsOf is) (i .cells) [] (replicate l unmapped) (length is) (length-map is (λ (x : Image). x .cells)))
+  image-newest =
+      rw map-append (getD-at (mapsOf is) (i .cells) [] (replicate l unmapped) (length is)
+      (length-map is (λ (x : Image). x .cells)))
 
 -- ---- a later day, and blocks that hold what the maps kept then show
 pub recalls-later : (l d t : ℕ) (bs bs′ : List Block) (u : Volume) (h : History) → d ≤ t → length bs′ ≤ unmapped
     → ((k lbn : ℕ) (b : List ℕ) → k ≤ length (u .images) → kept (daysOf (u .images)) (u .retention) t k ≡ true → sentBlock h k lbn ≡ some b
-    → shownAt bs (getD (imageAt l (u .images) k) lbn unmapped) ≡ some b → shownAt bs′ (getD (imageAt l (u .images) k) lbn unmapped) ≡ some b)
+    → shownAt bs (getD (imageAt l (u .images) k) lbn unmapped) ≡ some b
+    → shownAt bs′ (getD (imageAt l (u .images) k) lbn unmapped) ≡ some b)
     → Recalls l d bs u h → Recalls l t bs′ u h
 recalls-later l d t bs bs′ u h later room keeps r = record {
   retention = r .retention;
@@ -82,7 +86,8 @@ recalls-later l d t bs bs′ u h later room keeps r = record {
 }
 
 -- ---- one volume replaced, and its history
-pub recalls-set : (l d : ℕ) (bs : List Block) (vs : List Volume) (v : ℕ) (u : Volume) (h : ℕ → History) (f : History → History) → v < length vs
+pub recalls-set : (l d : ℕ) (bs : List Block) (vs : List Volume) (v : ℕ) (u : Volume) (h : ℕ → History)
+    (f : History → History) → v < length vs
     → ((w : ℕ) → Recalls l d bs (getD vs w unenrolled) (h w)) → Recalls l d bs u (f (h v))
     → (w : ℕ) → Recalls l d bs (getD (set vs v u) w unenrolled) (if eqb v w && true then f (h w) else h w)
 recalls-set l d bs vs v u h f inside each new w = go (eqb v w) refl

@@ -26,7 +26,8 @@ use Rattle.model.proofs.plain.HistoryLaws.{sent-earlier, sent-newest, k
 use Rattle.model.proofs.plain.PlainShows.{Maps, Carries, maps-same, carries-same}
 use Rattle.model.proofs.plain.PlainPlacing.{grown-self}
 use Rattle.model.proofs.plain.PlainChanges.{sentOver, Copies, run-copies}
-use Rattle.model.proofs.plain.PlainRecalls.{imageAt, Recalls, AllRecall, as-many, current-image, image-earlier, image-newest, recalls-later, recalls-set}
+use Rattle.model.proofs.plain.PlainRecalls.{imageAt, Recalls, AllRecall, as-many, current-image, image-earlier, image-newest}
+use Rattle.model.proofs.plain.PlainRecalls.{recalls-later, recalls-set}
 
 -- ---- one more image, which shows what its changes sent, or else what the one before it shows
 
@@ -117,7 +118,9 @@ module _ {l d : ℕ} {q : Plain} {h : ℕ → History} (a : AllRecall l d q h) (
       record {
         grown = grown-self (q .blocks);
         wide = ap length copy-begun ∙ r .wide;
-        maps = maps-same l (imageAt l images (length images)) (current (q .sizes) (volumeAt q v)) was was (sym copy-begun) (λ lbn. refl) maps;
+        maps =
+            maps-same l (imageAt l images (length images)) (current (q .sizes) (volumeAt q v)) was was (sym copy-begun)
+            (λ lbn. refl) maps;
         carries =
             carries-same l (imageAt l images (length images)) (current (q .sizes) (volumeAt q v)) was was (sym copy-begun) (λ lbn. refl)
             (q .blocks) carries;

@@ -13,7 +13,8 @@ use Rattle.words.specs.Choice.{if_then_else_}
 use Rattle.words.proofs.Places.{getD-replicated}
 use Rattle.book.specs.Book.{volumes, Sizes}
 use Rattle.model.specs.Days.{kept}
-use Rattle.model.specs.Plain.{Block, free, Volume, unenrolled, Plain, start, atDay, withBlocks, withVolume, volumeAt, daysOf, mapsOf, marked, swept, collected}
+use Rattle.model.specs.Plain.{Block, free, Volume, unenrolled, Plain, start, atDay, withBlocks, withVolume, volumeAt, daysOf, mapsOf}
+use Rattle.model.specs.Plain.{marked, swept, collected}
 use Rattle.model.specs.History.{Sent, History, noHistory, withEnrol, sentBlock}
 use Rattle.model.proofs.plain.PlainShows.{heldBytes, shownAt, shown-past, Maps, Carries}
 use Rattle.model.proofs.kept.KeptNames.{cell-names}
@@ -106,7 +107,8 @@ module _ {l d : ℕ} {q : Plain} {h : ℕ → History} (a : AllRecall l d q h) w
         room = room;
         volumeCount = a .volumeCount;
         each = λ v.
-            recalls-later l d t (q .blocks) (swept (marked q t) 0 (q .blocks)) (volumeAt q v) (h v) later room (marked-stays t v) (a .each v);
+            recalls-later l d t (q .blocks) (swept (marked q t) 0 (q .blocks)) (volumeAt q v) (h v) later room
+            (marked-stays t v) (a .each v);
       }
 
   -- ---- enrol

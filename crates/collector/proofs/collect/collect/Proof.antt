@@ -36,7 +36,8 @@ returns-4 : tie.Need-returns-4
 returns-4 c =
     let w = c .before .before .before .before .before .before in
     let d = w .before .before in
-    collect-done _ _ _ (formed (d .before .before .before .before)) (omega arith) (omega arith) (w .sweep .ensures .0) (w .sweep .ensures .1) (c .before .before .set-day .ensures)
+    collect-done _ _ _ (formed (d .before .before .before .before)) (omega arith) (omega arith) (w .sweep .ensures .0)
+    (w .sweep .ensures .1) (c .before .before .set-day .ensures)
 
 pub collect-spec : {M : Type 1} → statement M
 collect-spec =
