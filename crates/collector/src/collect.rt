@@ -42,7 +42,8 @@ fn free_over(book: &mut [u8], p: PBN, day: u16) -> bool
 fn sweep(book: &mut [u8], day: u16) -> u16
     requires { ⌜ Holds (now book) ⌝ }
     ensures { λ r. ⌜ r ≡ countOf (isOver day) (told (book .entry) .entries) ⌝ }
-    ensures { λ _. ⌜ Is (now (book .exit)) (withEntries (map (sweptEntry day) (told (book .entry) .entries)) (told (book .entry))) ⌝ }
+    ensures { λ _. ⌜ Is (now (book .exit))
+        (withEntries (map (sweptEntry day) (told (book .entry) .entries)) (told (book .entry))) ⌝ }
 {
     let n = header::blocks(book);
     let mut freed: u16 = 0;

@@ -11,8 +11,8 @@ use words::u16_at;
 // As many as the largest pool has blocks.
 const BUCKETS: u64 = MAX_BLOCKS as u64;
 
-// By both ends: clients put the clinic's salt at one of them. Times 2^32 over the golden ratio, so that fingerprints that differ little at one end
-// still spread. Cheap, since a backup asks it for every held block.
+// By both ends: clients put the clinic's salt at one of them. Times 2^32 over the golden ratio, so that fingerprints
+// that differ little at one end still spread. Cheap, since a backup asks it for every held block.
 pub fn bucket_of(print: &[u8]) -> usize
     requires { ⌜ length (now print) ≡ printSize ⌝ }
     ensures { λ r. ⌜ (r ≡ bucketOf (now (print .entry))) × (r < tableSize) ⌝ }

@@ -13,8 +13,8 @@ use entries::entry;
 use words::PBN;
 use words::limits::Table;
 
-// A free block becomes held with this fingerprint; its count and expiry stay. It goes after the last block of its bucket below it, so that a lookup
-// still finds the lowest.
+// A free block becomes held with this fingerprint; its count and expiry stay. It goes after the last block of its
+// bucket below it, so that a lookup still finds the lowest.
 pub fn hold(book: &mut [u8], heads: &mut Table, nexts: &mut Table, p: PBN, print: &[u8])
     requires { ⌜ Holds (now book) ⌝ }
     requires { ⌜ (p .0 < told book .sizes .n) × (entryAt (told book .entries) (p .0) .held ≡ false) ⌝ }

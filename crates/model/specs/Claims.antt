@@ -127,9 +127,10 @@ pub record Corollaries (f : Fresh) (cs : List Call) : Type 0 where
   -- a collect right after a collect on the same day frees nothing
   pub collects : (t k : ℕ) → ourAnswer f cs (collect t) ≡ freed k → ourAnswer f (cs ++ (collect t ∷ [])) (collect t) ≡ freed 0
 
--- ---- the claim about power cuts. A host writes the pool blocks that a call took, syncs them, and then replaces the book. Cut off, it has the new
--- book and the new pool, or the old book and a pool in which only blocks were written that this book has free: from there it goes on as
--- if the call had not been
+-- ---- the claim about power cuts
+
+-- A host writes the pool blocks that a call took, syncs them, and then replaces the book. Cut off, it has the new book and the new pool, or
+-- the old book and a pool in which only blocks were written that this book has free: from there it goes on as if the call had not been.
 
 -- a pool that has the bytes of every block that the book holds, and of the others any
 pub record Serves (o : Ours) (pool : List ℕ) : Type 0 where

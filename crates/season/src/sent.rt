@@ -1,5 +1,5 @@
-// What each volume held at each of its backups: a row of 17 numbers, the day and the tag of each LBN. Row k of a volume is its backup k, and row 0
-// what it holds now.
+// What each volume held at each of its backups: a row of 17 numbers, the day and the tag of each LBN. Row k of a
+// volume is its backup k, and row 0 what it holds now.
 ghost use Prim.Native.Nat.{_<_};
 use crate::calls::Turn;
 use crate::sizes::CELLS;

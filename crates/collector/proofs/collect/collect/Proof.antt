@@ -34,10 +34,11 @@ sweep-requires c κs = holds (c .before .before .before .before .before)
 
 returns-4 : tie.Need-returns-4
 returns-4 c =
-    let w = c .before .before .before .before .before .before in
+    let dated = c .before .before in
+    let w = dated .before .before .before .before in
     let d = w .before .before in
     collect-done _ _ _ (formed (d .before .before .before .before)) (omega arith) (omega arith) (w .sweep .ensures .0)
-    (w .sweep .ensures .1) (c .before .before .set-day .ensures)
+    (w .sweep .ensures .1) (dated .set-day .ensures)
 
 pub collect-spec : {M : Type 1} → statement M
 collect-spec =

@@ -17,8 +17,7 @@ abbrev μ-loop : tie.MeasureT-loop
 
 -- the arm that was taken adds what the block's answer says
 counted : (c : tie.Joined1 Inv-loop μ-loop)
-    → c .if1 .freed ≡ c .before .before .before .before .before .before .loop .freed
-    + bit (c .before .before .before .free-over .result)
+    → let d = c .before .before .before in c .if1 .freed ≡ d .before .before .before .loop .freed + bit (d .free-over .result)
 counted c = ⊎-elim (λ w. rw (w .0 .taken) (w .1)) (λ w. rw (w .0 .left) (omega (arith, w .1))) (c .if1 .came)
 
 loop-holds : tie.Need-loop-holds Inv-loop μ-loop
