@@ -54,10 +54,6 @@ isCall b at = leb (at + headSize) (length b) && eqb (getD b (at + 1) 0) 0 && unu
 unfoldable pub callAt : List ℕ → ℕ → Call
 callAt b at = callOf (getD b at 0) (num b (at + 2)) (num b (at + 4)) (num b (at + 6)) (part b (at + headSize) (dataSize b at))
 
--- where it is a backup
-abbrev pub backupAt : List ℕ → ℕ → Call
-backupAt b at = backup (num b (at + 2)) (num b (at + 4)) (part b (at + headSize) (dataSize b at))
-
 -- ---- a list of calls; 19: the bytes are none
 
 abbrev pub before : Call → List Call → Outcome (List Call)

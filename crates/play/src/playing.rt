@@ -3,10 +3,10 @@ ghost use mathlib.Core.Path.{_≡_};
 ghost use mathlib.Core.Bool.{true};
 ghost use Prim.Native.Nat.{_+_, _≤_};
 ghost use lib.ListN.{length};
-ghost use Rattle.calls.specs.Coding.{isCall, callAt, backupAt};
+ghost use Rattle.calls.specs.Coding.{isCall, callAt};
 ghost use Rattle.calls.specs.Answers.{longest, mostOf};
 ghost use Rattle.calls.specs.Lending.{DidLent, DidAllLent, PlayedLent};
-ghost use Rattle.calls.specs.Reading.{restOf, Good};
+ghost use Rattle.calls.specs.Reading.{restOf, Good, backupCall};
 use super::answering::answer_audit;
 use super::answering::answer_backup;
 use super::answering::answer_collect;
@@ -34,7 +34,7 @@ fn play_backup(
     to: usize,
 ) -> usize
     requires { ⌜ (isCall (now calls) at ≡ true) × (to + 7 ≤ length (now answers)) ⌝ }
-    ensures { λ r. ⌜ DidLent book pool spare (backupAt (now (calls .entry)) at) answers to r ⌝ }
+    ensures { λ r. ⌜ DidLent book pool spare (backupCall (now (calls .entry)) at) answers to r ⌝ }
 {
     let from = at + HEAD_SIZE;
     let end = from + data_size(calls, at);
