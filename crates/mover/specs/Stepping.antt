@@ -7,12 +7,12 @@ use lib.Dec.{eqb}
 use denote.Ref.{now}
 use Rattle.words.specs.Blocks.{unmapped}
 use Rattle.words.specs.Lent.{Lent}
-use Rattle.words.specs.Outcome.{refused, accepted}
+use Rattle.words.specs.Outcome.{Outcome, refused, accepted}
 use Rattle.runs.specs.Changes.{changeCount, changeAt, changes}
-use Rattle.book.specs.Book.{entryAt, cellAt}
+use Rattle.book.specs.Book.{Book, entryAt, cellAt}
 use Rattle.book.specs.Layout.{told, Holds, Is}
 use Rattle.book.specs.Next.{withEntries}
-use Rattle.model.specs.Backup.{lower, moveTo, changeStep, runChanges}
+use Rattle.model.specs.Backup.{Work, lower, moveTo, changeStep, runChanges}
 use Rattle.index.specs.Indexed.{Indexed}
 use Rattle.placer.specs.Placing.{workFrom, workTo}
 use Rattle.placer.specs.Working.{workAt, Standing}
@@ -26,19 +26,17 @@ pub record LoweredBy (work : Lent (List ℕ)) (before until : ℕ) (r : Bool) : 
   pub book : r ≡ true
       → Is (now (work .exit)) (withEntries (lower until before (told (work .entry) .entries)) (told (work .entry)))
 
+-- the model's steps 3 and 4: volume v's cell at an LBN of book x goes to block p
+abbrev pub moveOf : Book → (v lbn p until : ℕ) → List ℕ → Tally → Outcome Work
+moveOf x v lbn p until pool t =
+    moveTo v until lbn (cellAt (x .maps) v lbn) (record { pbn = p; work = workAt x pool t })
+
 -- steps 3 and 4, whatever the pool
 unfoldable pub MovedBy : Lent (List ℕ) → (v lbn p until : ℕ) → Tally → Step → Type 0
 MovedBy work v lbn p until t (Next t′) =
-    ((pool : List ℕ)
-    → moveTo v until lbn (cellAt (told (work .entry) .maps) v lbn)
-    (record { pbn = p; work = workAt (told (work .entry)) pool t })
-    ≡ accepted (workAt (told (work .exit)) pool t′))
+    ((pool : List ℕ) → moveOf (told (work .entry)) v lbn p until pool t ≡ accepted (workAt (told (work .exit)) pool t′))
     × Holds (now (work .exit))
-MovedBy work v lbn p until t (Stop k) =
-    (pool : List ℕ)
-    → moveTo v until lbn (cellAt (told (work .entry) .maps) v lbn)
-    (record { pbn = p; work = workAt (told (work .entry)) pool t })
-    ≡ refused k
+MovedBy work v lbn p until t (Stop k) = (pool : List ℕ) → moveOf (told (work .entry)) v lbn p until pool t ≡ refused k
 
 -- change i
 unfoldable pub SteppedBy : (book pool work list taker : Lent (List ℕ)) → (v until i : ℕ) → Tally → Step → Type 0
