@@ -13,7 +13,7 @@ use Rattle.calls.specs.Answers.{answerBytes, mostOf}
 use Rattle.calls.specs.Contracts.{at, answered, Did, DidAll}
 use Rattle.calls.proofs.Short.{answers-short}
 
--- cs is being played from b₀, pool₀ and out₀; rest is left, from b, pool and the place `to` of out
+-- cs is being played from b₀, pool₀ and out₀; rest is left, from b, pool and the offset `to` of out
 pub record Playing (spare : ℕ) (b₀ pool₀ : List ℕ) (cs : List Call) (out₀ b pool out : List ℕ) (to : ℕ) (rest : List Call) : Type 0 where
   pub end : endOf (ours spare) (at b pool) rest ≡ endOf (ours spare) (at b₀ pool₀) cs
   pub answers : sets out to (answered spare (at b pool) rest) ≡ sets out₀ 0 (answered spare (at b₀ pool₀) cs)
