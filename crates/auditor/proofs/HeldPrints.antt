@@ -11,7 +11,7 @@ use Rattle.words.proofs.ChoiceLaws.{and-yes, and-false, same-test}
 use Rattle.words.specs.Lists.{all, someOf, those, same, differ}
 use Rattle.words.proofs.Same.{same-self, same-equal}
 use Rattle.book.specs.Book.{Entry, Book, freeEntry, entryAt}
-use Rattle.index.specs.Bucket.{hasPrint, apart}
+use Rattle.finder.specs.Bucket.{hasPrint, apart}
 use Rattle.model.specs.Audit.{printsSound}
 use Rattle.model.proofs.claims.AuditMeans.{heldPrints}
 

@@ -12,9 +12,9 @@ use borrow.Author.Tests.{eqb-true, eqb-false}
 use Rattle.words.proofs.ChoiceLaws.{not-both}
 use Rattle.words.proofs.Tests.{surely-not}
 use Rattle.book.specs.Book.{Entry, entryAt}
-use Rattle.index.specs.Bucket.{tableSize, bucketOf, inBucket, firstIn}
-use Rattle.index.proofs.BucketLaws.{held-in, in-held}
-use Rattle.index.specs.Indexed.{Indexed}
+use Rattle.finder.specs.Bucket.{tableSize, bucketOf, inBucket, firstIn}
+use Rattle.finder.proofs.BucketLaws.{held-in, in-held}
+use Rattle.finder.specs.Indexed.{Indexed}
 use Rattle.index.proofs.Without.{without}
 use Rattle.index.proofs.Joining.{Joins, homeOf, as-long, other, was, not-p, kept, becomes, beyond}
 

@@ -9,10 +9,10 @@ use lib.Seq.{getD-set-other, set-set}
 use Rattle.words.proofs.ChoiceLaws.{not-both}
 use Rattle.words.proofs.SetLaws.{getD-set-kept}
 use Rattle.book.specs.Book.{Entry, freeEntry, entryAt}
-use Rattle.index.proofs.FirstLaws.{first-is, first-at}
-use Rattle.index.specs.Bucket.{bucketOf, inBucket, firstIn}
-use Rattle.index.proofs.BucketLaws.{free-held, free-out, bucket-by}
-use Rattle.index.specs.Indexed.{Indexed}
+use Rattle.finder.proofs.FirstLaws.{first-is, first-at}
+use Rattle.finder.specs.Bucket.{bucketOf, inBucket, firstIn}
+use Rattle.finder.proofs.BucketLaws.{free-held, free-out, bucket-by}
+use Rattle.finder.specs.Indexed.{Indexed}
 use Rattle.index.proofs.Without.{without}
 
 -- the same blocks are held, with the same fingerprints

@@ -11,10 +11,10 @@ use lib.Seq.{getD-set-same, getD-set-other}
 use borrow.Author.Tests.{eqb-true, eqb-false}
 use Rattle.words.proofs.ChoiceLaws.{not-both}
 use Rattle.book.specs.Book.{Entry, freeEntry, entryAt}
-use Rattle.index.proofs.FirstLaws.{first-past, first-here, first-end}
-use Rattle.index.specs.Bucket.{tableSize, bucketOf, inBucket, firstIn}
-use Rattle.index.proofs.BucketLaws.{free-out, other-out, held-in}
-use Rattle.index.specs.Indexed.{IndexedFrom}
+use Rattle.finder.proofs.FirstLaws.{first-past, first-here, first-end}
+use Rattle.finder.specs.Bucket.{tableSize, bucketOf, inBucket, firstIn}
+use Rattle.finder.proofs.BucketLaws.{free-out, other-out, held-in}
+use Rattle.finder.specs.Indexed.{IndexedFrom}
 
 -- no block yet
 pub linked-none : (es : List Entry) (n : ℕ) {m : ℕ} → length es ≡ m → n ≡ m → m ≤ tableSize

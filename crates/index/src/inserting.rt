@@ -7,9 +7,9 @@ ghost use Rattle.words.specs.Blocks.{printSize};
 ghost use Rattle.book.specs.Book.{entryAt};
 ghost use Rattle.book.specs.Layout.{told, Holds, Is};
 ghost use Rattle.book.specs.Next.{heldAs, withEntry};
-ghost use Rattle.index.specs.Indexed.{Indexed};
-use super::bucket::bucket_of;
+ghost use Rattle.finder.specs.Indexed.{Indexed};
 use entries::entry;
+use finder::bucket::bucket_of;
 use words::PBN;
 use words::limits::Table;
 

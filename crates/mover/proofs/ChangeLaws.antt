@@ -26,7 +26,7 @@ use Rattle.book.specs.Layout.{bookOf, told, Holds}
 use Rattle.book.specs.Next.{withEntries, withMaps, withRecord}
 use Rattle.model.proofs.agreement.Moving.{moved-held}
 use Rattle.model.specs.Backup.{Work, Placed, place, lower, nameBlock, moveNumber, moved, moveTo, changeStep, runChanges}
-use Rattle.index.specs.Indexed.{Indexed}
+use Rattle.finder.specs.Indexed.{Indexed}
 use Rattle.placer.proofs.Indexing.{moved-indexed}
 use Rattle.mover.proofs.MoveLaws.{at-most-two}
 use Rattle.placer.proofs.PlaceLaws.{PlacedAt}

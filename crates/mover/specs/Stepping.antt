@@ -13,7 +13,7 @@ use Rattle.book.specs.Book.{Book, entryAt, cellAt}
 use Rattle.book.specs.Layout.{told, Holds, Is}
 use Rattle.book.specs.Next.{withEntries}
 use Rattle.model.specs.Backup.{Work, lower, moveTo, changeStep, runChanges}
-use Rattle.index.specs.Indexed.{Indexed}
+use Rattle.finder.specs.Indexed.{Indexed}
 use Rattle.placer.specs.Placing.{workFrom, workTo}
 use Rattle.placer.specs.Working.{workAt, Standing}
 use Rattle.placer.specs.declared.placing.Tally.{Tally}

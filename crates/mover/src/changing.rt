@@ -4,7 +4,7 @@ ghost use Prim.Native.Nat.{_<_};
 ghost use Rattle.runs.specs.Changes.{changeAt};
 ghost use Rattle.book.specs.Book.{volumes};
 ghost use Rattle.book.specs.Layout.{told, Holds};
-ghost use Rattle.index.specs.Indexed.{Indexed};
+ghost use Rattle.finder.specs.Indexed.{Indexed};
 ghost use Rattle.placer.specs.Working.{Job, Standing};
 ghost use Rattle.mover.specs.Stepping.{noTally, SteppedBy, StillIndexed, RanBy};
 ghost use Rattle.placer.specs.Placing.{placedNumber};

@@ -14,8 +14,8 @@ use Rattle.words.specs.Lists.{orElse, same, placeFrom}
 use Rattle.words.specs.declared.PBN.{PBN}
 use Rattle.book.specs.Book.{Entry, freeEntry, entryAt, isFree}
 use Rattle.model.specs.Backup.{findHeld, findFree}
-use Rattle.index.specs.Answers.{foundOf}
-use Rattle.index.specs.declared.finding.Found.the-variants.{At, Nothing}
+use Rattle.finder.specs.Answers.{foundOf}
+use Rattle.finder.specs.declared.finding.Found.the-variants.{At, Nothing}
 use Rattle.placer.specs.Search.{placeIn}
 use Rattle.placer.proofs.SearchLaws.{place-up, place-below}
 

@@ -12,7 +12,7 @@ use Rattle.book.specs.Layout.{bookOf, Is}
 use Rattle.book.specs.Next.{withCursor, countAs, expiryAs}
 use Rattle.model.specs.Backup.{lowered, lower, raised}
 use Rattle.model.proofs.agreement.Moving.{movedEntries}
-use Rattle.index.specs.Indexed.{Indexed}
+use Rattle.finder.specs.Indexed.{Indexed}
 use Rattle.index.proofs.Keeping.{indexed-alike, alike-set}
 
 -- the cursor is no entry

@@ -4,7 +4,7 @@ use mathlib.Core.Path.{_≡_, sym, _∙_}
 use native.Mathlib.Omega.{arith}
 use borrow.Author.Needs.{needs}
 use Rattle.book.specs.Layout.{bookOf}
-use Rattle.index.specs.Indexed.{IndexedFrom}
+use Rattle.finder.specs.Indexed.{IndexedFrom}
 use Rattle.auditor.proofs.HeldPrints.{differFrom, differ-none, differ-turn, differ-all}
 use Rattle.auditor.proofs.prints.prints_sound.Statement.{statement}
 use Rattle.auditor.proofs.prints.prints_sound.Tie as tie

@@ -9,8 +9,8 @@ use lib.ListN.{length, getD}
 use Rattle.book.specs.Book.{Entry}
 use Rattle.book.specs.Layout.{bookOf, Is}
 use Rattle.book.specs.Next.{heldAs, withEntry}
-use Rattle.index.specs.Bucket.{tableSize}
-use Rattle.index.specs.Indexed.{Indexed}
+use Rattle.finder.specs.Bucket.{tableSize}
+use Rattle.finder.specs.Indexed.{Indexed}
 use Rattle.index.proofs.Without.{without}
 use Rattle.index.proofs.Joining.{Joins, homeOf}
 use Rattle.index.proofs.Holding.{held-joins, held-home, held-without}

@@ -4,7 +4,7 @@ use mathlib.Core.Path.{_≡_}
 use native.Mathlib.Omega.{arith}
 use borrow.Author.Needs.{needs}
 use Rattle.book.specs.Layout.{bookOf}
-use Rattle.index.specs.Indexed.{IndexedFrom}
+use Rattle.finder.specs.Indexed.{IndexedFrom}
 use Rattle.index.proofs.linking.build.Statement.{statement}
 use Rattle.index.proofs.linking.build.Tie as tie
 

@@ -8,9 +8,9 @@ use lib.ListN.{length}
 use Rattle.words.proofs.ChoiceLaws.{failed, passed}
 use Rattle.book.specs.Book.{entryAt}
 use Rattle.book.specs.Layout.{bookOf}
-use Rattle.index.specs.Bucket.{bucketOf}
-use Rattle.index.proofs.BucketLaws.{apart-free, apart-held}
-use Rattle.index.proofs.FindingLaws.{chain-start, search-start}
+use Rattle.finder.specs.Bucket.{bucketOf}
+use Rattle.finder.proofs.BucketLaws.{apart-free, apart-held}
+use Rattle.finder.proofs.FindingLaws.{chain-start, search-start}
 use Rattle.index.proofs.LinkLaws.{linked-free, linked-held}
 use borrow.Author.Needs.{needs}
 use Rattle.index.proofs.linking.link_apart.Statement.{statement}

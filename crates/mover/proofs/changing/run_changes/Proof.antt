@@ -7,7 +7,7 @@ use Rattle.runs.specs.Changes.{changeCount, changeAt, changes}
 use Rattle.list.specs.Answers.{indexOf, Valid}
 use Rattle.book.specs.Layout.{bookOf, Holds}
 use Rattle.model.specs.Backup.{runChanges}
-use Rattle.index.specs.Indexed.{Indexed}
+use Rattle.finder.specs.Indexed.{Indexed}
 use Rattle.mover.proofs.ChangeLaws.{stepped-as, indexed-as, run-more, run-refused, run-done}
 use Rattle.mover.specs.Stepping.{SteppedBy, StillIndexed, noTally}
 use Rattle.placer.specs.Working.{workOf, Standing}

@@ -4,7 +4,7 @@ use Prim.Native.Nat.{ℕ}
 use lib.ListN.{length}
 use Rattle.book.specs.Book.{isFree}
 use Rattle.book.specs.Layout.{bookOf}
-use Rattle.index.specs.Answers.{foundOf}
+use Rattle.finder.specs.Answers.{foundOf}
 use Rattle.placer.specs.Search.{placeIn}
 use Rattle.placer.proofs.Finding.{free-up, free-round}
 use borrow.Author.Needs.{needs}

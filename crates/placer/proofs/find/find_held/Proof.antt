@@ -8,7 +8,7 @@ use Rattle.words.proofs.Lending.{lent}
 use Rattle.words.proofs.Parts.{length-part}
 use Rattle.book.specs.Layout.{bookOf}
 use Rattle.model.specs.Backup.{findHeld}
-use Rattle.index.specs.Answers.{foundOf}
+use Rattle.finder.specs.Answers.{foundOf}
 use borrow.Author.Needs.{needs}
 use Rattle.placer.proofs.find.find_held.Statement.{statement}
 use Rattle.placer.proofs.find.find_held.Tie as tie

@@ -6,7 +6,7 @@ use native.Mathlib.Omega.{arith}
 use Rattle.words.proofs.ChoiceLaws.{failed, passed}
 use Rattle.book.specs.Book.{freeEntry, isFree}
 use Rattle.book.specs.Layout.{bookOf}
-use Rattle.index.specs.Answers.{foundOf}
+use Rattle.finder.specs.Answers.{foundOf}
 use Rattle.placer.specs.Search.{placeIn}
 use Rattle.placer.proofs.SearchLaws.{place-stop, place-more, place-end}
 use Rattle.placer.proofs.find.first_free.Statement.{statement}

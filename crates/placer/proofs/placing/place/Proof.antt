@@ -12,8 +12,8 @@ use Rattle.runs.proofs.Laws.{print-part, changes-within}
 use Rattle.book.specs.Book.{Sizes}
 use Rattle.book.specs.Layout.{bookOf}
 use Rattle.model.specs.Backup.{findHeld}
-use Rattle.index.specs.Answers.{foundOf}
-use Rattle.index.proofs.AnswerLaws.{found-some, found-none}
+use Rattle.finder.specs.Answers.{foundOf}
+use Rattle.finder.proofs.AnswerLaws.{found-some, found-none}
 use Rattle.placer.proofs.Finding.{found-held, found-free}
 use Rattle.placer.proofs.PlaceLaws.{prints-size, twelve-by, eleven-by, found-by, taken-by}
 use Rattle.placer.specs.Placing.{PlacedBy}

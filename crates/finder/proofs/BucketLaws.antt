@@ -13,9 +13,9 @@ use Rattle.words.specs.Lists.{same}
 use Rattle.words.proofs.Same.{same-equal}
 use Rattle.words.proofs.Tests.{surely-not}
 use Rattle.book.specs.Book.{Entry, freeEntry, entryAt}
-use Rattle.index.specs.First.{firstFrom}
-use Rattle.index.proofs.FirstLaws.{first-none}
-use Rattle.index.specs.Bucket.{bucketOf, inBucket, hasPrint, apart}
+use Rattle.finder.specs.First.{firstFrom}
+use Rattle.finder.proofs.FirstLaws.{first-none}
+use Rattle.finder.specs.Bucket.{bucketOf, inBucket, hasPrint, apart}
 
 -- ---- laws
 

@@ -5,7 +5,7 @@ use mathlib.Core.Bool.{true}
 use mathlib.Core.List.{List}
 use lib.ListN.{length, getD}
 use Rattle.book.specs.Book.{Entry, entryAt}
-use Rattle.index.specs.Bucket.{tableSize, bucketOf, firstIn}
+use Rattle.finder.specs.Bucket.{tableSize, bucketOf, firstIn}
 
 -- the tables index the held blocks from p on: `heads` has the first of each bucket, `nexts` the next one of a block's
 -- own bucket

@@ -3,7 +3,7 @@ ghost use mathlib.Core.Path.{_≡_};
 ghost use Prim.Native.Nat.{_<_};
 ghost use lib.ListN.{length};
 ghost use Rattle.words.specs.Blocks.{printSize};
-ghost use Rattle.index.specs.Bucket.{tableSize, bucketOf};
+ghost use Rattle.finder.specs.Bucket.{tableSize, bucketOf};
 use words::PRINT_SIZE;
 use words::limits::MAX_BLOCKS;
 use words::u16_at;

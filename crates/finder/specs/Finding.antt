@@ -5,7 +5,7 @@ use mathlib.Core.Bool.{true}
 use mathlib.Core.List.{List}
 use lib.ListN.{length, getD}
 use Rattle.book.specs.Book.{Entry, entryAt}
-use Rattle.index.specs.Bucket.{inBucket, firstIn}
+use Rattle.finder.specs.Bucket.{inBucket, firstIn}
 
 -- q is past all blocks or in bucket h, and from q on each block of the bucket has the next one
 pub record Chain (es : List Entry) (h : ℕ) (nexts : List ℕ) (q : ℕ) : Type 0 where

@@ -15,7 +15,7 @@ use Rattle.words.specs.Choice.{if_then_else_}
 use Rattle.words.proofs.ChoiceLaws.{not-both}
 use Rattle.words.proofs.Found.{place-found, place-first, place-none}
 use Rattle.words.specs.Lists.{someOf, placeFrom}
-use Rattle.index.specs.First.{placeOr, firstFrom}
+use Rattle.finder.specs.First.{placeOr, firstFrom}
 
 abbrev found : Option ℕ → Bool
 found none = false

@@ -8,8 +8,8 @@ use borrow.Author.Needs.{needs}
 use Rattle.words.specs.Blocks.{printSize}
 use Rattle.words.specs.Lists.{same}
 use Rattle.words.proofs.Same.{same-turn, same-end}
-use Rattle.index.proofs.finding.same_print.Statement.{statement}
-use Rattle.index.proofs.finding.same_print.Tie as tie
+use Rattle.finder.proofs.finding.same_print.Statement.{statement}
+use Rattle.finder.proofs.finding.same_print.Tie as tie
 
 abbrev Inv-loop : tie.InvT-loop
 Inv-loop a b good₀ i₀ good i = (i ≤ printSize) × (same a b ≡ (good && same (drop i a) (drop i b)))

@@ -1,8 +1,8 @@
 -- The code says the definition, operation by operation; the remainder is below the number of buckets.
-use Rattle.index.specs.Bucket.{bucketOf}
+use Rattle.finder.specs.Bucket.{bucketOf}
 use borrow.Author.Needs.{needs}
-use Rattle.index.proofs.bucket.bucket_of.Statement.{statement}
-use Rattle.index.proofs.bucket.bucket_of.Tie as tie
+use Rattle.finder.proofs.bucket.bucket_of.Statement.{statement}
+use Rattle.finder.proofs.bucket.bucket_of.Tie as tie
 
 returns : tie.Need-returns
 unfolding bucketOf

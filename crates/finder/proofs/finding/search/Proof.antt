@@ -5,12 +5,12 @@ use native.Mathlib.Omega.{arith}
 use borrow.Author.Needs.{needs}
 use lib.ListN.{length}
 use Rattle.book.specs.Layout.{bookOf}
-use Rattle.index.specs.First.{firstFrom}
-use Rattle.index.specs.Bucket.{bucketOf, hasPrint}
-use Rattle.index.specs.Finding.{Chain}
-use Rattle.index.proofs.FindingLaws.{chain-up, chain-more, search-more, search-stop, search-end}
-use Rattle.index.proofs.finding.search.Statement.{statement}
-use Rattle.index.proofs.finding.search.Tie as tie
+use Rattle.finder.specs.First.{firstFrom}
+use Rattle.finder.specs.Bucket.{bucketOf, hasPrint}
+use Rattle.finder.specs.Finding.{Chain}
+use Rattle.finder.proofs.FindingLaws.{chain-up, chain-more, search-more, search-stop, search-end}
+use Rattle.finder.proofs.finding.search.Statement.{statement}
+use Rattle.finder.proofs.finding.search.Tie as tie
 
 abbrev Inv-loop : tie.InvT-loop
 Inv-loop book nexts from print n q₀ q =

@@ -3,9 +3,9 @@
 use Prim.Native.Nat.{ℕ}
 use mathlib.Core.Path.{_≡_, refl, ap}
 use mathlib.Core.Option.{Option, none, some}
-use Rattle.index.specs.declared.finding.Found.the-variants.{At, Nothing}
+use Rattle.finder.specs.declared.finding.Found.the-variants.{At, Nothing}
 use Rattle.words.specs.declared.PBN.{PBN}
-use Rattle.index.specs.Answers.{foundOf}
+use Rattle.finder.specs.Answers.{foundOf}
 
 pub found-some : (o : Option ℕ) (q : PBN) → foundOf o ≡ At q → o ≡ some (q .0)
 found-some none q e = cc

@@ -8,7 +8,7 @@ use Rattle.words.specs.Blocks.{printSize}
 use Rattle.words.specs.Lists.{someOf, same}
 use Rattle.words.specs.Numbers.{num}
 use Rattle.book.specs.Book.{Entry, entryAt}
-use Rattle.index.specs.First.{firstFrom}
+use Rattle.finder.specs.First.{firstFrom}
 
 -- the numbers of each table: one for each bucket, and one for each block of the largest pool
 abbrev pub tableSize : ℕ

@@ -3,12 +3,12 @@ use mathlib.Core.Path.{_≡_, sym, ap, _∙_}
 use native.Mathlib.Omega.{arith}
 use borrow.Author.Needs.{needs}
 use Rattle.book.specs.Layout.{bookOf}
-use Rattle.index.specs.Answers.{foundOf}
-use Rattle.index.specs.First.{firstFrom}
-use Rattle.index.specs.Bucket.{hasPrint}
-use Rattle.index.proofs.FindingLaws.{chain-start, search-start, found-at, found-nowhere}
-use Rattle.index.proofs.finding.find.Statement.{statement}
-use Rattle.index.proofs.finding.find.Tie as tie
+use Rattle.finder.specs.Answers.{foundOf}
+use Rattle.finder.specs.First.{firstFrom}
+use Rattle.finder.specs.Bucket.{hasPrint}
+use Rattle.finder.proofs.FindingLaws.{chain-start, search-start, found-at, found-nowhere}
+use Rattle.finder.proofs.finding.find.Statement.{statement}
+use Rattle.finder.proofs.finding.find.Tie as tie
 
 abbrev start : tie.After-bucket-of → tie.Start
 start c = c .before .before .before

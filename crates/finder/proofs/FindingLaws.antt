@@ -11,12 +11,12 @@ use Rattle.words.proofs.Found.{place-found}
 use Rattle.words.specs.Lists.{placeFrom, same}
 use Rattle.book.specs.Book.{Entry, freeEntry, entryAt}
 use Rattle.model.specs.Backup.{findHeld}
-use Rattle.index.proofs.FirstLaws.{First, first-is, first-skip, first-past, first-here, first-end}
-use Rattle.index.specs.First.{placeOr, firstFrom}
-use Rattle.index.specs.Bucket.{tableSize, bucketOf, inBucket, hasPrint, firstIn}
-use Rattle.index.proofs.BucketLaws.{in-held, held-print, other-print, out-print}
-use Rattle.index.specs.Indexed.{IndexedFrom}
-use Rattle.index.specs.Finding.{Chain}
+use Rattle.finder.proofs.FirstLaws.{First, first-is, first-skip, first-past, first-here, first-end}
+use Rattle.finder.specs.First.{placeOr, firstFrom}
+use Rattle.finder.specs.Bucket.{tableSize, bucketOf, inBucket, hasPrint, firstIn}
+use Rattle.finder.proofs.BucketLaws.{in-held, held-print, other-print, out-print}
+use Rattle.finder.specs.Indexed.{IndexedFrom}
+use Rattle.finder.specs.Finding.{Chain}
 
 module _ (es : List Entry) where
   -- ---- up a bucket
