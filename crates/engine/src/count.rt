@@ -1,6 +1,6 @@
 // Counting: how many blocks are held and waiting, and how many references point to them.
-ghost use Rattle.pages.specs.Counted.{CountedUp};
-use pages::count::count;
+ghost use Rattle.counter.specs.Counted.{CountedUp};
+use counter::count::count;
 
 #[no_mangle]
 pub extern "C" fn aspen_count(

@@ -11,7 +11,8 @@ use Rattle.book.specs.Form.{between, sizesOk, layoutOk, retentionOk, entryOk, p
 use Rattle.book.specs.Form.{rawOk, formNumber}
 use Rattle.book.specs.Next.{withDay}
 use Rattle.book.proofs.AfterD.{afterD}
-use Rattle.pages.specs.Tally.{tallyNumber, blocks, held, free, waiting, references, decimal, line, refusedWord, bookPage, tallyPage}
+use Rattle.pages.specs.Tally.{tallyNumber, decimal, line, refusedWord, bookPage, tallyPage}
+use Rattle.counter.specs.Sums.{blocks, held, free, waiting, references}
 use Rattle.pages.proofs.PageLaws.{long-number, refused-page}
 
 -- "blocks 4", "held 3", "free 1", "waiting 1", "references 3", each with a newline

@@ -16,12 +16,13 @@ use Rattle.book.specs.Layout.{bookOf, Holds}
 use Rattle.book.specs.Form.{formNumber}
 use Rattle.book.proofs.FormNumber.{form-cases}
 use Rattle.book.proofs.FormBytes.{holds-form}
-use Rattle.pages.specs.Tally.{tallyNumber, blocks, line, blocksWord, heldWord, freeWord, waitingWord, referencesWord, refusedWord}
+use Rattle.pages.specs.Tally.{tallyNumber, line, blocksWord, heldWord, freeWord, waitingWord, referencesWord, refusedWord}
+use Rattle.counter.specs.Sums.{blocks}
 use Rattle.pages.specs.Tally.{bookPage, tallyPage}
 use Rattle.words.proofs.SectionsLaid.{stored-front}
 use Rattle.pages.proofs.Lines.{line-fits}
-use Rattle.pages.specs.Counts.{countsOf, Few}
-use Rattle.pages.specs.declared.counts.Counts.{Counts}
+use Rattle.counter.specs.Counts.{countsOf, Few}
+use Rattle.counter.specs.declared.counts.Counts.{Counts}
 use Rattle.pages.specs.Pages.{countsPage}
 
 module _ (b : List ℕ) where

@@ -1,6 +1,4 @@
 // Pages that are written from a book.
-pub mod count;
-mod counts;
 mod line;
 
 ghost use mathlib.Core.Path.{_≡_};
@@ -9,8 +7,8 @@ ghost use lib.ListN.{length, take};
 ghost use Rattle.words.specs.Laying.{Stored};
 ghost use Rattle.pages.specs.Tally.{tallyNumber, tallyPage};
 ghost use Rattle.pages.specs.Pages.{countsPage};
-use counts::Counts;
-use counts::count_entries;
+use counter::counts::Counts;
+use counter::counts::count_entries;
 use form::form_number;
 use line::put_line;
 use words::refusals;

@@ -1,5 +1,5 @@
 // What a book's entries come to, for callers that print their own page.
-ghost use Rattle.pages.specs.Counted.{CountedUp};
+ghost use Rattle.counter.specs.Counted.{CountedUp};
 use super::counts::count_entries;
 use form::form_number;
 

@@ -1,9 +1,9 @@
 -- `count_entry`: a block that is free, waiting, or named.
 use borrow.Author.Needs.{needs}
 use borrow.Author.Tests.{not-true, not-false}
-use Rattle.pages.proofs.CountLaws.{counted-free, counted-waiting, counted-named}
-use Rattle.pages.proofs.counts.count_entry.Statement.{statement}
-use Rattle.pages.proofs.counts.count_entry.Tie as tie
+use Rattle.counter.proofs.CountLaws.{counted-free, counted-waiting, counted-named}
+use Rattle.counter.proofs.counts.count_entry.Statement.{statement}
+use Rattle.counter.proofs.counts.count_entry.Tie as tie
 
 returns : tie.Need-returns
 returns c =

@@ -5,9 +5,9 @@ use borrow.Author.Needs.{needs}
 use Rattle.book.specs.Form.{formNumber}
 use Rattle.book.proofs.FormBytes.{holds-form}
 use Rattle.book.specs.Layout.{Holds}
-use Rattle.pages.proofs.CountedLaws.{counted-refused, counted-up}
-use Rattle.pages.proofs.count.count.Statement.{statement}
-use Rattle.pages.proofs.count.count.Tie as tie
+use Rattle.counter.proofs.CountedLaws.{counted-refused, counted-up}
+use Rattle.counter.proofs.count.count.Statement.{statement}
+use Rattle.counter.proofs.count.count.Tie as tie
 
 in-form : (c : tie.Else1) → formNumber (now (c .before .before .before .args .book)) ≡ 0
 in-form c = sym (c .before .form-number .ensures) ∙ c .if1 .left

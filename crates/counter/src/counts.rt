@@ -1,7 +1,7 @@
 // What the entries of a book come to, in one pass.
 ghost use mathlib.Core.Path.{_≡_};
 ghost use Rattle.book.specs.Layout.{told, Holds};
-ghost use Rattle.pages.specs.Counts.{countsOf, counted, Few};
+ghost use Rattle.counter.specs.Counts.{countsOf, counted, Few};
 use entries::entry;
 use fields::header;
 use words::PBN;

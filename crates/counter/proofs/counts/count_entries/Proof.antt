@@ -2,9 +2,9 @@
 use Prim.Native.Nat.{_-_, _≤_}
 use native.Mathlib.Omega.{arith}
 use Rattle.book.specs.Layout.{bookOf}
-use Rattle.pages.proofs.CountLaws.{few-less, Passing, passing-none, passing-more, passing-all}
-use Rattle.pages.proofs.counts.count_entries.Statement.{statement}
-use Rattle.pages.proofs.counts.count_entries.Tie as tie
+use Rattle.counter.proofs.CountLaws.{few-less, Passing, passing-none, passing-more, passing-all}
+use Rattle.counter.proofs.counts.count_entries.Statement.{statement}
+use Rattle.counter.proofs.counts.count_entries.Tie as tie
 
 abbrev Inv-loop : tie.InvT-loop
 Inv-loop book n t₀ p₀ t p = (p ≤ n) × Passing (bookOf book .entries) p t

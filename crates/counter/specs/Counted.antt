@@ -8,7 +8,7 @@ use Rattle.words.specs.Choice.{if_then_else_}
 use Rattle.words.specs.Lent.{Lent}
 use Rattle.book.specs.Layout.{told}
 use Rattle.book.specs.Form.{formNumber}
-use Rattle.pages.specs.Tally
+use Rattle.counter.specs.Sums
 
 -- an answer is written only where nothing refuses
 abbrev pub answered : List ℕ → ℕ → ℕ → ℕ
@@ -21,7 +21,7 @@ answer book new old = answered (now (book .entry)) new (now (old .entry))
 -- r is what the call returns
 pub record CountedUp (book : Lent (List ℕ)) (blocks held waiting references : Lent ℕ) (r : ℕ) : Type 0 where
   pub number : r ≡ formNumber (now (book .entry))
-  pub blocksAfter : now (blocks .exit) ≡ answer book (Tally.blocks (told (book .entry))) blocks
-  pub heldAfter : now (held .exit) ≡ answer book (Tally.held (told (book .entry) .entries)) held
-  pub waitingAfter : now (waiting .exit) ≡ answer book (Tally.waiting (told (book .entry) .entries)) waiting
-  pub referencesAfter : now (references .exit) ≡ answer book (Tally.references (told (book .entry) .entries)) references
+  pub blocksAfter : now (blocks .exit) ≡ answer book (Sums.blocks (told (book .entry))) blocks
+  pub heldAfter : now (held .exit) ≡ answer book (Sums.held (told (book .entry) .entries)) held
+  pub waitingAfter : now (waiting .exit) ≡ answer book (Sums.waiting (told (book .entry) .entries)) waiting
+  pub referencesAfter : now (references .exit) ≡ answer book (Sums.references (told (book .entry) .entries)) references

@@ -14,9 +14,9 @@ use Rattle.words.specs.Lists.{sum}
 use Rattle.words.proofs.Prefixes.{bit-one, count-take}
 use Rattle.words.proofs.Runs.{sum-take}
 use Rattle.book.specs.Book.{Entry, freeEntry, entryAt, isFree}
-use Rattle.pages.specs.Tally.{held, free, waiting, references}
-use Rattle.pages.specs.declared.counts.Counts.{Counts}
-use Rattle.pages.specs.Counts.{countsOf, counted, Few}
+use Rattle.counter.specs.Sums.{held, free, waiting, references}
+use Rattle.counter.specs.declared.counts.Counts.{Counts}
+use Rattle.counter.specs.Counts.{countsOf, counted, Few}
 
 -- ---- one entry more, by what the code tells of it
 

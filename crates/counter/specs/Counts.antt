@@ -5,8 +5,8 @@ use mathlib.Core.List.{List}
 use lib.Dec.{eqb}
 use Rattle.words.specs.Lists.{bit}
 use Rattle.book.specs.Book.{Entry}
-use Rattle.pages.specs.Tally.{held, free, waiting, references}
-use Rattle.pages.specs.declared.counts.Counts.{Counts}
+use Rattle.counter.specs.Sums.{held, free, waiting, references}
+use Rattle.counter.specs.declared.counts.Counts.{Counts}
 
 -- the four numbers of these entries
 unfoldable pub countsOf : List Entry → Counts

@@ -10,10 +10,10 @@ use denote.Ref.{now}
 use Rattle.words.specs.Lent.{Lent}
 use Rattle.book.specs.Layout.{bookOf}
 use Rattle.book.specs.Form.{formNumber}
-use Rattle.pages.specs.Tally
-use Rattle.pages.specs.Counts.{countsOf}
-use Rattle.pages.specs.declared.counts.Counts.{Counts}
-use Rattle.pages.specs.Counted.{CountedUp}
+use Rattle.counter.specs.Sums
+use Rattle.counter.specs.Counts.{countsOf}
+use Rattle.counter.specs.declared.counts.Counts.{Counts}
+use Rattle.counter.specs.Counted.{CountedUp}
 
 -- ---- the two ways out
 
@@ -34,7 +34,7 @@ module _ (book : Lent (List ℕ)) (blocks held waiting references : Lent ℕ) wh
   pub counted-up : {t : Counts} → formNumber b ≡ 0 → now (blocks .exit) ≡ bookOf b .sizes .n
       → t ≡ countsOf (bookOf b .entries) → now (held .exit) ≡ t .held → now (waiting .exit) ≡ t .waiting
       → now (references .exit) ≡ t .references → CountedUp book blocks held waiting references 0
-  unfolding Tally.blocks countsOf
+  unfolding Sums.blocks countsOf
   counted-up e n t h w r =
       let z : eqb (formNumber b) 0 ≡ true = eq-eqb (formNumber b) 0 e in
       record {
