@@ -10,7 +10,8 @@ use Rattle.words.proofs.LayingLaws.{sets-append, sets-front}
 use Rattle.model.specs.Calls.{Call}
 use Rattle.model.specs.Runs.{endOf, Ours, ours}
 use Rattle.calls.specs.Answers.{answerBytes, mostOf}
-use Rattle.calls.specs.Contracts.{at, answered, Did, DidAll}
+use Rattle.calls.specs.Contracts.{at, answered}
+use Rattle.calls.specs.Doing.{Did, DidAll}
 use Rattle.calls.proofs.Short.{answers-short}
 
 -- cs is being played from b₀, pool₀ and out₀; rest is left, from b, pool and the offset `to` of out

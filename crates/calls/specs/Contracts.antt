@@ -1,11 +1,10 @@
--- What one call and a list of calls leave and answer, for all inputs, by the run of `model`.
+-- What a list of calls in bytes leaves and answers, for all inputs, by the run of `model`.
 use Prim.Native.Nat.{ℕ}
 use mathlib.Core.Path.{_≡_}
 use mathlib.Core.List.{List, _++_}
 use lib.Dec.{ltb, leb}
 use lib.ListN.{length, drop}
 use Rattle.words.specs.Choice.{if_then_else_}
-use Rattle.words.specs.Laying.{Stored}
 use Rattle.words.specs.Outcome.{Outcome, accepted, andThen, unless}
 use Rattle.words.specs.Sections.{flat}
 use Rattle.model.specs.Calls.{Call}
@@ -20,17 +19,6 @@ at b pool = record { book = b; pool = pool }
 -- the answers to a list, in bytes
 abbrev pub answered : ℕ → Ours → List Call → List ℕ
 answered spare o cs = flat answerBytes (answersOf (ours spare) o cs)
-
--- one call on book b and pool; its answer is stored at `to` in out, and r is the offset past it
-pub record Did (spare : ℕ) (b pool : List ℕ) (c : Call) (out : List ℕ) (to : ℕ) (b′ pool′ out′ : List ℕ) (r : ℕ) : Type 0 where
-  pub next : at b′ pool′ ≡ ours spare (at b pool) c .next
-  pub answer : Stored out to (answerBytes (ours spare (at b pool) c .answer)) out′ r
-
--- a list of calls; its answers are stored at the front of out, and r is their length
-pub record DidAll (spare : ℕ) (b pool : List ℕ) (cs : List Call) (out b′ pool′ out′ : List ℕ) (r : ℕ) : Type 0 where
-  pub end : at b′ pool′ ≡ endOf (ours spare) (at b pool) cs
-  pub answers : out′ ≡ answered spare (at b pool) cs ++ drop (length (answered spare (at b pool) cs)) out
-  pub written : r ≡ length (answered spare (at b pool) cs)
 
 -- ---- what refuses a list: 19, the bytes are none; 20, the answers are shorter than the longest that these calls can give
 

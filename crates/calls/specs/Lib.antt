@@ -5,3 +5,4 @@ pub mod Contracts
 pub mod Bound
 pub mod Chain
 pub mod Lending
+pub mod Doing

@@ -21,7 +21,8 @@ use Rattle.model.specs.Pool.{blockAt}
 use Rattle.model.specs.Read.{image}
 use Rattle.model.specs.Runs.{Step, Ours, ours, oursEnrolled, oursBacked, oursCollected, readAnswer, auditAnswer}
 use Rattle.calls.specs.Answers.{answerBytes}
-use Rattle.calls.specs.Contracts.{at, Did}
+use Rattle.calls.specs.Contracts.{at}
+use Rattle.calls.specs.Doing.{Did}
 use Rattle.calls.proofs.Proper.{Proper, not-refused, collect-proper, audit-proper, backup-proper}
 use Rattle.engine.specs.Contracts.{Enrolled}
 use Rattle.collector.specs.Contracts.{Swept}

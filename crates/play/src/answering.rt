@@ -5,7 +5,7 @@ ghost use lib.ListN.{length};
 ghost use Rattle.words.specs.Numbers.{two};
 ghost use Rattle.words.specs.Laying.{Stored};
 ghost use Rattle.model.specs.Calls.{enrol, backup, collect, read, audit};
-ghost use Rattle.calls.specs.Lending.{DidLent, DidAnySpare, DidAnyPool};
+ghost use Rattle.calls.specs.Doing.{DidLent, DidAnySpare, DidAnyPool};
 use engine::audit::aspen_audit;
 use engine::backup::aspen_backup;
 use engine::collect::aspen_collect;
