@@ -4,7 +4,7 @@ ghost use Prim.Native.Nat.{_<_};
 use crate::calls::Turn;
 use crate::sizes::CELLS;
 use crate::sizes::LBNS;
-use book::place::VOLUMES;
+use fields::offsets::VOLUMES;
 use samples::UNCHANGED;
 
 // The rows of a volume: more than its backups in a season.
