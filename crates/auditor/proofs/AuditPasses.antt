@@ -1,5 +1,5 @@
--- Audit as its passes test it: the journal, the maps, the entries, the fingerprints. Where the counts are sound no current map names a free block,
--- and the kept backups are judged by their befores.
+-- Audit as its passes test it: the journal, the maps, the entries, the fingerprints. Where the counts are sound no current map names a
+-- free block, and the kept backups are judged by their befores.
 use Prim.Native.Nat.{ℕ, _≤_, _<_}
 use mathlib.Core.Path.{_≡_, refl, sym, _∙_}
 use mathlib.Core.Logic.{_⊎_, inl, inr}
@@ -16,18 +16,18 @@ use Rattle.words.specs.Lists.{all, someOf, countOf, joined, upFrom}
 use Rattle.words.proofs.Places.{place-some, place-all, countOf-none, someOf-joined}
 use Rattle.book.specs.Book.{Book, Sized, entryAt, cellAt}
 use Rattle.book.specs.Layout.{bookOf}
-use Rattle.book.specs.Formed.{BookParts}
+use Rattle.book.specs.FormFacts.{BookParts}
 use Rattle.book.proofs.Conditions.{entry-in, cell-in}
-use Rattle.book.specs.Formed.{Formed}
+use Rattle.book.specs.FormFacts.{FormFacts}
 use Rattle.model.specs.Journal.{journal}
 use Rattle.model.specs.Audit.{mapsSound, countSound, expirySound, printsSound, cellSound, currentSound, backupsSound, audit}
 use Rattle.model.specs.JournalAt.{takenSound}
 use Rattle.model.proofs.kept.KeptBefores.{kept-befores}
-use Rattle.auditor.proofs.JournalRead.{journal-in}
+use Rattle.replay.proofs.JournalRead.{journal-in}
 use Rattle.auditor.proofs.MapsReplayed.{maps-replayed}
-use Rattle.auditor.specs.Table.{rowSize, tableSize, tableAfter, tableBefores}
+use Rattle.replay.specs.Table.{rowSize, tableAfter, tableBefores}
 use Rattle.auditor.specs.TableMaps.{tableMatches}
-use Rattle.auditor.proofs.TableMapLaws.{table-sound}
+use Rattle.auditor.proofs.TableMapLaws.{tableSize, table-sound}
 
 -- the cells that the journal is replayed in
 abbrev pub noCells : List ℕ
@@ -65,7 +65,8 @@ module _ (x : Book) (s : Sized x) (p : BookParts x) where
       held h false f =
           let zero : countOf (eqb c) (joined (x .maps)) ≡ 0 = sym (counted h) ∙ entry-in x p c (omega (arith, s .entries)) .count f in
           absurd (not-both (someOf (eqb c) (joined (x .maps))) named
-          (not-true (someOf (eqb c) (joined (x .maps))) (sym (countOf-none (eqb c) (joined (x .maps))) ∙ eq-eqb (countOf (eqb c) (joined (x .maps))) 0 zero)))
+          (not-true (someOf (eqb c) (joined (x .maps)))
+          (sym (countOf-none (eqb c) (joined (x .maps))) ∙ eq-eqb (countOf (eqb c) (joined (x .maps))) 0 zero)))
 
       go : (c < x .sizes .n) ⊎ (c ≡ unmapped) → (eqb c unmapped || entryAt (x .entries) c .held) ≡ true
       go (inl h) = or-r (eqb c unmapped) (entryAt (x .entries) c .held) (held h (entryAt (x .entries) c .held) refl)
@@ -74,15 +75,18 @@ module _ (x : Book) (s : Sized x) (p : BookParts x) where
   pub counts-current : all (countSound x) (upFrom 0 (x .sizes .n)) ≡ true → currentSound x ≡ true
   unfolding currentSound
   counts-current e =
-      place-all (all (cellSound x)) (x .maps) [] (λ v hv. place-all (cellSound x) (getD (x .maps) v []) unmapped (λ l hl. named-held e v l hv hl))
+      place-all (all (cellSound x)) (x .maps) []
+      (λ v hv. place-all (cellSound x) (getD (x .maps) v []) unmapped (λ l hl. named-held e v l hv hl))
 
   -- the passes test the maps, the counts, the expiries, the fingerprints and the befores, in another order
   passes-parts : x .sizes .l ≤ rowSize
       → auditPasses x
-      ≡ (mapsSound x && (all (countSound x) (upFrom 0 (x .sizes .n)) && (all (expirySound x) (upFrom 0 (x .sizes .n)) && (printsSound x && all (takenSound x) (journal x)))))
+      ≡ (mapsSound x && (all (countSound x) (upFrom 0 (x .sizes .n))
+      && (all (expirySound x) (upFrom 0 (x .sizes .n)) && (printsSound x && all (takenSound x) (journal x)))))
   unfolding auditPasses
   passes-parts small =
-      order (tableBefores noCells (journal x)) (all (takenSound x) (journal x)) (tableMatches (x .maps) (x .sizes .l) (tableAfter noCells (journal x)))
+      order (tableBefores noCells (journal x)) (all (takenSound x) (journal x))
+      (tableMatches (x .maps) (x .sizes .l) (tableAfter noCells (journal x)))
       (all (countSound x) (upFrom 0 (x .sizes .n))) (all (expirySound x) (upFrom 0 (x .sizes .n))) (printsSound x)
       ∙ rw (table-sound x s small (journal-in x p s))
     where
@@ -112,5 +116,5 @@ module _ (x : Book) (s : Sized x) (p : BookParts x) where
           let now = counts-current f in
           rw (kept-befores x (maps-replayed x s p e) now) (last expiries (printsSound x) (currentSound x) (backupsSound x) now)
 
-pub formed-audit : {b : List ℕ} → Formed b → audit (bookOf b) ≡ auditPasses (bookOf b)
+pub formed-audit : {b : List ℕ} → FormFacts b → audit (bookOf b) ≡ auditPasses (bookOf b)
 formed-audit {b} f = sym (audit-passes (bookOf b) (f .holds .sized) (f .parts) (f .holds .l))

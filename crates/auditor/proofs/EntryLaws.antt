@@ -10,15 +10,16 @@ use Rattle.words.proofs.ChoiceLaws.{and-swap}
 use Rattle.words.specs.Lists.{all, joined, upFrom}
 use Rattle.book.specs.Book.{Entry}
 use Rattle.book.specs.Layout.{bookOf}
-use Rattle.book.specs.Formed.{Formed}
+use Rattle.book.specs.FormFacts.{FormFacts}
 use Rattle.model.specs.Journal.{journal}
 use Rattle.model.specs.Audit.{untilIn, countSound, expirySound}
-use Rattle.auditor.specs.Counts.{poolBlocks, Counted, countOfBlock, numberAt}
+use Rattle.auditor.specs.Counts.{Counted, countOfBlock}
+use Rattle.replay.specs.Table.{poolBlocks, numberAt}
 use Rattle.auditor.proofs.CountLaws.{counts-sound}
-use Rattle.auditor.specs.Expiries.{Raised, expiryOfBlock}
-use Rattle.auditor.proofs.ExpiryLaws.{expiries-sound}
-use Rattle.auditor.specs.Matching.{matching}
-use Rattle.auditor.proofs.MatchingLaws.{matching-none, matching-grow}
+use Rattle.replay.specs.Expiries.{Raised, expiryOfBlock}
+use Rattle.replay.proofs.ExpiryLaws.{expiries-sound}
+use Rattle.replay.specs.Matching.{matching}
+use Rattle.replay.proofs.MatchingLaws.{matching-none, matching-grow}
 use Rattle.auditor.specs.Entries.{entryMatches, entriesMatch}
 
 module _ (es : List Entry) (counts expiries : List ℕ) where
@@ -26,15 +27,23 @@ module _ (es : List Entry) (counts expiries : List ℕ) where
   unfolding entriesMatch
   entries-none = rw (← (matching-none (countOfBlock es) (numberAt counts))) (matching-none (expiryOfBlock es) (numberAt expiries))
 
-  pub entries-grow : (n : ℕ) {good good′ : Bool} → good ≡ entriesMatch es counts expiries n → good′ ≡ entryMatches es counts expiries n → (good && good′) ≡ entriesMatch es counts expiries (n + 1)
+  pub entries-grow : (n : ℕ) {good good′ : Bool} → good ≡ entriesMatch es counts expiries n
+      → good′ ≡ entryMatches es counts expiries n → (good && good′) ≡ entriesMatch es counts expiries (n + 1)
   unfolding entriesMatch entryMatches
   entries-grow n e h =
-      rw (e, h, ← (matching-grow (countOfBlock es) (numberAt counts) n refl refl refl), ← (matching-grow (expiryOfBlock es) (numberAt expiries) n refl refl refl))
+      rw (
+        e,
+        h,
+        ← (matching-grow (countOfBlock es) (numberAt counts) n refl refl refl),
+        ←
+            (matching-grow (expiryOfBlock es) (numberAt expiries) n refl refl refl),
+      )
       (and-swap (matching (countOfBlock es) (numberAt counts) n) (matching (expiryOfBlock es) (numberAt expiries) n)
       (eqb (countOfBlock es n) (numberAt counts n)) (eqb (expiryOfBlock es n) (numberAt expiries n)))
 
 -- counts from the maps and expiries from the journal: two tests of audit
-pub entries-sound : {b : List ℕ} → Formed b → {counts expiries : List ℕ} {t : Bool} → Counted (replicate poolBlocks 0) (joined (bookOf b .maps)) counts
+pub entries-sound : {b : List ℕ} → FormFacts b → {counts expiries : List ℕ} {t : Bool}
+    → Counted (replicate poolBlocks 0) (joined (bookOf b .maps)) counts
     → Raised (replicate poolBlocks 0) (λ p. untilIn (bookOf b) p (journal (bookOf b))) expiries
     → t ≡ entriesMatch (bookOf b .entries) counts expiries (bookOf b .sizes .n)
     → t ≡ (all (countSound (bookOf b)) (upFrom 0 (bookOf b .sizes .n)) && all (expirySound (bookOf b)) (upFrom 0 (bookOf b .sizes .n)))

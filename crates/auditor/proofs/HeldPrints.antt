@@ -11,7 +11,7 @@ use Rattle.words.proofs.ChoiceLaws.{and-yes, and-false, same-test}
 use Rattle.words.specs.Lists.{all, someOf, those, same, differ}
 use Rattle.words.proofs.Same.{same-self, same-equal}
 use Rattle.book.specs.Book.{Entry, Book, freeEntry, entryAt}
-use Rattle.index.specs.Bucket.{hasPrint, apart}
+use Rattle.finder.specs.Bucket.{hasPrint, apart}
 use Rattle.model.specs.Audit.{printsSound}
 use Rattle.model.proofs.claims.AuditMeans.{heldPrints}
 
@@ -34,20 +34,23 @@ none-has f (e ∷ es) = rw (same-swap (e .print) f) (go (e .held) (none-has f es
     neither false t = refl
 
     go : (t : Bool) → all (λ y. not (same f y)) (heldPrints es) ≡ not (someOf (hasPrint f) es)
-        → all (λ y. not (same f y)) (map (λ (e : Entry). e .print) (if t then e ∷ those (λ (e : Entry). e .held) es else those (λ (e : Entry). e .held) es))
+        → all (λ y. not (same f y)) (map (λ (e : Entry). e .print)
+        (if t then e ∷ those (λ (e : Entry). e .held) es else those (λ (e : Entry). e .held) es))
         ≡ not ((t && same f (e .print)) || someOf (hasPrint f) es)
     go true ih = rw ih (neither (same f (e .print)) (someOf (hasPrint f) es))
     go false ih = ih
 
 -- one entry more
-more : (e : Entry) (es : List Entry) → differ (heldPrints (e ∷ es)) ≡ (differ (heldPrints es) && not (e .held && someOf (hasPrint (e .print)) es))
+more : (e : Entry) (es : List Entry)
+    → differ (heldPrints (e ∷ es)) ≡ (differ (heldPrints es) && not (e .held && someOf (hasPrint (e .print)) es))
 more e es = go (e .held)
   where
     swap : (s t : Bool) → (s && t) ≡ (t && s)
     swap true t = sym (and-yes t)
     swap false t = sym (and-false t)
 
-    go : (t : Bool) → differ (map (λ (e : Entry). e .print) (if t then e ∷ those (λ (e : Entry). e .held) es else those (λ (e : Entry). e .held) es))
+    go : (t : Bool) → differ (map (λ (e : Entry). e .print)
+        (if t then e ∷ those (λ (e : Entry). e .held) es else those (λ (e : Entry). e .held) es))
         ≡ (differ (heldPrints es) && not (t && someOf (hasPrint (e .print)) es))
     go true = rw (none-has (e .print) es) (swap (not (someOf (hasPrint (e .print)) es)) (differ (heldPrints es)))
     go false = sym (and-yes (differ (heldPrints es)))

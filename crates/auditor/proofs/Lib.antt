@@ -1,14 +1,7 @@
-pub mod Bounds
-pub mod JournalRead
-pub mod MatchingLaws
 pub mod TableMapLaws
 pub mod CountLaws
 pub mod MapsTakenLaws
-pub mod ExpiryLaws
 pub mod EntryLaws
-pub mod StampLaws
-pub mod RecordLaws
-pub mod SlotLaws
 pub mod MapsReplayed
 pub mod AuditPasses
 pub mod WaysOut

@@ -14,17 +14,17 @@ use Rattle.words.proofs.ChoiceLaws.{and-true}
 use Rattle.words.proofs.Each.{each-at, all-each}
 use Rattle.words.specs.Lists.{all, upFrom}
 use Rattle.words.proofs.Same.{same-equal}
-use Rattle.words.proofs.Stores.{getD-set}
+use Rattle.words.proofs.SetLaws.{getD-set}
 use Rattle.book.specs.Book.{volumes, Sizes, Slot, Rec, Book, Sized}
 use Rattle.book.specs.Form.{enrolled, pbnOk, recOk, slotOk, laterOk, daysOk}
-use Rattle.book.specs.Formed.{BookParts}
+use Rattle.book.specs.FormFacts.{BookParts}
 use Rattle.model.specs.Journal.{Backup, journalOf, journal, backupsIn}
 use Rattle.model.specs.Audit.{applied, replayed, beforesIn, befores, noMaps, sameMap, mapsSound}
 use Rattle.model.proofs.kept.Sound.{Sound, SoundAll, Days}
 use Rattle.model.proofs.kept.JournalLaws.{length-applied}
 use Rattle.model.proofs.kept.Replays.{mapAfter, backupsIn-replayed, backupsIn-sound, backupsIn-days}
 use Rattle.model.proofs.kept.KeptBefores.{Replayed}
-use Rattle.auditor.proofs.JournalRead.{backupIn, journal-in}
+use Rattle.replay.proofs.JournalRead.{backupIn, journal-in}
 
 -- ---- the tests of befores as facts
 
@@ -45,7 +45,8 @@ befores-sound z m (r ∷ rs) l ok e =
 abbrev Rows : ℕ → List (List ℕ) → Type 0
 Rows l ms = (v : ℕ) → v < volumes → length (getD ms v []) ≡ l
 
-befores-all : (z : Sizes) (ms : List (List ℕ)) (bs : List Backup) → length ms ≡ volumes → Rows (z .l) ms → all (backupIn z) bs ≡ true → befores ms bs ≡ true → SoundAll ms bs
+befores-all : (z : Sizes) (ms : List (List ℕ)) (bs : List Backup) → length ms ≡ volumes → Rows (z .l) ms
+    → all (backupIn z) bs ≡ true → befores ms bs ≡ true → SoundAll ms bs
 unfolding SoundAll backupIn
 befores-all z ms [] n rows ok e = tt
 befores-all z ms (b ∷ bs) n rows ok e =
@@ -58,7 +59,8 @@ befores-all z ms (b ∷ bs) n rows ok e =
     let hm : b .volume < length ms = omega arith in (
       hm,
       befores-sound z m (b .records) (rows (b .volume) hv) (k .1) (f .0),
-      befores-all z (set ms (b .volume) m′) bs (length-set ms (b .volume) m′ ∙ n) (λ v h. after v h hm (length-applied m (b .records) ∙ rows (b .volume) hv)) (w .1) (f .1),
+      befores-all z (set ms (b .volume) m′) bs (length-set ms (b .volume) m′ ∙ n)
+          (λ v h. after v h hm (length-applied m (b .records) ∙ rows (b .volume) hv)) (w .1) (f .1),
     )
   where
     after : (v : ℕ) → v < volumes → b .volume < length ms → length (applied (getD ms (b .volume) []) (b .records)) ≡ z .l
@@ -71,7 +73,8 @@ befores-all z ms (b ∷ bs) n rows ok e =
 
 -- ---- days never fall, as form says
 
-days-slots : (rs : List Rec) (d e : ℕ) (ts : List Slot) → d ≤ e → all (λ t. leb d (t .day)) ts ≡ true → daysOk ts ≡ true → all (λ t. leb (t .day) e) ts ≡ true
+days-slots : (rs : List Rec) (d e : ℕ) (ts : List Slot) → d ≤ e → all (λ t. leb d (t .day)) ts ≡ true → daysOk ts ≡ true
+    → all (λ t. leb (t .day) e) ts ≡ true
     → Days d (journalOf ts rs) e
 unfolding Days laterOk
 days-slots rs d e [] h low ok high = h
@@ -80,7 +83,9 @@ days-slots rs d e (t ∷ ts) h low ok high =
     let b = and-true (all (laterOk t) ts) (daysOk ts) ok in
     let c = and-true (leb (t .day) e) (all (λ t. leb (t .day) e) ts) high in (
       leb-true d (t .day) (a .0),
-      days-slots (drop (t .number) rs) (t .day) e ts (leb-true (t .day) e (c .0)) (all-weaker (laterOk t) (λ u. leb (t .day) (u .day)) ts (λ u f. and-true (leb (t .day) (u .day)) _ f .0) (b .0)) (b .1) (c .1),
+      days-slots (drop (t .number) rs) (t .day) e ts (leb-true (t .day) e (c .0))
+          (all-weaker (laterOk t) (λ u. leb (t .day) (u .day)) ts (λ u f. and-true (leb (t .day) (u .day)) _ f .0) (b .0))
+          (b .1) (c .1),
     )
 
 -- ---- a book in form whose maps are sound
@@ -89,8 +94,11 @@ module _ (x : Book) (s : Sized x) (p : BookParts x) where
   days-journal : Days 0 (journal x) (x .day)
   unfolding slotOk journal
   days-journal =
-      days-slots (x .records) 0 (x .day) (x .slots) (omega arith) (all-weaker (slotOk x) (λ t. leb 0 (t .day)) (x .slots) (λ t f. le-leb 0 (t .day) (omega arith)) (p .slots)) (p .days)
-      (all-weaker (slotOk x) (λ t. leb (t .day) (x .day)) (x .slots) (λ t f. and-true (enrolled x (t .volume)) (leb (t .day) (x .day)) f .1) (p .slots))
+      days-slots (x .records) 0 (x .day) (x .slots) (omega arith)
+      (all-weaker (slotOk x) (λ t. leb 0 (t .day)) (x .slots) (λ t f. le-leb 0 (t .day) (omega arith)) (p .slots))
+      (p .days)
+      (all-weaker (slotOk x) (λ t. leb (t .day) (x .day)) (x .slots)
+      (λ t f. and-true (enrolled x (t .volume)) (leb (t .day) (x .day)) f .1) (p .slots))
 
   row-none : (v : ℕ) → v < volumes → getD (noMaps x) v [] ≡ replicate (x .sizes .l) unmapped
   unfolding noMaps
@@ -105,8 +113,12 @@ module _ (x : Book) (s : Sized x) (p : BookParts x) where
   maps-replayed e =
       let w = and-true (befores (noMaps x) (journal x)) (all (sameMap (x .maps) (replayed (noMaps x) (journal x))) (upFrom 0 volumes)) e in
       let ok = journal-in x p s in
-      let sound = befores-all (x .sizes) (noMaps x) (journal x) count-none (λ v h. rw (row-none v h) (length-replicate (x .sizes .l) unmapped)) ok (w .0) in
-      let same = each-at (sameMap (x .maps) (replayed (noMaps x) (journal x))) 0 volumes (sym (all-each (sameMap (x .maps) (replayed (noMaps x) (journal x))) volumes) ∙ w .1) in
+      let sound =
+      befores-all (x .sizes) (noMaps x) (journal x) count-none
+      (λ v h. rw (row-none v h) (length-replicate (x .sizes .l) unmapped)) ok (w .0) in
+      let same =
+      each-at (sameMap (x .maps) (replayed (noMaps x) (journal x))) 0 volumes
+      (sym (all-each (sameMap (x .maps) (replayed (noMaps x) (journal x))) volumes) ∙ w .1) in
       record {
         sounds = λ v h. rw (row-none v h) at (backupsIn-sound v (noMaps x) (journal x) sound);
         maps = λ v h.
@@ -114,5 +126,7 @@ module _ (x : Book) (s : Sized x) (p : BookParts x) where
             ∙ sym (backupsIn-replayed v (noMaps x) (journal x) (omega (arith, count-none)))
             ∙ sym (same-equal (getD (x .maps) v []) (getD (replayed (noMaps x) (journal x)) v []) (same v (omega arith) h));
         days = λ v. backupsIn-days v 0 (x .day) (journal x) days-journal;
-        volumes = all-weaker (backupIn (x .sizes)) (λ b. ltb (b .volume) volumes) (journal x) (λ b f. and-true (ltb (b .volume) volumes) (all (recOk (x .sizes)) (b .records)) f .0) ok;
+        volumes =
+            all-weaker (backupIn (x .sizes)) (λ b. ltb (b .volume) volumes) (journal x)
+            (λ b f. and-true (ltb (b .volume) volumes) (all (recOk (x .sizes)) (b .records)) f .0) ok;
       }

@@ -11,10 +11,10 @@ use Rattle.words.proofs.Each.{each-none, each-grow}
 use Rattle.words.specs.Lists.{joined}
 use Rattle.book.specs.Book.{volumes, Book}
 use Rattle.book.specs.Layout.{bookOf}
-use Rattle.book.specs.Formed.{Formed}
-use Rattle.auditor.specs.Counts.{poolBlocks, Counted}
+use Rattle.book.specs.FormFacts.{FormFacts}
+use Rattle.auditor.specs.Counts.{Counted}
 use Rattle.auditor.proofs.CountLaws.{counted-none, counted-row, counted-le, counted-rows}
-use Rattle.auditor.specs.Table.{rowSize}
+use Rattle.replay.specs.Table.{rowSize, poolBlocks}
 use Rattle.auditor.specs.TableMaps.{rowMatches, tableMatches}
 use Rattle.auditor.specs.MapsTaken.{RowTaken, MapsTaken, AtMost}
 
@@ -36,8 +36,9 @@ taking-start x cells {n} z =
 pub taking-long : {x : Book} {cells : List ℕ} {v : ℕ} {good : Bool} {a : List ℕ} → MapsTaking x cells v good a → length a ≡ poolBlocks
 taking-long w = w .counts .long ∙ length-replicate {A = ℕ} poolBlocks 0
 
-module _ {b : List ℕ} (f : Formed b) {cells : List ℕ} {v : ℕ} {good : Bool} {a : List ℕ} where
-  pub taking-row : {good′ : Bool} {a′ : List ℕ} → v < volumes → MapsTaking (bookOf b) cells v good a → RowTaken (bookOf b) cells v a good′ a′
+module _ {b : List ℕ} (f : FormFacts b) {cells : List ℕ} {v : ℕ} {good : Bool} {a : List ℕ} where
+  pub taking-row : {good′ : Bool} {a′ : List ℕ} → v < volumes → MapsTaking (bookOf b) cells v good a
+      → RowTaken (bookOf b) cells v a good′ a′
       → MapsTaking (bookOf b) cells (v + 1) (good && good′) a′
   taking-row h w r =
       let z = f .holds in

@@ -16,15 +16,19 @@ use Rattle.words.specs.Lists.{each}
 use Rattle.words.proofs.Each.{each-at, at-each, each-same, all-each}
 use Rattle.words.specs.Lists.{all, same, upFrom}
 use Rattle.words.proofs.Same.{same-self, same-equal}
-use Rattle.words.proofs.Stores.{getD-set}
+use Rattle.words.proofs.SetLaws.{getD-set}
 use Rattle.book.specs.Book.{volumes, Sizes, Rec, Book, Sized, cellAt}
 use Rattle.book.specs.Form.{pbnOk, recOk}
 use Rattle.model.specs.Journal.{Backup, journal}
 use Rattle.model.specs.Audit.{applied, replayed, beforesIn, befores, noMaps, sameMap, mapsSound}
-use Rattle.auditor.proofs.JournalRead.{backupIn}
-use Rattle.auditor.proofs.MatchingLaws.{matching-same}
-use Rattle.auditor.specs.Table.{rowSize, tableSize, cellsAfter, cellsBefore, tableAfter, tableBefores}
+use Rattle.replay.proofs.JournalRead.{backupIn}
+use Rattle.replay.proofs.MatchingLaws.{matching-same}
+use Rattle.replay.specs.Table.{rowSize, cellsAfter, cellsBefore, tableAfter, tableBefores}
 use Rattle.auditor.specs.TableMaps.{rowCell, rowMatches, tableMatches}
+
+-- the cells of all volumes
+abbrev pub tableSize : ℕ
+tableSize = 8192
 
 -- ---- the table a holds maps of l cells
 
@@ -78,7 +82,12 @@ module _ (l : ℕ) (small : l ≤ rowSize) where
               rw (eq-eqb (w * rowSize + j) (v * rowSize + k) (omega arith), getD-set m k j p unmapped (omega (arith, row)), f)
           go true e false f =
               let ew = eqb-true w v e in let ej = eqb-false j k f in
-              rw (ne-eqb (w * rowSize + j) (v * rowSize + k) (λ q. ej (omega arith)), getD-set m k j p unmapped (omega (arith, row)), f) (here ew)
+              rw (
+                ne-eqb (w * rowSize + j) (v * rowSize + k) (λ q. ej (omega arith)),
+                getD-set m k j p unmapped
+                    (omega (arith, row)),
+                f,
+              ) (here ew)
           go false e u f =
               let ew = eqb-false w v e in
               rw (ne-eqb (w * rowSize + j) (v * rowSize + k) (λ q. ew (omega arith))) (other e)
@@ -105,7 +114,8 @@ module _ (l : ℕ) (small : l ≤ rowSize) where
       (rw (cell, ih .0), ih .1)
 
   -- the whole journal
-  pub replayed-table : (bs : List Backup) (z : Sizes) → z .l ≡ l → (a : List ℕ) (ms : List (List ℕ)) → all (backupIn z) bs ≡ true → Table l a ms
+  pub replayed-table : (bs : List Backup) (z : Sizes) → z .l ≡ l → (a : List ℕ) (ms : List (List ℕ))
+      → all (backupIn z) bs ≡ true → Table l a ms
       → (tableBefores a bs ≡ befores ms bs) × Table l (tableAfter a bs) (replayed ms bs)
   unfolding backupIn
   replayed-table [] z e a ms ok t = (refl, t)
@@ -114,7 +124,9 @@ module _ (l : ℕ) (small : l ≤ rowSize) where
       let k = and-true (ltb (b .volume) volumes) (all (recOk z) (b .records)) (w .0) in
       let t₀ : Table l a (set ms (b .volume) (getD ms (b .volume) [])) = rw (set-getD ms (b .volume) []) t in
       let r = replayed-row (b .records) z e a ms (b .volume) (getD ms (b .volume) []) (ltb-true (b .volume) volumes (k .0)) (k .1) t₀ in
-      let ih = replayed-table bs z e (cellsAfter (b .volume * rowSize) a (b .records)) (set ms (b .volume) (applied (getD ms (b .volume) []) (b .records))) (w .1) (r .1) in
+      let ih =
+      replayed-table bs z e (cellsAfter (b .volume * rowSize) a (b .records))
+      (set ms (b .volume) (applied (getD ms (b .volume) []) (b .records))) (w .1) (r .1) in
       (rw (r .0, ih .0), ih .1)
 
   -- the table matches the maps exactly when they are the same
@@ -150,9 +162,16 @@ empty-table x small =
 
 -- "the maps are the records replayed in order from all unmapped, each before being the cell that it replaces"
 pub table-sound : (x : Book) → Sized x → x .sizes .l ≤ rowSize → all (backupIn (x .sizes)) (journal x) ≡ true
-    → (tableBefores (replicate tableSize unmapped) (journal x) && tableMatches (x .maps) (x .sizes .l) (tableAfter (replicate tableSize unmapped) (journal x)))
+    → (tableBefores (replicate tableSize unmapped) (journal x)
+    && tableMatches (x .maps) (x .sizes .l) (tableAfter (replicate tableSize unmapped) (journal x)))
     ≡ mapsSound x
 unfolding mapsSound
 table-sound x s small ok =
-    let r = replayed-table (x .sizes .l) small (journal x) (x .sizes) refl (replicate tableSize unmapped) (noMaps x) ok (empty-table x small) in
-    rw (r .0, table-matches (x .sizes .l) small (x .maps) (replayed (noMaps x) (journal x)) (tableAfter (replicate tableSize unmapped) (journal x)) (s .cells) (r .1))
+    let r =
+    replayed-table (x .sizes .l) small (journal x) (x .sizes) refl (replicate tableSize unmapped) (noMaps x) ok
+    (empty-table x small) in
+    rw (
+      r .0,
+      table-matches (x .sizes .l) small (x .maps) (replayed (noMaps x) (journal x))
+          (tableAfter (replicate tableSize unmapped) (journal x)) (s .cells) (r .1),
+    )

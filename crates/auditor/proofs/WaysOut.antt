@@ -6,21 +6,20 @@ use mathlib.Core.List.{List}
 use lib.ListN.{replicate}
 use Rattle.words.specs.Lists.{all, upFrom}
 use Rattle.book.specs.Book.{Book}
-use Rattle.book.specs.Formed.{Formed}
+use Rattle.book.specs.FormFacts.{FormFacts}
 use Rattle.book.specs.Layout.{bookOf}
 use Rattle.model.specs.Audit.{countSound, expirySound, printsSound, audit}
 use Rattle.model.specs.Journal.{journal}
 use Rattle.model.specs.JournalAt.{takenSound}
 use Rattle.auditor.proofs.AuditPasses.{noCells, auditPasses, formed-audit}
-use Rattle.auditor.specs.Counts.{poolBlocks}
 use Rattle.auditor.specs.Entries.{entriesMatch}
 use Rattle.auditor.proofs.EntryLaws.{entries-sound}
 use Rattle.auditor.specs.MapsTaken.{MapsTaken}
-use Rattle.auditor.specs.Slots.{JournalTaken}
-use Rattle.auditor.specs.Table.{tableAfter, tableBefores}
+use Rattle.replay.specs.Slots.{JournalTaken}
+use Rattle.replay.specs.Table.{tableAfter, tableBefores, poolBlocks}
 use Rattle.auditor.specs.TableMaps.{tableMatches}
 
-module _ {b : List ℕ} (f : Formed b) {j : Bool} {c e : List ℕ} (t : JournalTaken (bookOf b) j noCells (replicate poolBlocks 0) c e) where
+module _ {b : List ℕ} (f : FormFacts b) {j : Bool} {c e : List ℕ} (t : JournalTaken (bookOf b) j noCells (replicate poolBlocks 0) c e) where
   abbrev x : Book
   x = bookOf b
 

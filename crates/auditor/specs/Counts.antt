@@ -6,10 +6,7 @@ use lib.Dec.{eqb}
 use lib.ListN.{length, getD}
 use Rattle.words.specs.Lists.{countOf}
 use Rattle.book.specs.Book.{Entry, entryAt}
-
--- the most blocks that a pool has
-abbrev pub poolBlocks : ℕ
-poolBlocks = 4096
+use Rattle.replay.specs.Table.{poolBlocks}
 
 -- a′ is a with the block numbers cs counted
 pub record Counted (a cs a′ : List ℕ) : Type 0 where
@@ -20,6 +17,3 @@ pub record Counted (a cs a′ : List ℕ) : Type 0 where
 
 abbrev pub countOfBlock : List Entry → ℕ → ℕ
 countOfBlock es p = entryAt es p .count
-
-abbrev pub numberAt : List ℕ → ℕ → ℕ
-numberAt a p = getD a p 0

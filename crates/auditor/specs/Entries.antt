@@ -4,9 +4,10 @@ use mathlib.Core.Bool.{Bool, _&&_}
 use mathlib.Core.List.{List}
 use lib.Dec.{eqb}
 use Rattle.book.specs.Book.{Entry}
-use Rattle.auditor.specs.Counts.{countOfBlock, numberAt}
-use Rattle.auditor.specs.Expiries.{expiryOfBlock}
-use Rattle.auditor.specs.Matching.{matching}
+use Rattle.auditor.specs.Counts.{countOfBlock}
+use Rattle.replay.specs.Table.{numberAt}
+use Rattle.replay.specs.Expiries.{expiryOfBlock}
+use Rattle.replay.specs.Matching.{matching}
 
 module _ (es : List Entry) (counts expiries : List ℕ) where
   unfoldable pub entryMatches : ℕ → Bool

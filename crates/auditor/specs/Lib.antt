@@ -1,11 +1,6 @@
 pub mod Contracts
-pub mod Matching
-pub mod Table
 pub mod TableMaps
 pub mod Counts
 pub mod MapsTaken
-pub mod Expiries
 pub mod Entries
-pub mod Stamps
-pub mod Records
-pub mod Slots
+pub mod Passes

@@ -6,7 +6,8 @@ use mathlib.Core.List.{List, []}
 use lib.ListN.{getD, replicate}
 use Rattle.words.specs.Lists.{joined}
 use Rattle.book.specs.Book.{Book}
-use Rattle.auditor.specs.Counts.{poolBlocks, Counted}
+use Rattle.auditor.specs.Counts.{Counted}
+use Rattle.replay.specs.Table.{poolBlocks}
 use Rattle.auditor.specs.TableMaps.{rowMatches, tableMatches}
 
 -- volume v: its test, and the counters a with its cells counted

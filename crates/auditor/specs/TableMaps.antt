@@ -5,8 +5,8 @@ use mathlib.Core.List.{List}
 use lib.ListN.{getD}
 use Rattle.words.specs.Lists.{each}
 use Rattle.book.specs.Book.{volumes, cellAt}
-use Rattle.auditor.specs.Matching.{matching}
-use Rattle.auditor.specs.Table.{rowSize}
+use Rattle.replay.specs.Matching.{matching}
+use Rattle.replay.specs.Table.{rowSize}
 
 -- ---- the maps are what the table holds
 

@@ -1,27 +1,30 @@
 // Audit: whether the book is sound.
 ghost use mathlib.Core.Path.{_≡_};
-ghost use Rattle.book.specs.Layout.{bookOf};
-ghost use Rattle.book.specs.Formed.{Formed};
+ghost use Rattle.book.specs.Layout.{told};
+ghost use Rattle.book.specs.FormFacts.{FormFacts};
 ghost use Rattle.model.specs.Audit.{audit};
 ghost use Rattle.auditor.specs.Contracts.{Audited};
-use super::entries::entries_match;
 use super::maps::maps_match;
+use super::matching::entries_match;
 use super::prints::prints_sound;
-use super::records::take_journal;
 use form::form_number;
+use replay::notes::CELLS;
+use replay::records::take_journal;
 use words::UNMAPPED;
+use words::limits::MAX_BLOCKS;
 
-// The records leave cells and expiries, the maps leave counts. That no current map names a free block follows from form and the counts.
+// The records leave cells and expiries, the maps leave counts. That no current map names a free block follows from form
+// and the counts.
 fn is_sound(book: &[u8]) -> bool
-    requires { ⌜ Formed (now book) ⌝ }
-    ensures { λ r. ⌜ r ≡ audit (bookOf (now (book .entry))) ⌝ }
+    requires { ⌜ FormFacts (now book) ⌝ }
+    ensures { λ r. ⌜ r ≡ audit (told (book .entry)) ⌝ }
 {
-    let mut cells = [UNMAPPED; 8192];
-    let mut expiries = [0u16; 4096];
+    let mut cells = [UNMAPPED; CELLS];
+    let mut expiries = [0u16; MAX_BLOCKS];
     if !take_journal(book, &mut cells, &mut expiries) {
         return false;
     }
-    let mut counts = [0u16; 4096];
+    let mut counts = [0u16; MAX_BLOCKS];
     if !maps_match(book, &cells, &mut counts) {
         return false;
     }
@@ -33,7 +36,7 @@ fn is_sound(book: &[u8]) -> bool
 
 // The number that refuses the book, or 0; then sound is 1 for yes and 0 for no.
 pub fn answer(book: &[u8], sound: &mut u16) -> u16
-    ensures { λ r. ⌜ Audited (now (book .entry)) (now (sound .entry)) r (now (sound .exit)) ⌝ }
+    ensures { λ r. ⌜ Audited book sound r ⌝ }
 {
     let refusal = form_number(book);
     if refusal != 0 {

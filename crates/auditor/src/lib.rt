@@ -1,7 +1,6 @@
-// Audit (document 01, "Audit says yes exactly when"), in one pass each over the records, the maps, the entries and the held fingerprints.
+// Audit (document 01, "Audit says yes exactly when"), in one pass each over the records, the maps, the entries and the
+// held fingerprints.
 pub mod audit;
-mod entries;
 mod maps;
-mod notes;
+mod matching;
 mod prints;
-mod records;

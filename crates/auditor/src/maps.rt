@@ -1,38 +1,42 @@
 // Audit: the maps, once. Each cell is what the records leave there, and counts for the block that it names.
-ghost use mathlib.Core.Path.{_≡_};
 ghost use mathlib.Core.List.{[], _∷_};
 ghost use Prim.Native.Nat.{_*_, _<_};
-ghost use lib.ListN.{length, getD};
+ghost use lib.ListN.{getD};
 ghost use Rattle.book.specs.Book.{volumes};
-ghost use Rattle.book.specs.Layout.{bookOf};
-ghost use Rattle.book.specs.Formed.{Formed};
-ghost use Rattle.auditor.specs.Counts.{poolBlocks, Counted};
-ghost use Rattle.auditor.specs.MapsTaken.{AtMost, RowTaken, MapsTaken};
-ghost use Rattle.auditor.specs.Table.{rowSize};
-use super::notes::ROW;
-use book::header;
-use book::map::cell;
+ghost use Rattle.book.specs.Layout.{told};
+ghost use Rattle.book.specs.FormFacts.{FormFacts};
+ghost use Rattle.auditor.specs.Passes.{TakesRow, TakesMaps};
+ghost use Rattle.auditor.specs.Counts.{Counted};
+ghost use Rattle.auditor.specs.MapsTaken.{AtMost};
+ghost use Rattle.replay.specs.Table.{rowSize, poolBlocks, OfPool};
+use fields::header;
+use fields::map::cell;
+use replay::notes::Cells;
 use words::LBN;
 use words::PBN;
+use words::limits::LAST_VOLUME;
+use words::limits::MAX_BLOCKS;
+use words::limits::MAX_LBNS;
+use words::limits::Table;
 
 // The block's count rises by 1; unmapped has none.
-fn count_one(counts: &mut [u16; 4096], p: PBN)
-    requires { ⌜ (length (now counts) ≡ poolBlocks) × (p .0 < poolBlocks → getD (now counts) (p .0) 0 < 65535) ⌝ }
+fn count_one(counts: &mut Table, p: PBN)
+    requires { ⌜ OfPool (now counts) × (p .0 < poolBlocks → getD (now counts) (p .0) 0 < 65535) ⌝ }
     ensures { λ _. ⌜ Counted (now (counts .entry)) (p .0 ∷ []) (now (counts .exit)) ⌝ }
 {
     let at = p.0 as usize;
-    if at >= 4096 {
+    if at >= MAX_BLOCKS {
         return;
     }
     counts[at] = counts[at] + 1;
 }
 
-fn take_row(book: &[u8], cells: &[u16; 8192], counts: &mut [u16; 4096], v: u16) -> bool
-    requires { ⌜ Formed (now book) ⌝ }
-    requires { ⌜ (v < volumes) × (length (now counts) ≡ poolBlocks) × AtMost (v * rowSize) (now counts) ⌝ }
-    ensures { λ r. ⌜ RowTaken (bookOf (now (book .entry))) (now (cells .entry)) v (now (counts .entry)) r (now (counts .exit)) ⌝ }
+fn take_row(book: &[u8], cells: &Cells, counts: &mut Table, v: u16) -> bool
+    requires { ⌜ FormFacts (now book) ⌝ }
+    requires { ⌜ (v < volumes) × OfPool (now counts) × AtMost (v * rowSize) (now counts) ⌝ }
+    ensures { λ r. ⌜ TakesRow book cells counts v r ⌝ }
 {
-    let row = (v as usize) * ROW;
+    let row = (v as usize) * MAX_LBNS;
     let wide = header::cells(book);
     let mut good = true;
     let mut l = 0;
@@ -46,14 +50,14 @@ fn take_row(book: &[u8], cells: &[u16; 8192], counts: &mut [u16; 4096], v: u16) 
 }
 
 // The counts start at 0, whatever was there.
-pub fn maps_match(book: &[u8], cells: &[u16; 8192], counts: &mut [u16; 4096]) -> bool
-    requires { ⌜ Formed (now book) ⌝ }
-    ensures { λ r. ⌜ MapsTaken (bookOf (now (book .entry))) (now (cells .entry)) r (now (counts .exit)) ⌝ }
+pub fn maps_match(book: &[u8], cells: &Cells, counts: &mut Table) -> bool
+    requires { ⌜ FormFacts (now book) ⌝ }
+    ensures { λ r. ⌜ TakesMaps book cells counts r ⌝ }
 {
-    *counts = [0u16; 4096];
+    *counts = [0u16; MAX_BLOCKS];
     let mut good = true;
     let mut v = 0;
-    while v < 8 {
+    while v <= LAST_VOLUME {
         let same = take_row(book, cells, counts, v);
         good = good & same;
         v += 1;

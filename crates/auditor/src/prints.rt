@@ -1,19 +1,21 @@
-// Audit: held fingerprints differ. The index is built from the last block down, and each held block is asked for among those above before it is linked.
+// Audit: held fingerprints differ. The index is built from the last block down, and each held block is asked for among
+// those above before it is linked.
 ghost use mathlib.Core.Path.{_≡_};
-ghost use Rattle.book.specs.Layout.{bookOf};
-ghost use Rattle.book.specs.Formed.{Formed};
+ghost use Rattle.book.specs.Layout.{told};
+ghost use Rattle.book.specs.FormFacts.{FormFacts};
 ghost use Rattle.model.specs.Audit.{printsSound};
-use book::header::blocks;
+use fields::header::blocks;
 use index::clear;
 use index::link_apart;
 use words::PBN;
+use words::limits::MAX_BLOCKS;
 
 pub fn prints_sound(book: &[u8]) -> bool
-    requires { ⌜ Formed (now book) ⌝ }
-    ensures { λ r. ⌜ r ≡ printsSound (bookOf (now (book .entry))) ⌝ }
+    requires { ⌜ FormFacts (now book) ⌝ }
+    ensures { λ r. ⌜ r ≡ printsSound (told (book .entry)) ⌝ }
 {
-    let mut heads = [0u16; 4096];
-    let mut nexts = [0u16; 4096];
+    let mut heads = [0u16; MAX_BLOCKS];
+    let mut nexts = [0u16; MAX_BLOCKS];
     clear(book, &mut heads, &mut nexts);
     let mut good = true;
     let mut p = blocks(book);

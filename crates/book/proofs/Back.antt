@@ -15,8 +15,11 @@ use Rattle.words.specs.Numbers.{two, num}
 use Rattle.words.specs.Sections.{flat, fit, tab, part}
 use Rattle.words.proofs.SectionLaws.{length-tab, getD-tab, part-add, part-cons, part-tab, flat-tab, fit-tab, fit-all, joined-parts}
 use Rattle.book.specs.Book.{volumes, Sizes, freeEntry, noSlot, noRec, Sized}
-use Rattle.book.specs.Layout.{layoutNumber, headerSize, entrySize, slotSize, recSize, bPlace, uPlace, dayPlace, cursorPlace, retentionPlace, entriesFrom, entryPlace, mapsFrom, slotsFrom, slotPlace, recordsFrom, recPlace, stateByte, entryBytes, mapBytes, slotBytes, recBytes, bytes, sizesOf, entryOf, cellOf, slotOf, recOf, bookOf}
-use Rattle.book.proofs.Shape.{Shape}
+use Rattle.book.specs.Layout.{layoutNumber, headerSize, entrySize, slotSize, recSize, bOffset, uOffset, dayOffset, cursorOffset}
+use Rattle.book.specs.Layout.{retentionOffset, entriesFrom, entryOffset, mapsFrom, slotsFrom, slotOffset, recordsFrom, recOffset}
+use Rattle.book.specs.Layout.{stateByte, entryBytes, mapBytes, slotBytes, recBytes, bytes, sizesOf, entryOf, cellOf, slotOf, recOf}
+use Rattle.book.specs.Layout.{bookOf}
+use Rattle.book.proofs.Outline.{Outline}
 
 -- a state's byte, where it is 0 or 1
 state-byte : (s : ℕ) → s ≤ 1 → stateByte (eqb s 1) ≡ s
@@ -38,13 +41,14 @@ module _ (b : List ℕ) (small : (i : ℕ) → getD b i 0 < 256) where
       rw (low, high) (part-two i h)
 
   -- k numbers from o
-  pub nums-part : (k o : ℕ) (f : ℕ → ℕ) → o + k * 2 ≤ length b → ((c : ℕ) → c < k → f c ≡ num b (o + c * 2)) → flat two (tab k f) ≡ part b o (k * 2)
+  pub nums-part : (k o : ℕ) (f : ℕ → ℕ) → o + k * 2 ≤ length b → ((c : ℕ) → c < k → f c ≡ num b (o + c * 2))
+      → flat two (tab k f) ≡ part b o (k * 2)
   nums-part k o f h g = flat-tab k 2 two f b o (λ c hc. rw (g c hc) (two-part (o + c * 2) (omega arith)))
 
-  entry-part : (p : ℕ) → entryPlace p + entrySize ≤ length b → getD b (entryPlace p + 1) 0 ≤ 1
-      → entryBytes (entryOf b p) ≡ part b (entryPlace p) entrySize
+  entry-part : (p : ℕ) → entryOffset p + entrySize ≤ length b → getD b (entryOffset p + 1) 0 ≤ 1
+      → entryBytes (entryOf b p) ≡ part b (entryOffset p) entrySize
   entry-part p h hs =
-      let o = entryPlace p in
+      let o = entryOffset p in
       let print : fit 0 printSize (tab printSize (λ i. getD b (o + 4 + i) 0)) ≡ part b (o + 4) printSize =
       fit-all 0 printSize (tab printSize (λ i. getD b (o + 4 + i) 0)) (length-tab printSize (λ i. getD b (o + 4 + i) 0))
       ∙ part-tab printSize b (o + 4) (λ i. getD b (o + 4 + i) 0) (omega arith) (λ i hi. refl)
@@ -74,24 +78,26 @@ module _ (b : List ℕ) (small : (i : ℕ) → getD b i 0 < 256) where
       let first : num b (o + 0) ≡ num b o = rw add-zero in
       rw first at (nums-part 3 o (λ c. num b (o + c * 2)) (omega arith) (λ c hc. refl))
 
-  module _ (s : Shape b) where
+  module _ (s : Outline b) where
     -- ---- the sections
 
     abbrev z : Sizes
     z = sizesOf b
 
-    head-part : flat two (layoutNumber ∷ z .n ∷ z .l ∷ z .s ∷ z .j ∷ num b bPlace ∷ num b uPlace ∷ num b dayPlace ∷ num b cursorPlace ∷ 0 ∷ [])
+    head-part : flat two (layoutNumber ∷ z .n ∷ z .l ∷ z .s ∷ z .j ∷ num b bOffset ∷ num b uOffset ∷ num b dayOffset
+        ∷ num b cursorOffset ∷ 0 ∷ [])
         ≡ part b 0 headerSize
     head-part =
         (λ i. flat two
-        (sym (s .layout) i ∷ z .n ∷ z .l ∷ z .s ∷ z .j ∷ num b bPlace ∷ num b uPlace ∷ num b dayPlace ∷ num b cursorPlace ∷ sym (s .spare) i ∷ []))
+        (sym (s .layout) i ∷ z .n ∷ z .l ∷ z .s ∷ z .j ∷ num b bOffset ∷ num b uOffset ∷ num b dayOffset
+        ∷ num b cursorOffset ∷ sym (s .spare) i ∷ []))
         ∙ nums-part 10 0 (λ c. num b (c * 2)) (omega (arith, s .len)) (λ c hc. rw zero-add)
 
-    retentions-part : flat two (fit 0 volumes (tab volumes (λ v. num b (retentionPlace v)))) ≡ part b headerSize (volumes * 2)
+    retentions-part : flat two (fit 0 volumes (tab volumes (λ v. num b (retentionOffset v)))) ≡ part b headerSize (volumes * 2)
     retentions-part =
         ap (λ (rs : List ℕ). flat two rs)
-        (fit-all 0 volumes (tab volumes (λ v. num b (retentionPlace v))) (length-tab volumes (λ v. num b (retentionPlace v))))
-        ∙ nums-part volumes headerSize (λ v. num b (retentionPlace v)) (omega (arith, s .len)) (λ v hv. refl)
+        (fit-all 0 volumes (tab volumes (λ v. num b (retentionOffset v))) (length-tab volumes (λ v. num b (retentionOffset v))))
+        ∙ nums-part volumes headerSize (λ v. num b (retentionOffset v)) (omega (arith, s .len)) (λ v hv. refl)
 
     entries-part : flat entryBytes (fit freeEntry (z .n) (tab (z .n) (entryOf b))) ≡ part b entriesFrom (z .n * entrySize)
     entries-part =
@@ -114,10 +120,10 @@ module _ (b : List ℕ) (small : (i : ℕ) → getD b i 0 < 256) where
     num-free : (i : ℕ) → getD b i 0 ≡ 0 → getD b (i + 1) 0 ≡ 0 → num b i ≡ 0
     num-free i e f = rw (e, f)
 
-    slot-free : (q : ℕ) → num b bPlace ≤ q → q < z .s → slotOf b (slotPlace z q) ≡ noSlot
+    slot-free : (q : ℕ) → num b bOffset ≤ q → q < z .s → slotOf b (slotOffset z q) ≡ noSlot
     unfolding noSlot
     slot-free q hb hs =
-        let o = slotPlace z q in
+        let o = slotOffset z q in
         let at : (j : ℕ) → j < slotSize → (i : ℕ) → i ≡ o + j → getD b i 0 ≡ 0 = λ j hj i e. s .freeSlots i (omega arith) (omega arith) in
         λ i. record {
           volume = at 0 (omega arith) o (omega arith) i;
@@ -126,23 +132,24 @@ module _ (b : List ℕ) (small : (i : ℕ) → getD b i 0 < 256) where
           number = num-free (o + 6) (at 6 (omega arith) (o + 6) refl) (at 7 (omega arith) (o + 6 + 1) (omega arith)) i;
         }
 
-    second-zero : (q : ℕ) → q < z .s → getD b (slotPlace z q + 1) 0 ≡ 0
-    second-zero q hq = go (ltb q (num b bPlace)) refl
+    second-zero : (q : ℕ) → q < z .s → getD b (slotOffset z q + 1) 0 ≡ 0
+    second-zero q hq = go (ltb q (num b bOffset)) refl
       where
-        go : (t : Bool) → ltb q (num b bPlace) ≡ t → getD b (slotPlace z q + 1) 0 ≡ 0
-        go true e = s .seconds q (ltb-true q (num b bPlace) e)
-        go false e = s .freeSlots (slotPlace z q + 1) (omega (arith, ltb-false q (num b bPlace) e)) (omega arith)
+        go : (t : Bool) → ltb q (num b bOffset) ≡ t → getD b (slotOffset z q + 1) 0 ≡ 0
+        go true e = s .seconds q (ltb-true q (num b bOffset) e)
+        go false e = s .freeSlots (slotOffset z q + 1) (omega (arith, ltb-false q (num b bOffset) e)) (omega arith)
 
-    slots-part : flat slotBytes (fit noSlot (z .s) (tab (num b bPlace) (λ q. slotOf b (slotPlace z q)))) ≡ part b (slotsFrom z) (z .s * slotSize)
+    slots-part : flat slotBytes (fit noSlot (z .s) (tab (num b bOffset) (λ q. slotOf b (slotOffset z q))))
+        ≡ part b (slotsFrom z) (z .s * slotSize)
     slots-part =
-        rw (fit-tab noSlot (num b bPlace) (z .s) (λ q. slotOf b (slotPlace z q)) (s .slots) slot-free)
-        (flat-tab (z .s) slotSize slotBytes (λ q. slotOf b (slotPlace z q)) b (slotsFrom z)
-        (λ q hq. slot-part (slotPlace z q) (omega (arith, s .len)) (second-zero q hq)))
+        rw (fit-tab noSlot (num b bOffset) (z .s) (λ q. slotOf b (slotOffset z q)) (s .slots) slot-free)
+        (flat-tab (z .s) slotSize slotBytes (λ q. slotOf b (slotOffset z q)) b (slotsFrom z)
+        (λ q hq. slot-part (slotOffset z q) (omega (arith, s .len)) (second-zero q hq)))
 
-    rec-free : (q : ℕ) → num b uPlace ≤ q → q < z .j → recOf b (recPlace z q) ≡ noRec
+    rec-free : (q : ℕ) → num b uOffset ≤ q → q < z .j → recOf b (recOffset z q) ≡ noRec
     unfolding noRec
     rec-free q hu hq =
-        let o = recPlace z q in
+        let o = recOffset z q in
         let at : (j : ℕ) → j < recSize → (i : ℕ) → i ≡ o + j → getD b i 0 ≡ 0 = λ j hj i e. s .freeRecords i (omega arith) (omega arith) in
         λ i. record {
           lbn = num-free o (at 0 (omega arith) o (omega arith)) (at 1 (omega arith) (o + 1) refl) i;
@@ -150,10 +157,12 @@ module _ (b : List ℕ) (small : (i : ℕ) → getD b i 0 < 256) where
           after = num-free (o + 4) (at 4 (omega arith) (o + 4) refl) (at 5 (omega arith) (o + 4 + 1) (omega arith)) i;
         }
 
-    records-part : flat recBytes (fit noRec (z .j) (tab (num b uPlace) (λ q. recOf b (recPlace z q)))) ≡ part b (recordsFrom z) (z .j * recSize)
+    records-part : flat recBytes (fit noRec (z .j) (tab (num b uOffset) (λ q. recOf b (recOffset z q))))
+        ≡ part b (recordsFrom z) (z .j * recSize)
     records-part =
-        rw (fit-tab noRec (num b uPlace) (z .j) (λ q. recOf b (recPlace z q)) (s .records) rec-free)
-        (flat-tab (z .j) recSize recBytes (λ q. recOf b (recPlace z q)) b (recordsFrom z) (λ q hq. rec-part (recPlace z q) (omega (arith, s .len))))
+        rw (fit-tab noRec (num b uOffset) (z .j) (λ q. recOf b (recOffset z q)) (s .records) rec-free)
+        (flat-tab (z .j) recSize recBytes (λ q. recOf b (recOffset z q)) b (recordsFrom z)
+        (λ q hq. rec-part (recOffset z q) (omega (arith, s .len))))
 
     -- ---- the whole
 
@@ -164,8 +173,8 @@ module _ (b : List ℕ) (small : (i : ℕ) → getD b i 0 < 256) where
         let whole = sym (joined-parts lengths b 0 (omega (arith, s .len))) in
         let head =
         (λ i. flat two
-        (layoutNumber ∷ z .n ∷ z .l ∷ z .s ∷ z .j ∷ length-tab (num b bPlace) (λ q. slotOf b (slotPlace z q)) i
-        ∷ length-tab (num b uPlace) (λ q. recOf b (recPlace z q)) i ∷ num b dayPlace ∷ num b cursorPlace ∷ 0 ∷ []))
+        (layoutNumber ∷ z .n ∷ z .l ∷ z .s ∷ z .j ∷ length-tab (num b bOffset) (λ q. slotOf b (slotOffset z q)) i
+        ∷ length-tab (num b uOffset) (λ q. recOf b (recOffset z q)) i ∷ num b dayOffset ∷ num b cursorOffset ∷ 0 ∷ []))
         ∙ head-part
         in
         whole ∙ sym (λ i. joined (head i ∷ retentions-part i ∷ entries-part i ∷ maps-part i ∷ slots-part i ∷ records-part i ∷ []))
@@ -174,11 +183,11 @@ module _ (b : List ℕ) (small : (i : ℕ) → getD b i 0 < 256) where
     unfolding bookOf
     sized-book =
         record {
-          retentions = length-tab volumes (λ v. num b (retentionPlace v));
+          retentions = length-tab volumes (λ v. num b (retentionOffset v));
           entries = length-tab (z .n) (entryOf b);
-          prints = λ p hp. rw (getD-tab (z .n) (entryOf b) p freeEntry hp) (length-tab printSize (λ i. getD b (entryPlace p + 4 + i) 0));
+          prints = λ p hp. rw (getD-tab (z .n) (entryOf b) p freeEntry hp) (length-tab printSize (λ i. getD b (entryOffset p + 4 + i) 0));
           maps = length-tab volumes row;
           cells = λ v hv. rw (getD-tab volumes row v [] hv) (length-tab (z .l) (cellOf b v));
-          slots = rw (length-tab (num b bPlace) (λ q. slotOf b (slotPlace z q))) (s .slots);
-          records = rw (length-tab (num b uPlace) (λ q. recOf b (recPlace z q))) (s .records);
+          slots = rw (length-tab (num b bOffset) (λ q. slotOf b (slotOffset z q))) (s .slots);
+          records = rw (length-tab (num b uOffset) (λ q. recOf b (recOffset z q))) (s .records);
         }

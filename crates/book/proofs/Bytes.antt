@@ -1,4 +1,4 @@
--- Where the sections of a book's bytes start, how long they are, and which byte stands at each place.
+-- Where the sections of a book's bytes start, how long they are, and which byte stands at each offset.
 use mathlib.Core.Path.{_≡_, refl, _∙_}
 use mathlib.Core.List.{List, []}
 use Prim.Native.Nat.{ℕ, _+_, _*_, _<_}
@@ -8,8 +8,11 @@ use Rattle.words.specs.Blocks.{unmapped}
 use Rattle.words.specs.Numbers.{two}
 use Rattle.words.proofs.SectionLaws.{start, getD-joined, length-sect, getD-sect, length-fit, inside}
 use Rattle.words.specs.Sections.{flat, fit}
-use Rattle.book.specs.Book.{volumes, Sizes, Entry, Slot, Rec, Book, freeEntry, noSlot, noRec, entryAt, cellAt, slotAt, recAt, retentionOf}
-use Rattle.book.specs.Layout.{headerSize, entrySize, slotSize, recSize, retentionPlace, entriesFrom, entryPlace, mapsFrom, cellPlace, slotsFrom, slotPlace, recordsFrom, recPlace, bookSize, entryBytes, mapBytes, slotBytes, recBytes, headerWords, sections, bytes}
+use Rattle.book.specs.Book.{volumes, Sizes, Entry, Slot, Rec, Book, freeEntry, noSlot, noRec, entryAt, cellAt, slotAt, recAt}
+use Rattle.book.specs.Book.{retentionOf}
+use Rattle.book.specs.Layout.{headerSize, entrySize, slotSize, recSize, retentionOffset, entriesFrom, entryOffset, mapsFrom}
+use Rattle.book.specs.Layout.{cellOffset, slotsFrom, slotOffset, recordsFrom, recOffset, bookSize, entryBytes, mapBytes, slotBytes}
+use Rattle.book.specs.Layout.{recBytes, headerWords, sections, bytes}
 
 -- "length: 36 + 20N + 16L + 8S + 6J"
 pub size-of : (z : Sizes) → bookSize z ≡ 36 + 20 * z .n + 16 * z .l + 8 * z .s + 6 * z .j
@@ -68,7 +71,7 @@ module _ (x : Book) where
   unfolding bytes
   length-bytes = simp length-append (rw (retentions-long, entries-long, maps-long, slots-long, records-long) (omega arith))
 
-  -- ---- the byte at each place
+  -- ---- the byte at each offset
 
   -- the byte at i is byte j of section k, which starts at o and has m bytes
   get-in : (k o m j i : ℕ) → start (sections x) k ≡ o → length (getD (sections x) k []) ≡ m → j < m → i ≡ o + j
@@ -79,33 +82,34 @@ module _ (x : Book) where
   pub get-head : (i : ℕ) → i < headerSize → getD (bytes x) i 0 ≡ getD (flat two (headerWords x)) i 0
   get-head i h = get-in 0 0 headerSize i i refl refl h (omega arith)
 
-  pub get-retention : (v j i : ℕ) → v < volumes → j < 2 → i ≡ retentionPlace v + j → getD (bytes x) i 0 ≡ getD (two (retentionOf x v)) j 0
+  pub get-retention : (v j i : ℕ) → v < volumes → j < 2 → i ≡ retentionOffset v + j → getD (bytes x) i 0 ≡ getD (two (retentionOf x v)) j 0
   get-retention v j i hv hj e =
       get-in 1 headerSize (volumes * 2) (v * 2 + j) i refl retentions-long (omega arith) (omega arith)
       ∙ getD-sect 2 two two-size 0 volumes (x .retentions) v j hv hj
 
-  pub get-entry : (p j i : ℕ) → p < x .sizes .n → j < entrySize → i ≡ entryPlace p + j
+  pub get-entry : (p j i : ℕ) → p < x .sizes .n → j < entrySize → i ≡ entryOffset p + j
       → getD (bytes x) i 0 ≡ getD (entryBytes (entryAt (x .entries) p)) j 0
   get-entry p j i hp hj e =
       get-in 2 entriesFrom (x .sizes .n * entrySize) (p * entrySize + j) i start-entries entries-long (omega arith) (omega arith)
       ∙ getD-sect entrySize entryBytes entry-size freeEntry (x .sizes .n) (x .entries) p j hp hj
 
-  pub get-cell : (v l j i : ℕ) → v < volumes → l < x .sizes .l → j < 2 → i ≡ cellPlace (x .sizes) v l + j
+  pub get-cell : (v l j i : ℕ) → v < volumes → l < x .sizes .l → j < 2 → i ≡ cellOffset (x .sizes) v l + j
       → getD (bytes x) i 0 ≡ getD (two (cellAt (x .maps) v l)) j 0
   get-cell v l j i hv hl hj e =
       let w = x .sizes .l * 2 in
       let hin : l * 2 + j < w = omega arith in
-      get-in 3 (mapsFrom (x .sizes)) (volumes * w) (v * w + (l * 2 + j)) i start-maps maps-long (inside v (l * 2 + j) volumes w hv hin) (omega arith)
+      get-in 3 (mapsFrom (x .sizes)) (volumes * w) (v * w + (l * 2 + j)) i start-maps maps-long
+      (inside v (l * 2 + j) volumes w hv hin) (omega arith)
       ∙ getD-sect w (mapBytes (x .sizes .l)) (map-size (x .sizes .l)) [] volumes (x .maps) v (l * 2 + j) hv hin
       ∙ getD-sect 2 two two-size unmapped (x .sizes .l) (getD (x .maps) v []) l j hl hj
 
-  pub get-slot : (q j i : ℕ) → q < x .sizes .s → j < slotSize → i ≡ slotPlace (x .sizes) q + j
+  pub get-slot : (q j i : ℕ) → q < x .sizes .s → j < slotSize → i ≡ slotOffset (x .sizes) q + j
       → getD (bytes x) i 0 ≡ getD (slotBytes (slotAt (x .slots) q)) j 0
   get-slot q j i hq hj e =
       get-in 4 (slotsFrom (x .sizes)) (x .sizes .s * slotSize) (q * slotSize + j) i start-slots slots-long (omega arith) (omega arith)
       ∙ getD-sect slotSize slotBytes slot-size noSlot (x .sizes .s) (x .slots) q j hq hj
 
-  pub get-rec : (q j i : ℕ) → q < x .sizes .j → j < recSize → i ≡ recPlace (x .sizes) q + j
+  pub get-rec : (q j i : ℕ) → q < x .sizes .j → j < recSize → i ≡ recOffset (x .sizes) q + j
       → getD (bytes x) i 0 ≡ getD (recBytes (recAt (x .records) q)) j 0
   get-rec q j i hq hj e =
       get-in 5 (recordsFrom (x .sizes)) (x .sizes .j * recSize) (q * recSize + j) i start-records records-long (omega arith) (omega arith)

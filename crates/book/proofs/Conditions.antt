@@ -16,7 +16,7 @@ use Rattle.words.proofs.ChoiceLaws.{and-true, or-cases}
 use Rattle.words.specs.Lists.{all, allZero}
 use Rattle.book.specs.Book.{Entry, Slot, Rec, Book, freeEntry, noSlot, noRec, entryAt, cellAt, slotAt, recAt, retentionOf}
 use Rattle.book.specs.Form.{retentionOk, entryOk, pbnOk, recOk, enrolled, slotOk, laterOk, daysOk, pairsOk}
-use Rattle.book.specs.Formed.{BookParts}
+use Rattle.book.specs.FormFacts.{BookParts}
 
 -- a block number is below n or unmapped
 pub pbn-cases : (n p : ℕ) → pbnOk n p ≡ true → (p < n) ⊎ (p ≡ unmapped)
@@ -77,7 +77,9 @@ module _ (x : Book) (h : BookParts x) where
   cell-in v l = go (decLt l (length (getD (x .maps) v [])))
     where
       go : Dec (l < length (getD (x .maps) v [])) → (cellAt (x .maps) v l < x .sizes .n) ⊎ (cellAt (x .maps) v l ≡ unmapped)
-      go (yes k) = pbn-cases (x .sizes .n) (cellAt (x .maps) v l) (all-place (pbnOk (x .sizes .n)) (getD (x .maps) v []) unmapped l (row-in v (decLt v (length (x .maps)))) k)
+      go (yes k) =
+          pbn-cases (x .sizes .n) (cellAt (x .maps) v l)
+          (all-place (pbnOk (x .sizes .n)) (getD (x .maps) v []) unmapped l (row-in v (decLt v (length (x .maps)))) k)
       go (no k) = inr (List·getD-eq-default (getD (x .maps) v []) unmapped {n = l} (omega arith))
 
   pub slot-in : (q : ℕ) → q < length (x .slots) → (enrolled x (slotAt (x .slots) q .volume) ≡ true) × (slotAt (x .slots) q .day ≤ x .day)
@@ -92,7 +94,9 @@ module _ (x : Book) (h : BookParts x) where
   rec-in q l =
       let r = recAt (x .records) q in
       let lbn = ltb (r .lbn) (x .sizes .l) in
-      let t = and-true (lbn && pbnOk (x .sizes .n) (r .before)) (ltb (r .after) (x .sizes .n)) (all-place (recOk (x .sizes)) (x .records) noRec q (h .records) l) in
+      let t =
+      and-true (lbn && pbnOk (x .sizes .n) (r .before)) (ltb (r .after) (x .sizes .n))
+      (all-place (recOk (x .sizes)) (x .records) noRec q (h .records) l) in
       let u = and-true lbn (pbnOk (x .sizes .n) (r .before)) (t .0) in
       record {
         lbn = ltb-true (r .lbn) (x .sizes .l) (u .0);
@@ -115,13 +119,17 @@ days-in [] e q r h l = absurd (not-suc-le-zero l)
 days-in (t ∷ ts) e q zero h l = absurd (not-suc-le-zero h)
 days-in (t ∷ ts) e zero (suc r) h l =
     later-facts t (slotAt ts r) (all-place (laterOk t) ts noSlot r (and-true (all (laterOk t) ts) (daysOk ts) e .0) (le-of-suc-le-suc l))
-days-in (t ∷ ts) e (suc q) (suc r) h l = days-in ts (and-true (all (laterOk t) ts) (daysOk ts) e .1) q r (le-of-suc-le-suc h) (le-of-suc-le-suc l)
+days-in (t ∷ ts) e (suc q) (suc r) h l =
+    days-in ts (and-true (all (laterOk t) ts) (daysOk ts) e .1) q r (le-of-suc-le-suc h) (le-of-suc-le-suc l)
 
 -- ---- pairs
 
 pairs-le : (ts : List Slot) (at u : ℕ) → pairsOk at ts u ≡ true → at ≤ u
 pairs-le [] at u e = let z = eqb-true at u e in omega arith
-pairs-le (t ∷ ts) at u e = let z = pairs-le ts (at + t .number) u (and-true (eqb (t .first) at) (pairsOk (at + t .number) ts u) e .1) in omega arith
+pairs-le (t ∷ ts) at u e =
+    let z =
+    pairs-le ts (at + t .number) u (and-true (eqb (t .first) at) (pairsOk (at + t .number) ts u) e .1)
+    in omega arith
 
 -- a used slot's records stand within those used
 pub pairs-in : (ts : List Slot) (at u : ℕ) → pairsOk at ts u ≡ true → (q : ℕ) → q < length ts → slotAt ts q .first + slotAt ts q .number ≤ u
@@ -129,4 +137,6 @@ pairs-in [] at u e q l = absurd (not-suc-le-zero l)
 pairs-in (t ∷ ts) at u e zero l =
     let s = and-true (eqb (t .first) at) (pairsOk (at + t .number) ts u) e in
     omega (arith, eqb-true (t .first) at (s .0), pairs-le ts (at + t .number) u (s .1))
-pairs-in (t ∷ ts) at u e (suc q) l = pairs-in ts (at + t .number) u (and-true (eqb (t .first) at) (pairsOk (at + t .number) ts u) e .1) q (le-of-suc-le-suc l)
+pairs-in (t ∷ ts) at u e (suc q) l =
+    pairs-in ts (at + t .number) u (and-true (eqb (t .first) at) (pairsOk (at + t .number) ts u) e .1) q
+    (le-of-suc-le-suc l)

@@ -11,9 +11,9 @@ use Rattle.words.specs.Numbers.{two}
 use Rattle.words.specs.Sections.{fit}
 use Rattle.words.proofs.SectionLaws.{sets-cons, sets-whole, length-fit, fit-all}
 use Rattle.book.specs.Book.{Entry, Book, noPrint, freeEntry, entryAt}
-use Rattle.book.specs.Layout.{entryPlace, stateByte, entryBytes, bytes}
-use Rattle.book.specs.Next.{withEntries, countAs, expiryAs, heldAs, freed, withEntry}
-use Rattle.book.proofs.Store.{set-entry}
+use Rattle.book.specs.Layout.{entryOffset, stateByte, entryBytes, bytes}
+use Rattle.book.specs.Next.{withEntries, countAs, expiryAs, heldAs, madeFree, withEntry}
+use Rattle.book.proofs.FieldsWritten.{set-entry}
 
 -- ---- an entry's bytes
 
@@ -52,18 +52,21 @@ print-stored e f hf =
 
 -- ---- the book
 
-module _ (x : Book) (p i : ℕ) (hp : p < x .sizes .n) (hs : length (x .entries) ≡ x .sizes .n) (e : i ≡ entryPlace p) where
+module _ (x : Book) (p i : ℕ) (hp : p < x .sizes .n) (hs : length (x .entries) ≡ x .sizes .n) (e : i ≡ entryOffset p) where
   pub set-count : (c : ℕ) → set (bytes x) i c ≡ bytes (withEntry (countAs c) p x)
   set-count c =
-      set-entry x p 0 i (c ∷ []) (countAs c (entryAt (x .entries) p)) hp hs (omega arith) (omega arith) (count-stored (entryAt (x .entries) p) c)
+      set-entry x p 0 i (c ∷ []) (countAs c (entryAt (x .entries) p)) hp hs (omega arith) (omega arith)
+      (count-stored (entryAt (x .entries) p) c)
 
   pub set-expiry : (d : ℕ) → sets (bytes x) (i + 2) (two d) ≡ bytes (withEntry (expiryAs d) p x)
   set-expiry d =
-      set-entry x p 2 (i + 2) (two d) (expiryAs d (entryAt (x .entries) p)) hp hs (omega arith) (omega arith) (expiry-stored (entryAt (x .entries) p) d)
+      set-entry x p 2 (i + 2) (two d) (expiryAs d (entryAt (x .entries) p)) hp hs (omega arith) (omega arith)
+      (expiry-stored (entryAt (x .entries) p) d)
 
   -- a state and a fingerprint
   set-state-print : (h : Bool) (f : List ℕ) → length f ≡ printSize
-      → sets (set (bytes x) (i + 1) (stateByte h)) (i + 4) f ≡ bytes (withEntries (set (x .entries) p (printAs f (stateAs h (entryAt (x .entries) p)))) x)
+      → sets (set (bytes x) (i + 1) (stateByte h)) (i + 4) f
+      ≡ bytes (withEntries (set (x .entries) p (printAs f (stateAs h (entryAt (x .entries) p)))) x)
   unfolding withEntries
   set-state-print h f hf =
       let y = stateAs h (entryAt (x .entries) p) in
@@ -79,6 +82,6 @@ module _ (x : Book) (p i : ℕ) (hp : p < x .sizes .n) (hs : length (x .entries)
   unfolding heldAs stateAs printAs
   set-held f hf = set-state-print true f hf
 
-  pub set-freed : sets (set (bytes x) (i + 1) 0) (i + 4) (replicate printSize 0) ≡ bytes (withEntry freed p x)
-  unfolding freed noPrint stateAs printAs
+  pub set-freed : sets (set (bytes x) (i + 1) 0) (i + 4) (replicate printSize 0) ≡ bytes (withEntry madeFree p x)
+  unfolding madeFree noPrint stateAs printAs
   set-freed = set-state-print false (replicate printSize 0) refl

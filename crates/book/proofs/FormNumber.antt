@@ -13,7 +13,7 @@ use Rattle.words.specs.Numbers.{num}
 use Rattle.book.specs.Layout.{layoutNumber, headerSize, bookSize, sizesOf, bookOf}
 use Rattle.book.specs.Form.{sizesOk, layoutOk, bookOk, rawOk, formNumber}
 use Rattle.book.proofs.SizesIn.{sizes-facts}
-use Rattle.book.specs.Formed.{Laid}
+use Rattle.book.specs.FormFacts.{Laid}
 
 -- 1 without the layout; then 2 or 0
 pub number-1 : (b : List ℕ) → layoutOk b ≡ false → formNumber b ≡ 1

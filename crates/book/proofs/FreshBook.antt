@@ -11,9 +11,10 @@ use Rattle.words.proofs.Filling.{fit-none, flat-run}
 use Rattle.words.specs.Sections.{flat, fit}
 use Rattle.words.proofs.SectionLaws.{fit-all}
 use Rattle.book.specs.Book.{volumes, Sizes, Entry, Slot, Rec, noPrint, freeEntry, noSlot, noRec}
-use Rattle.book.specs.Layout.{layoutNumber, entrySize, slotSize, recSize, entriesFrom, mapsFrom, entryBytes, mapBytes, slotBytes, recBytes, headerWords, bytes, Is}
+use Rattle.book.specs.Layout.{layoutNumber, entrySize, slotSize, recSize, entriesFrom, mapsFrom, entryBytes, mapBytes, slotBytes}
+use Rattle.book.specs.Layout.{recBytes, headerWords, bytes, Is}
 use Rattle.book.specs.Next.{fresh}
-use Rattle.book.specs.Formed.{Bounds}
+use Rattle.book.specs.FormFacts.{Bounds}
 use Rattle.book.proofs.Sizing.{sized-fresh}
 use Rattle.book.proofs.Holding.{is-bytes}
 
@@ -40,10 +41,12 @@ map-unmapped l =
 module _ (z : Sizes) where
   entries-zero : flat entryBytes (fit freeEntry (z .n) (replicate (z .n) freeEntry)) ≡ zeros (z .n * entrySize)
   entries-zero =
-      ap (λ (es : List Entry). flat entryBytes es) (fit-all freeEntry (z .n) (replicate (z .n) freeEntry) (length-replicate (z .n) freeEntry))
+      ap (λ (es : List Entry). flat entryBytes es)
+      (fit-all freeEntry (z .n) (replicate (z .n) freeEntry) (length-replicate (z .n) freeEntry))
       ∙ flat-run (z .n) entrySize 0 entryBytes freeEntry entry-zero
 
-  maps-unmapped : flat (mapBytes (z .l)) (fit [] volumes (replicate volumes (replicate (z .l) unmapped))) ≡ replicate (volumes * (z .l * 2)) 255
+  maps-unmapped : flat (mapBytes (z .l)) (fit [] volumes (replicate volumes (replicate (z .l) unmapped)))
+      ≡ replicate (volumes * (z .l * 2)) 255
   maps-unmapped = flat-run volumes (z .l * 2) 255 (mapBytes (z .l)) (replicate (z .l) unmapped) (map-unmapped (z .l))
 
   slots-zero : flat slotBytes (fit noSlot (z .s) []) ≡ zeros (z .s * slotSize)
@@ -60,7 +63,8 @@ module _ (z : Sizes) where
       ≡ bytes (fresh z)
   unfolding bytes fresh
   bytes-fresh =
-      let low : zeros (mapsFrom z) ≡ zeros entriesFrom ++ zeros (z .n * entrySize) = sym (replicate-append-replicate entriesFrom (z .n * entrySize) 0) in
+      let low : zeros (mapsFrom z) ≡ zeros entriesFrom ++ zeros (z .n * entrySize) =
+      sym (replicate-append-replicate entriesFrom (z .n * entrySize) 0) in
       let high : zeros (z .s * slotSize + z .j * recSize) ≡ zeros (z .s * slotSize) ++ (zeros (z .j * recSize) ++ []) =
       sym (replicate-append-replicate (z .s * slotSize) (z .j * recSize) 0)
       ∙ ap (λ (r : List ℕ). zeros (z .s * slotSize) ++ r) (sym (append-nil (zeros (z .j * recSize))))

@@ -7,12 +7,12 @@ use lib.ListN.{length, getD}
 use Rattle.book.specs.Book.{Sizes, Book, Sized}
 use Rattle.book.specs.Layout.{bytes, sizesOf, bookOf, Holds, Is}
 use Rattle.book.specs.Form.{sizesOk}
-use Rattle.book.specs.Formed.{SizesIn}
+use Rattle.book.specs.FormFacts.{SizesIn}
 use Rattle.book.proofs.SizesIn.{sizes-facts}
 use Rattle.book.proofs.Bytes.{length-bytes}
 use Rattle.book.proofs.Laws.{book-bytes}
-use Rattle.book.proofs.Shape.{Shape}
-use Rattle.book.specs.Formed.{Bounds}
+use Rattle.book.proofs.Outline.{Outline}
+use Rattle.book.specs.FormFacts.{Bounds}
 use Rattle.book.proofs.Back.{bytes-book, sized-book}
 
 holds-of : (b : List ℕ) → b ≡ bytes (bookOf b) → Sized (bookOf b) → Bounds (bookOf b .sizes) → Holds b
@@ -29,9 +29,9 @@ holds-of b e s z =
       records = s .records;
     }
 
-pub holds-shape : (b : List ℕ) → ((i : ℕ) → getD b i 0 < 256) → Shape b → Bounds (sizesOf b) → Holds b
+pub holds-outline : (b : List ℕ) → ((i : ℕ) → getD b i 0 < 256) → Outline b → Bounds (sizesOf b) → Holds b
 unfolding bookOf
-holds-shape b small s z = holds-of b (bytes-book b small s) (sized-book b small s) z
+holds-outline b small s z = holds-of b (bytes-book b small s) (sized-book b small s) z
 
 -- b is x, from its bytes, and back
 pub is-bytes : {b : List ℕ} (x : Book) → Sized x → Bounds (x .sizes) → b ≡ bytes x → Is b x
@@ -58,3 +58,10 @@ bounds-in i = record { n = i .n; l = i .l; s = i .s; j = i .j }
 
 pub bounds-ok : (z : Sizes) → sizesOk z ≡ true → Bounds z
 bounds-ok z e = bounds-in (sizes-facts z e)
+
+-- one writer after another
+pub is-then : (g : Book → Book) {b₁ b₂ : List ℕ} {x : Book} → Is b₁ x → Is b₂ (g (bookOf b₁)) → Is b₂ (g x)
+is-then g i j = record { holds = j .holds; book = j .book ∙ ap g (i .book) }
+
+pub is-same : {b : List ℕ} {x y : Book} → x ≡ y → Is b x → Is b y
+is-same e i = record { holds = i .holds; book = i .book ∙ e }

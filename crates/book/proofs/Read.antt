@@ -1,4 +1,4 @@
--- What stands at a place of bytes, as a field of the book that they say: what each reader's proof takes.
+-- What stands at an offset of bytes, as a field of the book that they say: what each reader's proof takes.
 use mathlib.Core.Path.{_≡_, refl, sym, ap}
 use mathlib.Core.List.{List, []}
 use Prim.Native.Nat.{ℕ, _+_, _*_, _≤_, _<_}
@@ -11,51 +11,53 @@ use Rattle.words.specs.Numbers.{two, num}
 use Rattle.words.specs.Sections.{flat, tab, part}
 use Rattle.words.proofs.SectionLaws.{length-tab, getD-tab, part-tab, inside}
 use Rattle.book.specs.Book.{volumes, freeEntry, noSlot, noRec, entryAt, cellAt, slotAt, recAt, retentionOf}
-use Rattle.book.specs.Layout.{nPlace, lPlace, sPlace, jPlace, bPlace, uPlace, dayPlace, cursorPlace, retentionPlace, entryPlace, mapsFrom, cellPlace, slotPlace, recPlace, sizesOf, entryOf, cellOf, slotOf, recOf, bookOf, Holds}
+use Rattle.book.specs.Layout.{nOffset, lOffset, sOffset, jOffset, bOffset, uOffset, dayOffset, cursorOffset, retentionOffset}
+use Rattle.book.specs.Layout.{entryOffset, mapsFrom, cellOffset, slotOffset, recOffset, sizesOf, entryOf, cellOf, slotOf, recOf}
+use Rattle.book.specs.Layout.{bookOf, Holds}
 use Rattle.book.proofs.Back.{nums-part}
 
 module _ (b : List ℕ) where
-  pub n-at : num b nPlace ≡ bookOf b .sizes .n
+  pub n-at : num b nOffset ≡ bookOf b .sizes .n
   unfolding bookOf
   n-at = refl
 
-  pub l-at : num b lPlace ≡ bookOf b .sizes .l
+  pub l-at : num b lOffset ≡ bookOf b .sizes .l
   unfolding bookOf
   l-at = refl
 
-  pub s-at : num b sPlace ≡ bookOf b .sizes .s
+  pub s-at : num b sOffset ≡ bookOf b .sizes .s
   unfolding bookOf
   s-at = refl
 
-  pub j-at : num b jPlace ≡ bookOf b .sizes .j
+  pub j-at : num b jOffset ≡ bookOf b .sizes .j
   unfolding bookOf
   j-at = refl
 
-  pub b-at : num b bPlace ≡ length (bookOf b .slots)
+  pub b-at : num b bOffset ≡ length (bookOf b .slots)
   unfolding bookOf
-  b-at = sym (length-tab (num b bPlace) (λ q. slotOf b (slotPlace (sizesOf b) q)))
+  b-at = sym (length-tab (num b bOffset) (λ q. slotOf b (slotOffset (sizesOf b) q)))
 
-  pub u-at : num b uPlace ≡ length (bookOf b .records)
+  pub u-at : num b uOffset ≡ length (bookOf b .records)
   unfolding bookOf
-  u-at = sym (length-tab (num b uPlace) (λ q. recOf b (recPlace (sizesOf b) q)))
+  u-at = sym (length-tab (num b uOffset) (λ q. recOf b (recOffset (sizesOf b) q)))
 
-  pub day-at : num b dayPlace ≡ bookOf b .day
+  pub day-at : num b dayOffset ≡ bookOf b .day
   unfolding bookOf
   day-at = refl
 
-  pub cursor-at : num b cursorPlace ≡ bookOf b .cursor
+  pub cursor-at : num b cursorOffset ≡ bookOf b .cursor
   unfolding bookOf
   cursor-at = refl
 
-  pub retention-at : (v : ℕ) → v < volumes → num b (retentionPlace v) ≡ retentionOf (bookOf b) v
+  pub retention-at : (v : ℕ) → v < volumes → num b (retentionOffset v) ≡ retentionOf (bookOf b) v
   unfolding bookOf
-  retention-at v hv = sym (getD-tab volumes (λ v. num b (retentionPlace v)) v 0 hv)
+  retention-at v hv = sym (getD-tab volumes (λ v. num b (retentionOffset v)) v 0 hv)
 
   entry-at : (p : ℕ) → p < bookOf b .sizes .n → entryOf b p ≡ entryAt (bookOf b .entries) p
   unfolding bookOf
-  entry-at p hp = sym (getD-tab (num b nPlace) (entryOf b) p freeEntry hp)
+  entry-at p hp = sym (getD-tab (num b nOffset) (entryOf b) p freeEntry hp)
 
-  module _ (p i : ℕ) (hp : p < bookOf b .sizes .n) (e : i ≡ entryPlace p) where
+  module _ (p i : ℕ) (hp : p < bookOf b .sizes .n) (e : i ≡ entryOffset p) where
     pub count-at : getD b i 0 ≡ entryAt (bookOf b .entries) p .count
     count-at = rw (e, ← entry-at p hp)
 
@@ -68,20 +70,21 @@ module _ (b : List ℕ) where
     pub print-at : Holds b → part b (i + 4) printSize ≡ entryAt (bookOf b .entries) p .print
     print-at h =
         rw (e, ← entry-at p hp)
-        (sym (part-tab printSize b (entryPlace p + 4) (λ k. getD b (entryPlace p + 4 + k) 0) (omega (arith, h)) (λ k hk. refl)))
+        (sym (part-tab printSize b (entryOffset p + 4) (λ k. getD b (entryOffset p + 4 + k) 0) (omega (arith, h)) (λ k hk. refl)))
 
-  pub cell-at : (v l i : ℕ) → v < volumes → l < bookOf b .sizes .l → i ≡ cellPlace (bookOf b .sizes) v l → num b i ≡ cellAt (bookOf b .maps) v l
+  pub cell-at : (v l i : ℕ) → v < volumes → l < bookOf b .sizes .l → i ≡ cellOffset (bookOf b .sizes) v l
+      → num b i ≡ cellAt (bookOf b .maps) v l
   unfolding bookOf
   cell-at v l i hv hl e =
-      rw (e, getD-tab volumes (λ v. tab (num b lPlace) (cellOf b v)) v [] hv, getD-tab (num b lPlace) (cellOf b v) l unmapped hl)
+      rw (e, getD-tab volumes (λ v. tab (num b lOffset) (cellOf b v)) v [] hv, getD-tab (num b lOffset) (cellOf b v) l unmapped hl)
 
-  pub slot-at : (q i : ℕ) → q < length (bookOf b .slots) → i ≡ slotPlace (bookOf b .sizes) q → slotOf b i ≡ slotAt (bookOf b .slots) q
+  pub slot-at : (q i : ℕ) → q < length (bookOf b .slots) → i ≡ slotOffset (bookOf b .sizes) q → slotOf b i ≡ slotAt (bookOf b .slots) q
   unfolding bookOf
-  slot-at q i hq e = rw e (sym (getD-tab (num b bPlace) (λ q. slotOf b (slotPlace (sizesOf b) q)) q noSlot (rw b-at hq)))
+  slot-at q i hq e = rw e (sym (getD-tab (num b bOffset) (λ q. slotOf b (slotOffset (sizesOf b) q)) q noSlot (rw b-at hq)))
 
-  pub rec-at : (q i : ℕ) → q < length (bookOf b .records) → i ≡ recPlace (bookOf b .sizes) q → recOf b i ≡ recAt (bookOf b .records) q
+  pub rec-at : (q i : ℕ) → q < length (bookOf b .records) → i ≡ recOffset (bookOf b .sizes) q → recOf b i ≡ recAt (bookOf b .records) q
   unfolding bookOf
-  rec-at q i hq e = rw e (sym (getD-tab (num b uPlace) (λ q. recOf b (recPlace (sizesOf b) q)) q noRec (rw u-at hq)))
+  rec-at q i hq e = rw e (sym (getD-tab (num b uOffset) (λ q. recOf b (recOffset (sizesOf b) q)) q noRec (rw u-at hq)))
 
 -- cell l of row v, both bytes, in maps of w cells
 pub cell-room : (v l w : ℕ) → v < volumes → l < w → v * (w * 2) + (l * 2 + 1) < volumes * (w * 2)
@@ -96,7 +99,7 @@ pub row-at : (b : List ℕ) (v i : ℕ) → ((i : ℕ) → getD b i 0 < 256) →
     → part b i (bookOf b .sizes .l * 2) ≡ flat two (getD (bookOf b .maps) v [])
 unfolding bookOf
 row-at b v i small h hv e =
-    let l = num b lPlace in
+    let l = num b lOffset in
     rw (getD-tab volumes (λ v. tab l (cellOf b v)) v [] hv)
     (sym (nums-part b small l i (cellOf b v) (omega (arith, h .len, row-room v l hv, e))
     (λ c hc. rw e (ap (λ (a : ℕ). num b a) (sym (add-assoc (mapsFrom (sizesOf b)) (v * (l * 2)) (c * 2)))))))

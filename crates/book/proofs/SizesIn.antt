@@ -7,7 +7,7 @@ use borrow.Author.Tests.{leb-true, le-leb}
 use Rattle.words.proofs.ChoiceLaws.{and-true}
 use Rattle.book.specs.Book.{Sizes}
 use Rattle.book.specs.Form.{between, sizesOk}
-use Rattle.book.specs.Formed.{SizesIn}
+use Rattle.book.specs.FormFacts.{SizesIn}
 
 between-facts : (low high k : ℕ) → between low high k ≡ true → (low ≤ k) × (k ≤ high)
 unfolding between
@@ -32,5 +32,14 @@ sizes-facts z e =
 pub sizes-in : (z : Sizes) → SizesIn z → sizesOk z ≡ true
 unfolding sizesOk between
 sizes-in z h =
-    rw (le-leb 1 (z .n) (h .n₀), le-leb (z .n) 4096 (h .n), le-leb 1 (z .l) (h .l₀), le-leb (z .l) 1024 (h .l), le-leb 1 (z .s) (h .s₀), le-leb (z .s) 1024 (h .s), le-leb 1 (z .j) (h .j₀))
+    rw (
+      le-leb 1 (z .n) (h .n₀),
+      le-leb (z .n) 4096 (h .n),
+      le-leb 1 (z .l) (h .l₀),
+      le-leb (z .l) 1024 (h .l),
+      le-leb 1
+          (z .s) (h .s₀),
+      le-leb (z .s) 1024 (h .s),
+      le-leb 1 (z .j) (h .j₀),
+    )
     (le-leb (z .j) 16384 (h .j))

@@ -6,7 +6,8 @@ use native.Mathlib.Omega.{arith}
 use lib.ListN.{length, getD, set, replicate, length-set, length-append, length-replicate, getD-replicate}
 use Rattle.words.specs.Blocks.{printSize, unmapped}
 use Rattle.book.specs.Book.{volumes, Sizes, Entry, Slot, Rec, Book, noPrint, freeEntry, entryAt, Sized}
-use Rattle.book.specs.Next.{withDay, withCursor, withRetention, withEntries, withMaps, withSlot, withRecord, countAs, expiryAs, heldAs, freed, withEntry, withCell, fresh}
+use Rattle.book.specs.Next.{withDay, withCursor, withRetention, withEntries, withMaps, withSlot, withRecord, countAs, expiryAs}
+use Rattle.book.specs.Next.{heldAs, madeFree, withEntry, withCell, fresh}
 
 -- ---- no change but a format touches the sizes
 
@@ -116,9 +117,9 @@ module _ (x : Book) (s : Sized x) where
   unfolding heldAs
   sized-held p f h = sized-entry (heldAs f) p h
 
-  pub sized-freed : (p : ℕ) → Sized (withEntry freed p x)
-  unfolding freed noPrint
-  sized-freed p = sized-entry freed p refl
+  pub sized-freed : (p : ℕ) → Sized (withEntry madeFree p x)
+  unfolding madeFree noPrint
+  sized-freed p = sized-entry madeFree p refl
 
   pub sized-cell : (v l p : ℕ) → v < volumes → Sized (withCell v l p x)
   unfolding withMaps

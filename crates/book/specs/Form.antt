@@ -13,7 +13,7 @@
 --   and don't pass the header's day                             bookOk: slotOk
 --   pairs: the first at 0, each next, the last ends at U        bookOk: pairsOk
 --   unused slots and records are zero                           rawOk
---   a slot's second byte, the spare header field are zero       rawOk: secondOk, and zeroPlace
+--   a slot's second byte, the spare header field are zero       rawOk: secondOk, and zeroOffset
 -- rawOk has what only the bytes show, bookOk what the book that they say shows.
 use Prim.Native.Nat.{ℕ, _+_, _-_, _*_}
 use mathlib.Core.Bool.{Bool, true, not, _&&_, _||_}
@@ -26,7 +26,8 @@ use Rattle.words.specs.Lists.{all, allZero, upFrom}
 use Rattle.words.specs.Numbers.{num}
 use Rattle.words.specs.Sections.{part}
 use Rattle.book.specs.Book.{Sizes, Entry, Slot, Rec, Book, retentionOf}
-use Rattle.book.specs.Layout.{layoutNumber, headerSize, slotSize, recSize, bPlace, uPlace, zeroPlace, entryPlace, slotPlace, recPlace, bookSize, sizesOf, bookOf}
+use Rattle.book.specs.Layout.{layoutNumber, headerSize, slotSize, recSize, bOffset, uOffset, zeroOffset, entryOffset, slotOffset}
+use Rattle.book.specs.Layout.{recOffset, bookSize, sizesOf, bookOf}
 
 unfoldable pub between : ℕ → ℕ → ℕ → Bool
 between low high k = leb low k && leb k high
@@ -95,20 +96,20 @@ bookOk x =
 -- the spare header field are zero"
 
 unfoldable pub stateOk : List ℕ → ℕ → Bool
-stateOk b p = leb (getD b (entryPlace p + 1) 0) 1
+stateOk b p = leb (getD b (entryOffset p + 1) 0) 1
 
 unfoldable pub secondOk : List ℕ → ℕ → Bool
-secondOk b q = eqb (getD b (slotPlace (sizesOf b) q + 1) 0) 0
+secondOk b q = eqb (getD b (slotOffset (sizesOf b) q + 1) 0) 0
 
 unfoldable pub rawOk : List ℕ → Bool
 rawOk b =
-    leb (num b bPlace) (sizesOf b .s)
-    && leb (num b uPlace) (sizesOf b .j)
-    && eqb (num b zeroPlace) 0
+    leb (num b bOffset) (sizesOf b .s)
+    && leb (num b uOffset) (sizesOf b .j)
+    && eqb (num b zeroOffset) 0
     && all (stateOk b) (upFrom 0 (sizesOf b .n))
-    && all (secondOk b) (upFrom 0 (num b bPlace))
-    && allZero (part b (slotPlace (sizesOf b) (num b bPlace)) ((sizesOf b .s - num b bPlace) * slotSize))
-    && allZero (part b (recPlace (sizesOf b) (num b uPlace)) ((sizesOf b .j - num b uPlace) * recSize))
+    && all (secondOk b) (upFrom 0 (num b bOffset))
+    && allZero (part b (slotOffset (sizesOf b) (num b bOffset)) ((sizesOf b .s - num b bOffset) * slotSize))
+    && allZero (part b (recOffset (sizesOf b) (num b uOffset)) ((sizesOf b .j - num b uOffset) * recSize))
 
 -- 1, 2, or 0 for a book in form
 unfoldable pub formNumber : List ℕ → ℕ

@@ -5,6 +5,7 @@ use mathlib.Core.Bool.{Bool}
 use mathlib.Core.List.{List, [], _∷_}
 use lib.ListN.{length, getD}
 use lib.Dec.{eqb}
+use denote.Ref.{RefT, now}
 use Rattle.words.specs.Blocks.{printSize, unmapped}
 use Rattle.words.specs.Choice.{if_then_else_}
 use Rattle.words.specs.Lists.{joined}
@@ -29,60 +30,60 @@ abbrev pub recSize : ℕ
 recSize = 6
 
 -- where the header's numbers stand: "layout; N; L; S; J; B slots used; U records used; day; cursor; zero"
-abbrev pub nPlace : ℕ
-nPlace = 2
+abbrev pub nOffset : ℕ
+nOffset = 2
 
-abbrev pub lPlace : ℕ
-lPlace = 4
+abbrev pub lOffset : ℕ
+lOffset = 4
 
-abbrev pub sPlace : ℕ
-sPlace = 6
+abbrev pub sOffset : ℕ
+sOffset = 6
 
-abbrev pub jPlace : ℕ
-jPlace = 8
+abbrev pub jOffset : ℕ
+jOffset = 8
 
-abbrev pub bPlace : ℕ
-bPlace = 10
+abbrev pub bOffset : ℕ
+bOffset = 10
 
-abbrev pub uPlace : ℕ
-uPlace = 12
+abbrev pub uOffset : ℕ
+uOffset = 12
 
-abbrev pub dayPlace : ℕ
-dayPlace = 14
+abbrev pub dayOffset : ℕ
+dayOffset = 14
 
-abbrev pub cursorPlace : ℕ
-cursorPlace = 16
+abbrev pub cursorOffset : ℕ
+cursorOffset = 16
 
-abbrev pub zeroPlace : ℕ
-zeroPlace = 18
+abbrev pub zeroOffset : ℕ
+zeroOffset = 18
 
 -- where an element stands, by the sizes
-abbrev pub retentionPlace : ℕ → ℕ
-retentionPlace v = headerSize + v * 2
+abbrev pub retentionOffset : ℕ → ℕ
+retentionOffset v = headerSize + v * 2
 
 abbrev pub entriesFrom : ℕ
 entriesFrom = headerSize + volumes * 2
 
-abbrev pub entryPlace : ℕ → ℕ
-entryPlace p = entriesFrom + p * entrySize
+abbrev pub entryOffset : ℕ → ℕ
+entryOffset p = entriesFrom + p * entrySize
 
 abbrev pub mapsFrom : Sizes → ℕ
 mapsFrom z = entriesFrom + z .n * entrySize
 
-abbrev pub cellPlace : Sizes → ℕ → ℕ → ℕ
-cellPlace z v l = mapsFrom z + (v * (z .l * 2) + l * 2)
+abbrev pub cellOffset : Sizes → ℕ → ℕ → ℕ
+cellOffset z v l = mapsFrom z + (v * (z .l * 2) + l * 2)
 
 abbrev pub slotsFrom : Sizes → ℕ
 slotsFrom z = mapsFrom z + volumes * (z .l * 2)
 
-abbrev pub slotPlace : Sizes → ℕ → ℕ
-slotPlace z q = slotsFrom z + q * slotSize
+abbrev pub slotOffset : Sizes → ℕ → ℕ
+slotOffset z q = slotsFrom z + q * slotSize
 
 abbrev pub recordsFrom : Sizes → ℕ
 recordsFrom z = slotsFrom z + z .s * slotSize
 
-abbrev pub recPlace : Sizes → ℕ → ℕ
-recPlace z q = recordsFrom z + q * recSize
+abbrev pub recOffset : Sizes → ℕ → ℕ
+recOffset z q = recordsFrom z + q * recSize
 
 -- "length: 36 + 20N + 16L + 8S + 6J"
 abbrev pub bookSize : Sizes → ℕ
@@ -135,18 +136,18 @@ bytes x = joined (sections x)
 -- ---- what bytes say
 
 abbrev pub sizesOf : List ℕ → Sizes
-sizesOf b = record { n = num b nPlace; l = num b lPlace; s = num b sPlace; j = num b jPlace }
+sizesOf b = record { n = num b nOffset; l = num b lOffset; s = num b sOffset; j = num b jOffset }
 
 abbrev pub entryOf : List ℕ → ℕ → Entry
 entryOf b p = record {
-  count = getD b (entryPlace p) 0;
-  held = eqb (getD b (entryPlace p + 1) 0) 1;
-  expiry = num b (entryPlace p + 2);
-  print = tab printSize (λ i. getD b (entryPlace p + 4 + i) 0);
+  count = getD b (entryOffset p) 0;
+  held = eqb (getD b (entryOffset p + 1) 0) 1;
+  expiry = num b (entryOffset p + 2);
+  print = tab printSize (λ i. getD b (entryOffset p + 4 + i) 0);
 }
 
 abbrev pub cellOf : List ℕ → ℕ → ℕ → ℕ
-cellOf b v l = num b (cellPlace (sizesOf b) v l)
+cellOf b v l = num b (cellOffset (sizesOf b) v l)
 
 abbrev pub slotOf : List ℕ → ℕ → Slot
 slotOf b at = record { volume = getD b at 0; day = num b (at + 2); first = num b (at + 4); number = num b (at + 6) }
@@ -157,14 +158,18 @@ recOf b at = record { lbn = num b at; before = num b (at + 2); after = num b (at
 unfoldable pub bookOf : List ℕ → Book
 bookOf b = record {
   sizes = sizesOf b;
-  day = num b dayPlace;
-  cursor = num b cursorPlace;
-  retentions = tab volumes (λ v. num b (retentionPlace v));
-  entries = tab (num b nPlace) (entryOf b);
-  maps = tab volumes (λ v. tab (num b lPlace) (cellOf b v));
-  slots = tab (num b bPlace) (λ q. slotOf b (slotPlace (sizesOf b) q));
-  records = tab (num b uPlace) (λ q. recOf b (recPlace (sizesOf b) q));
+  day = num b dayOffset;
+  cursor = num b cursorOffset;
+  retentions = tab volumes (λ v. num b (retentionOffset v));
+  entries = tab (num b nOffset) (entryOf b);
+  maps = tab volumes (λ v. tab (num b lOffset) (cellOf b v));
+  slots = tab (num b bOffset) (λ q. slotOf b (slotOffset (sizesOf b) q));
+  records = tab (num b uOffset) (λ q. recOf b (recOffset (sizesOf b) q));
 }
+
+-- what a lent book says
+abbrev pub told : RefT (List ℕ) → Book
+told b = bookOf (now b)
 
 -- ---- what readers and writers require and ensure
 

@@ -2,5 +2,4 @@ pub mod Book
 pub mod Layout
 pub mod Form
 pub mod Next
-pub mod Struct
-pub mod Formed
+pub mod FormFacts

@@ -7,25 +7,102 @@ use Rattle.words.specs.Blocks.{unmapped}
 use Rattle.book.specs.Book.{volumes, Sizes, Entry, Slot, Rec, Book, noPrint, freeEntry, entryAt}
 
 unfoldable pub withDay : ℕ → Book → Book
-withDay d x = record { sizes = x .sizes; day = d; cursor = x .cursor; retentions = x .retentions; entries = x .entries; maps = x .maps; slots = x .slots; records = x .records }
+withDay d x =
+    record {
+      sizes = x .sizes;
+      day = d;
+      cursor = x .cursor;
+      retentions = x .retentions;
+      entries = x .entries;
+      maps
+          = x .maps;
+      slots = x .slots;
+      records = x .records;
+    }
 
 unfoldable pub withCursor : ℕ → Book → Book
-withCursor c x = record { sizes = x .sizes; day = x .day; cursor = c; retentions = x .retentions; entries = x .entries; maps = x .maps; slots = x .slots; records = x .records }
+withCursor c x =
+    record {
+      sizes = x .sizes;
+      day = x .day;
+      cursor = c;
+      retentions = x .retentions;
+      entries = x .entries;
+      maps
+          = x .maps;
+      slots = x .slots;
+      records = x .records;
+    }
 
 unfoldable pub withRetention : ℕ → ℕ → Book → Book
-withRetention v r x = record { sizes = x .sizes; day = x .day; cursor = x .cursor; retentions = set (x .retentions) v r; entries = x .entries; maps = x .maps; slots = x .slots; records = x .records }
+withRetention v r x =
+    record {
+      sizes = x .sizes;
+      day = x .day;
+      cursor = x .cursor;
+      retentions = set (x .retentions) v r;
+      entries
+          = x .entries;
+      maps = x .maps;
+      slots = x .slots;
+      records = x .records;
+    }
 
 unfoldable pub withEntries : List Entry → Book → Book
-withEntries es x = record { sizes = x .sizes; day = x .day; cursor = x .cursor; retentions = x .retentions; entries = es; maps = x .maps; slots = x .slots; records = x .records }
+withEntries es x =
+    record {
+      sizes = x .sizes;
+      day = x .day;
+      cursor = x .cursor;
+      retentions = x .retentions;
+      entries = es;
+      maps
+          = x .maps;
+      slots = x .slots;
+      records = x .records;
+    }
 
 unfoldable pub withMaps : List (List ℕ) → Book → Book
-withMaps ms x = record { sizes = x .sizes; day = x .day; cursor = x .cursor; retentions = x .retentions; entries = x .entries; maps = ms; slots = x .slots; records = x .records }
+withMaps ms x =
+    record {
+      sizes = x .sizes;
+      day = x .day;
+      cursor = x .cursor;
+      retentions = x .retentions;
+      entries = x .entries;
+      maps
+          = ms;
+      slots = x .slots;
+      records = x .records;
+    }
 
 unfoldable pub withSlot : Slot → Book → Book
-withSlot t x = record { sizes = x .sizes; day = x .day; cursor = x .cursor; retentions = x .retentions; entries = x .entries; maps = x .maps; slots = x .slots ++ (t ∷ []); records = x .records }
+withSlot t x =
+    record {
+      sizes = x .sizes;
+      day = x .day;
+      cursor = x .cursor;
+      retentions = x .retentions;
+      entries = x .entries;
+      maps
+          = x .maps;
+      slots = x .slots ++ (t ∷ []);
+      records = x .records;
+    }
 
 unfoldable pub withRecord : Rec → Book → Book
-withRecord r x = record { sizes = x .sizes; day = x .day; cursor = x .cursor; retentions = x .retentions; entries = x .entries; maps = x .maps; slots = x .slots; records = x .records ++ (r ∷ []) }
+withRecord r x =
+    record {
+      sizes = x .sizes;
+      day = x .day;
+      cursor = x .cursor;
+      retentions = x .retentions;
+      entries = x .entries;
+      maps
+          = x .maps;
+      slots = x .slots;
+      records = x .records ++ (r ∷ []);
+    }
 
 -- an entry with one thing changed
 unfoldable pub countAs : ℕ → Entry → Entry
@@ -38,8 +115,8 @@ expiryAs d e = record { count = e .count; held = e .held; expiry = d; print = e 
 unfoldable pub heldAs : List ℕ → Entry → Entry
 heldAs f e = record { count = e .count; held = true; expiry = e .expiry; print = f }
 
-unfoldable pub freed : Entry → Entry
-freed e = record { count = e .count; held = false; expiry = e .expiry; print = noPrint }
+unfoldable pub madeFree : Entry → Entry
+madeFree e = record { count = e .count; held = false; expiry = e .expiry; print = noPrint }
 
 abbrev pub withEntry : (Entry → Entry) → ℕ → Book → Book
 withEntry f p x = withEntries (set (x .entries) p (f (entryAt (x .entries) p))) x

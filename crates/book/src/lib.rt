@@ -1,9 +1,1 @@
-// The book: its layout in bytes, and one reader and one writer for each field.
-pub mod entry;
-pub mod fresh;
-pub mod header;
-pub mod map;
-pub mod place;
-pub mod record;
-pub mod sizes;
-pub mod slot;
+// The book: its layout in bytes, what form is, a book with one thing changed. Definitions and laws, no code.

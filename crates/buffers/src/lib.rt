@@ -1,9 +1,10 @@
 // Book and pool as a call is lent them: numbers 1 to 3, which read and backup check first.
 ghost use mathlib.Core.Path.{_≡_};
 ghost use Rattle.buffers.specs.Buffers.{buffersNumber};
-use book::header;
+use fields::header;
 use form::form_number;
 use words::BLOCK_SIZE;
+use words::refusals;
 
 // Numbers 1 to 3, or 0.
 pub fn buffers_number(book: &[u8], pool: &[u8]) -> u16
@@ -14,7 +15,7 @@ pub fn buffers_number(book: &[u8], pool: &[u8]) -> u16
         return number;
     }
     if pool.len() != header::blocks(book) as usize * BLOCK_SIZE {
-        return 3;
+        return refusals::BAD_POOL;
     }
     0
 }

@@ -19,8 +19,8 @@ use Rattle.words.specs.Sections.{flat}
 use Rattle.book.specs.Book.{Book, slotAt}
 use Rattle.book.proofs.Conditions.{pairs-in}
 use Rattle.book.specs.Form.{pairsOk}
-use Rattle.book.specs.Struct.{SlotIs}
-use Rattle.book.specs.declared.slot.Slot.{Slot}
+use Rattle.journal.specs.Struct.{SlotIs}
+use Rattle.journal.specs.declared.slot.Slot.{Slot}
 use Rattle.model.specs.Days.{keptBefore}
 use Rattle.model.specs.Journal.{Backup}
 use Rattle.model.specs.JournalAt.{backupAt, backupsFrom}

@@ -4,6 +4,8 @@ use mathlib.Core.Path.{_≡_}
 use mathlib.Core.List.{List}
 use lib.ListN.{length}
 use lib.Seq.{sets}
+use denote.Ref.{now}
+use Rattle.words.specs.Lent.{Lent}
 use borrow.Author.Tests.{lt-ltb, le-ltb}
 use Rattle.words.proofs.Accepted.{unless-refused}
 use Rattle.book.specs.Layout.{bookOf}
@@ -12,26 +14,36 @@ use Rattle.model.specs.Views.{enrolledNumber, outputNumber, backupsOf, withRoom
 use Rattle.model.proofs.views.WrittenLaws.{written-refused, written-short, written-whole}
 use Rattle.calendar.specs.Contracts.{BackupsTold}
 
-module _ (b : List ℕ) (v : ℕ) (out : List ℕ) (n : ℕ) where
+module _ (book : Lent (List ℕ)) (v : ℕ) (out : Lent (List ℕ)) (n : Lent ℕ) where
+  abbrev b : List ℕ
+  b = now (book .entry)
+
   abbrev rows : List ℕ
   rows = backupsOf (bookOf b) v
 
-  pub told-refused : {r : ℕ} → r ≡ enrolledNumber b v → (r ≡ 0 → ⊥) → BackupsTold b v out n r out n
-  unfolding backupsBytes
-  told-refused {r} e h = record {
-    written = written-refused (enrolledNumber b v) (withRoom rows (length out)) out e h;
-    count = rw (← e, unless-refused r (withRoom rows (length out)) h);
-  }
+  abbrev room : ℕ
+  room = length (now (out .entry))
 
-  module _ (e : enrolledNumber b v ≡ 0) where
-    pub told-short : length out < length rows → BackupsTold b v out n 20 out n
-    unfolding backupsBytes withRoom outputNumber
-    told-short h = record { written = rw e (written-short rows out h); count = rw (e, lt-ltb (length out) (length rows) h) }
-
-    pub told-whole : {out′ : List ℕ} {m : ℕ} → length rows ≤ length out → out′ ≡ sets out 0 rows → m ≡ length (backups (bookOf b) v)
-        → BackupsTold b v out n 0 out′ m
-    unfolding backupsBytes withRoom outputNumber
-    told-whole h s c = record {
-      written = rw e (written-whole rows out h s);
-      count = rw (e, le-ltb (length out) (length rows) h) c;
+  module _ (same : now (out .exit) ≡ now (out .entry)) (unanswered : now (n .exit) ≡ now (n .entry)) where
+    pub told-refused : {r : ℕ} → r ≡ enrolledNumber b v → (r ≡ 0 → ⊥) → BackupsTold book v out n r
+    unfolding backupsBytes
+    told-refused {r} e h = record {
+      written = rw same (written-refused (enrolledNumber b v) (withRoom rows room) (now (out .entry)) e h);
+      count = rw (← e, unless-refused r (withRoom rows room) h) unanswered;
     }
+
+    pub told-short : enrolledNumber b v ≡ 0 → room < length rows → BackupsTold book v out n 20
+    unfolding backupsBytes withRoom outputNumber
+    told-short e h = record {
+      written = rw (e, same) (written-short rows (now (out .entry)) h);
+      count = rw (e, lt-ltb room (length rows) h) unanswered;
+    }
+
+  pub told-whole : enrolledNumber b v ≡ 0 → length rows ≤ room → now (out .exit) ≡ sets (now (out .entry)) 0 rows
+      → now (n .exit) ≡ length (backups (bookOf b) v)
+      → BackupsTold book v out n 0
+  unfolding backupsBytes withRoom outputNumber
+  told-whole e h s c = record {
+    written = rw e (written-whole rows (now (out .entry)) h s);
+    count = rw (e, le-ltb room (length rows) h) c;
+  }

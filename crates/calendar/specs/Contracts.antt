@@ -3,13 +3,19 @@ use Prim.Native.Nat.{ℕ}
 use mathlib.Core.Path.{_≡_}
 use mathlib.Core.List.{List}
 use lib.ListN.{length}
-use Rattle.book.specs.Layout.{bookOf}
+use denote.Ref.{now}
+use Rattle.words.specs.Lent.{Lent}
+use Rattle.words.specs.Outcome.{Outcome}
+use Rattle.book.specs.Layout.{told}
 use Rattle.model.specs.Journal.{backups}
 use Rattle.model.specs.OnBytes.{after}
 use Rattle.model.specs.Views.{backupsBytes}
 use Rattle.model.specs.Written.{Written}
 
--- n and n′ are the answer, how many backups there are, before and after the call
-pub record BackupsTold (b : List ℕ) (v : ℕ) (out : List ℕ) (n r : ℕ) (out′ : List ℕ) (n′ : ℕ) : Type 0 where
-  pub written : Written (backupsBytes b v (length out)) out r out′
-  pub count : n′ ≡ after (λ c. length (backups (bookOf b) v)) (backupsBytes b v (length out)) n
+abbrev rowsFor : Lent (List ℕ) → ℕ → Lent (List ℕ) → Outcome (List ℕ)
+rowsFor b v out = backupsBytes (now (b .entry)) v (length (now (out .entry)))
+
+-- n is how many backups there are, r what the call returns
+pub record BackupsTold (b : Lent (List ℕ)) (v : ℕ) (out : Lent (List ℕ)) (n : Lent ℕ) (r : ℕ) : Type 0 where
+  pub written : Written (rowsFor b v out) (now (out .entry)) r (now (out .exit))
+  pub count : now (n .exit) ≡ after (λ c. length (backups (told (b .entry)) v)) (rowsFor b v out) (now (n .entry))

@@ -15,7 +15,8 @@ use Rattle.model.specs.Calls.{Call}
 use Rattle.model.specs.OnBytes.{numberOf}
 use Rattle.calls.specs.Coding.{callSize, isCall, callAt, before, callsFrom, callsOf}
 use Rattle.calls.specs.Answers.{longest, mostOf}
-use Rattle.calls.specs.Contracts.{at, roomOf, roomNumber, playable, DidAll, Played}
+use Rattle.calls.specs.Contracts.{at, roomOf, roomNumber, playable, Played}
+use Rattle.calls.specs.Doing.{DidAll}
 use Rattle.calls.proofs.ReadingLaws.{calls-end, calls-broken, calls-more, calls-refused, good-accepted}
 use Rattle.calls.specs.Reading.{restOf, Good}
 use Rattle.calls.proofs.Short.{answers-short}

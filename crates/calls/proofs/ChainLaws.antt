@@ -9,7 +9,7 @@ use Rattle.model.specs.Calls.{Call, backup, collect}
 use Rattle.model.specs.Claims.{Fresh, ourEnd}
 use Rattle.model.proofs.claims.Proved.{lists, images, corollaries, end-append}
 use Rattle.model.specs.Runs.{Ours, ours, oursShown}
-use Rattle.calls.specs.Contracts.{DidAll}
+use Rattle.calls.specs.Doing.{DidAll}
 use Rattle.calls.specs.Chain.{AsPlain, GoesOn}
 
 -- ---- what holds of the next call, whichever it is; o is where the list left book and pool

@@ -1,23 +1,24 @@
 -- A list of calls that is being played: what is left of it, from where book and pool stand.
 use Prim.Native.Nat.{ℕ, _+_, _≤_}
 use mathlib.Core.Path.{_≡_, refl, ap, ap₂, _∙_}
-use mathlib.Core.List.{List, [], _∷_, _++_}
+use mathlib.Core.List.{List, [], _∷_}
 use native.Mathlib.Nat.{zero-add}
 use native.Mathlib.Omega.{arith}
-use lib.ListN.{length, drop, length-append}
+use lib.ListN.{length, length-append}
 use lib.Seq.{sets}
 use Rattle.words.proofs.LayingLaws.{sets-append, sets-front}
 use Rattle.model.specs.Calls.{Call}
 use Rattle.model.specs.Runs.{endOf, Ours, ours}
 use Rattle.calls.specs.Answers.{answerBytes, mostOf}
-use Rattle.calls.specs.Contracts.{at, told, Did, DidAll}
+use Rattle.calls.specs.Contracts.{at, answered}
+use Rattle.calls.specs.Doing.{Did, DidAll}
 use Rattle.calls.proofs.Short.{answers-short}
 
--- cs is being played from b₀, pool₀ and out₀; rest is left, from b, pool and the place `to` of out
+-- cs is being played from b₀, pool₀ and out₀; rest is left, from b, pool and the offset `to` of out
 pub record Playing (spare : ℕ) (b₀ pool₀ : List ℕ) (cs : List Call) (out₀ b pool out : List ℕ) (to : ℕ) (rest : List Call) : Type 0 where
   pub end : endOf (ours spare) (at b pool) rest ≡ endOf (ours spare) (at b₀ pool₀) cs
-  pub answers : sets out to (told spare (at b pool) rest) ≡ sets out₀ 0 (told spare (at b₀ pool₀) cs)
-  pub reach : to + length (told spare (at b pool) rest) ≡ length (told spare (at b₀ pool₀) cs)
+  pub answers : sets out to (answered spare (at b pool) rest) ≡ sets out₀ 0 (answered spare (at b₀ pool₀) cs)
+  pub reach : to + length (answered spare (at b pool) rest) ≡ length (answered spare (at b₀ pool₀) cs)
 
 module _ {spare : ℕ} {b₀ pool₀ : List ℕ} {cs : List Call} {out₀ : List ℕ} where
   pub playing-all : Playing spare b₀ pool₀ cs out₀ b₀ pool₀ out₀ 0 cs
@@ -29,7 +30,7 @@ module _ {spare : ℕ} {b₀ pool₀ : List ℕ} {cs : List Call} {out₀ : List
       let short = answers-short spare (at b₀ pool₀) cs in
       record {
         end = p .end;
-        answers = p .answers ∙ sets-front (told spare (at b₀ pool₀) cs) out₀ (omega arith);
+        answers = p .answers ∙ sets-front (answered spare (at b₀ pool₀) cs) out₀ (omega arith);
         written = omega (arith, p .reach);
       }
 
@@ -37,15 +38,16 @@ module _ {spare : ℕ} {b₀ pool₀ : List ℕ} {cs : List Call} {out₀ : List
       → Playing spare b₀ pool₀ cs out₀ b pool out to (c ∷ rest)
       → Did spare b pool c out to b′ pool′ out′ r → Playing spare b₀ pool₀ cs out₀ b′ pool′ out′ r rest
   playing-more {b} {pool} {out} {b′} {pool′} {out′} {to} {r} c rest p d =
-      let same : told spare (at b′ pool′) rest ≡ told spare (ours spare (at b pool) c .next) rest =
-      ap (λ (o : Ours). told spare o rest) (d .next)
+      let same : answered spare (at b′ pool′) rest ≡ answered spare (ours spare (at b pool) c .next) rest =
+      ap (λ (o : Ours). answered spare o rest) (d .next)
       in
       record {
         end = ap (λ (o : Ours). endOf (ours spare) o rest) (d .next) ∙ p .end;
         answers =
             ap (λ (x : List ℕ). sets out′ r x) same
-            ∙ ap₂ (λ (o : List ℕ) (k : ℕ). sets o k (told spare (ours spare (at b pool) c .next) rest)) (d .answer .list) (d .answer .place)
-            ∙ sets-append (answerBytes (ours spare (at b pool) c .answer)) (told spare (ours spare (at b pool) c .next) rest) out to
+            ∙ ap₂ (λ (o : List ℕ) (k : ℕ). sets o k (answered spare (ours spare (at b pool) c .next) rest))
+            (d .answer .list) (d .answer .place)
+            ∙ sets-append (answerBytes (ours spare (at b pool) c .answer)) (answered spare (ours spare (at b pool) c .next) rest) out to
             ∙ p .answers;
         reach =
             omega (
@@ -53,6 +55,6 @@ module _ {spare : ℕ} {b₀ pool₀ : List ℕ} {cs : List Call} {out₀ : List
               p .reach,
               d .answer .place,
               ap length same,
-              length-append (answerBytes (ours spare (at b pool) c .answer)) (told spare (ours spare (at b pool) c .next) rest),
+              length-append (answerBytes (ours spare (at b pool) c .answer)) (answered spare (ours spare (at b pool) c .next) rest),
             );
       }

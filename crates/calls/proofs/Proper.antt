@@ -9,7 +9,7 @@ use Rattle.words.proofs.Accepted.{refused-not}
 use Rattle.words.specs.Choice.{if_then_else_}
 use Rattle.words.specs.Lists.{same}
 use Rattle.words.specs.Outcome.{Outcome, refused, accepted, andThen, unless}
-use Rattle.list.specs.Changes.{Change, changes}
+use Rattle.runs.specs.Changes.{Change, changes}
 use Rattle.book.specs.Book.{retentionOf}
 use Rattle.book.specs.Form.{formNumber}
 use Rattle.book.specs.Layout.{bookOf}

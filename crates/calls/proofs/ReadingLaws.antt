@@ -1,5 +1,5 @@
 -- Laws of specs/Reading.antt.
--- Laws of a list of calls that is read from a place on: its end, its next call, and what a call in it is.
+-- Laws of a list of calls that is read from an offset on: its end, its next call, and what a call in it is.
 use Prim.Native.Nat.{ℕ, zero, suc, _+_, _-_, _≤_, _<_}
 use mathlib.Core.Path.{_≡_, refl, sym, ap, _∙_}
 use mathlib.Core.Bool.{Bool, true, false, _&&_}
@@ -24,7 +24,7 @@ module _ (b : List ℕ) where
   calls-end zero at h = rw (le-leb (length b) at h)
   calls-end (suc n) at h = rw (le-leb (length b) at h)
 
-  -- a place before the end where no call stands
+  -- an offset before the end where no call stands
   pub calls-broken : (n at : ℕ) → at < length b → isCall b at ≡ false → callsFrom n b at ≡ refused 19
   calls-broken zero at h e = rw (lt-leb (length b) at h)
   calls-broken (suc n) at h e = rw (lt-leb (length b) at h, e)
@@ -75,7 +75,7 @@ module _ (b : List ℕ) where
       go false true (accepted cs) ih f = absurd (refused-not k (callAt b at ∷ cs) (sym f))
       go false false o ih f = cc
 
-  -- ---- the calls from a place on, and that they are calls to the end
+  -- ---- the calls from an offset on, and that they are calls to the end
 
   pub good-accepted : (at : ℕ) (cs : List Call) → callsFrom (length b) b at ≡ accepted cs → Good b at × (restOf b at ≡ cs)
   good-accepted at cs e = (rw e, rw e)

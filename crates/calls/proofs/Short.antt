@@ -21,7 +21,7 @@ use Rattle.model.specs.Pool.{blockAt}
 use Rattle.model.specs.Runs.{Ours, ours, oursEnrolled, oursBacked, oursCollected, readAnswer, auditAnswer}
 use Rattle.calls.specs.Coding.{dataSize, callOf, callAt}
 use Rattle.calls.specs.Answers.{answerBytes, longest, longestOf, mostOf}
-use Rattle.calls.specs.Contracts.{told}
+use Rattle.calls.specs.Contracts.{answered}
 
 pub take-most : (n : ℕ) (l : List ℕ) → length (take n l) ≤ n
 take-most zero l = omega arith
@@ -61,12 +61,12 @@ answer-short spare o audit = go (auditBytes (o .book))
     go (refused k) = omega arith
     go (accepted d) = omega arith
 
-pub answers-short : (spare : ℕ) (o : Ours) (cs : List Call) → length (told spare o cs) ≤ mostOf cs
+pub answers-short : (spare : ℕ) (o : Ours) (cs : List Call) → length (answered spare o cs) ≤ mostOf cs
 answers-short spare o [] = omega arith
 answers-short spare o (c ∷ cs) =
     let ih = answers-short spare (ours spare o c .next) cs in
     let s = answer-short spare o c in
-    omega (arith, length-append (answerBytes (ours spare o c .answer)) (told spare (ours spare o c .next) cs))
+    omega (arith, length-append (answerBytes (ours spare o c .answer)) (answered spare (ours spare o c .next) cs))
 
 -- by the kind in a head
 pub longest-kind : (kind a b c : ℕ) (list : List ℕ) → longest (callOf kind a b c list) ≡ longestOf kind

@@ -8,7 +8,7 @@ use lib.ListN.{length, drop}
 use Rattle.words.specs.Lists.{all}
 use Rattle.words.specs.Outcome.{Outcome, accepted, unless}
 use Rattle.words.specs.Sections.{flat}
-use Rattle.list.specs.Changes.{changeCount}
+use Rattle.runs.specs.Changes.{changeCount}
 use Rattle.book.specs.Book.{Sizes, isFree}
 use Rattle.book.specs.Layout.{bookSize}
 use Rattle.model.specs.Calls.{Call, backup, collect, read, audit, Answer, backed, freed, sound}

@@ -15,7 +15,7 @@ use Rattle.model.specs.Calls.{Call, enrol, backup, collect, read, audit}
 abbrev pub headSize : ℕ
 headSize = 14
 
--- how many bytes of data the call at a place has; how many it has with its head
+-- how many bytes of data the call at an offset has; how many it has with its head
 unfoldable pub dataSize : List ℕ → ℕ → ℕ
 dataSize b at = num b (at + 10) + num b (at + 12) * 65536
 
@@ -42,7 +42,7 @@ callOf kind a b c list =
     if eqb kind 3 then read a b c else
     audit
 
--- ---- the call at a place
+-- ---- the call at an offset
 
 unfoldable pub unusedZeroAt : List ℕ → ℕ → Bool
 unusedZeroAt b at = unusedZero (getD b at 0) (num b (at + 2)) (num b (at + 4)) (num b (at + 6)) (num b (at + 8)) (dataSize b at)
@@ -59,7 +59,7 @@ callAt b at = callOf (getD b at 0) (num b (at + 2)) (num b (at + 4)) (num b (at 
 abbrev pub before : Call → List Call → Outcome (List Call)
 before c cs = accepted (c ∷ cs)
 
--- the calls from a place to the end, n at most
+-- the calls from an offset to the end, n at most
 abbrev pub callsFrom : ℕ → List ℕ → ℕ → Outcome (List Call)
 callsFrom zero b at = if leb (length b) at then accepted [] else refused 19
 callsFrom (suc n) b at =

@@ -1,11 +1,10 @@
--- What one call and a list of calls leave and answer, for all inputs, by the run of `model`.
+-- What a list of calls in bytes leaves and answers, for all inputs, by the run of `model`.
 use Prim.Native.Nat.{ℕ}
 use mathlib.Core.Path.{_≡_}
 use mathlib.Core.List.{List, _++_}
 use lib.Dec.{ltb, leb}
 use lib.ListN.{length, drop}
 use Rattle.words.specs.Choice.{if_then_else_}
-use Rattle.words.specs.Laying.{Stored}
 use Rattle.words.specs.Outcome.{Outcome, accepted, andThen, unless}
 use Rattle.words.specs.Sections.{flat}
 use Rattle.model.specs.Calls.{Call}
@@ -18,19 +17,8 @@ abbrev pub at : List ℕ → List ℕ → Ours
 at b pool = record { book = b; pool = pool }
 
 -- the answers to a list, in bytes
-abbrev pub told : ℕ → Ours → List Call → List ℕ
-told spare o cs = flat answerBytes (answersOf (ours spare) o cs)
-
--- one call on book b and pool; its answer is stored at `to` in out, and r is the place past it
-pub record Did (spare : ℕ) (b pool : List ℕ) (c : Call) (out : List ℕ) (to : ℕ) (b′ pool′ out′ : List ℕ) (r : ℕ) : Type 0 where
-  pub next : at b′ pool′ ≡ ours spare (at b pool) c .next
-  pub answer : Stored out to (answerBytes (ours spare (at b pool) c .answer)) out′ r
-
--- a list of calls; its answers are stored at the front of out, and r is their length
-pub record DidAll (spare : ℕ) (b pool : List ℕ) (cs : List Call) (out b′ pool′ out′ : List ℕ) (r : ℕ) : Type 0 where
-  pub end : at b′ pool′ ≡ endOf (ours spare) (at b pool) cs
-  pub answers : out′ ≡ told spare (at b pool) cs ++ drop (length (told spare (at b pool) cs)) out
-  pub written : r ≡ length (told spare (at b pool) cs)
+abbrev pub answered : ℕ → Ours → List Call → List ℕ
+answered spare o cs = flat answerBytes (answersOf (ours spare) o cs)
 
 -- ---- what refuses a list: 19, the bytes are none; 20, the answers are shorter than the longest that these calls can give
 
@@ -49,5 +37,6 @@ pub record Played (spare : ℕ) (b pool calls out : List ℕ) (w r : ℕ) (b′ 
   pub number : r ≡ numberOf (playable calls (roomOf (length out)))
   pub end : at b′ pool′ ≡ after (endOf (ours spare) (at b pool)) (playable calls (roomOf (length out))) (at b pool)
   pub answers : out′
-      ≡ after (λ cs. told spare (at b pool) cs ++ drop (length (told spare (at b pool) cs)) out) (playable calls (roomOf (length out))) out
-  pub written : w′ ≡ after (λ cs. length (told spare (at b pool) cs)) (playable calls (roomOf (length out))) w
+      ≡ after (λ cs. answered spare (at b pool) cs ++ drop (length (answered spare (at b pool) cs)) out)
+      (playable calls (roomOf (length out))) out
+  pub written : w′ ≡ after (λ cs. length (answered spare (at b pool) cs)) (playable calls (roomOf (length out))) w

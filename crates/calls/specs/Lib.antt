@@ -4,3 +4,5 @@ pub mod Answers
 pub mod Contracts
 pub mod Bound
 pub mod Chain
+pub mod Lending
+pub mod Doing

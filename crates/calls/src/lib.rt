@@ -1,1 +1,1 @@
-// No code: lists of calls and their answers in bytes, and their laws, are in specs/.
+// No code: lists of calls and their answers in bytes are in specs/, their laws in proofs/.

@@ -7,11 +7,11 @@ use lib.ListN.{set}
 use Rattle.words.specs.Outcome.{accepted}
 use Rattle.book.specs.Book.{Rec, Book}
 use Rattle.book.specs.Layout.{bytes, bookOf}
-use Rattle.book.specs.Next.{withEntry, withCell, countAs, expiryAs, heldAs, freed}
+use Rattle.book.specs.Next.{withEntry, withCell, countAs, expiryAs, heldAs, madeFree}
 use Rattle.model.specs.OnBytes.{auditBytes}
 use Rattle.cases.proofs.Open.{model}
 use Rattle.cases.proofs.Letters.{B, printOf}
-use Rattle.cases.proofs.Cases.{afterD}
+use Rattle.book.proofs.AfterD.{afterD}
 
 unfoldable pub good : Book
 good = bookOf afterD
@@ -53,7 +53,7 @@ samePrint = withEntry (heldAs (printOf B)) 0 good
 
 -- "no kept backup names a free block": block 0 is in volume 0's backup 1, which is kept
 unfoldable pub freeNamed : Book
-freeNamed = withEntry freed 0 good
+freeNamed = withEntry madeFree 0 good
 
 unfoldable pub broken : List Book
 broken = otherMap ∷ otherBefore ∷ otherCount ∷ otherExpiry ∷ someExpiry ∷ samePrint ∷ freeNamed ∷ []

@@ -8,7 +8,7 @@ use Rattle.words.specs.Blocks.{unmapped}
 use Rattle.words.specs.Lists.{upFrom}
 use Rattle.book.specs.Book.{Sizes, entryAt}
 use Rattle.book.specs.Layout.{bytes, bookOf}
-use Rattle.model.specs.Plain.{free, held, Plain, noVolume, start}
+use Rattle.model.specs.Plain.{free, held, Plain, unenrolled, start}
 use Rattle.model.specs.Calls.{Call, enrol, backup, collect, read, audit, Answer, number, backed, freed, block, sound}
 use Rattle.model.specs.Runs.{Ours, answersOf, endOf, ours, plain, oursShown, plainShown}
 use Rattle.cases.proofs.Open.{model}
@@ -66,7 +66,7 @@ plainCrowded = record {
   day = 0;
   cursor = 0;
   blocks = held (printOf A) (blockOf A) ∷ held (printOf B) (blockOf B) ∷ [];
-  volumes = map (λ m. record { retention = 9; images = record { day = 0; cells = m; changes = 0 } ∷ [] }) crowdedMaps;
+  volumes = map (λ m. record { retention = 9; images = record { day = 0; cells = m; changed = 0 } ∷ [] }) crowdedMaps;
 }
 
 -- the same block again; another cell with a before, and one without
@@ -106,8 +106,8 @@ plainKept = record {
   cursor = 1;
   blocks = held (printOf A) (blockOf A) ∷ free ∷ [];
   volumes =
-      record { retention = 9; images = record { day = 1; cells = 0 ∷ unmapped ∷ unmapped ∷ unmapped ∷ []; changes = 1 } ∷ [] }
-      ∷ replicate 7 noVolume;
+      record { retention = 9; images = record { day = 1; cells = 0 ∷ unmapped ∷ unmapped ∷ unmapped ∷ []; changed = 1 } ∷ [] }
+      ∷ replicate 7 unenrolled;
 }
 
 pub record Halves : Type 0 where
@@ -202,7 +202,9 @@ damaged = record {
     day = 0;
     cursor = 0;
     retentions = 9 ∷ replicate 7 0;
-    entries = record { count = 0; held = true; expiry = 0; print = printOf A } ∷ record { count = 0; held = false; expiry = 0; print = printOf 0 } ∷ [];
+    entries =
+        record { count = 0; held = true; expiry = 0; print = printOf A }
+        ∷ record { count = 0; held = false; expiry = 0; print = printOf 0 } ∷ [];
     maps = (0 ∷ unmapped ∷ unmapped ∷ unmapped ∷ []) ∷ replicate 7 (replicate 4 unmapped);
     slots = [];
     records = [];

@@ -5,7 +5,7 @@ use mathlib.Core.Bool.{true, false, not}
 use mathlib.Core.List.{List, [], _∷_, _++_, map}
 use native.Mathlib.Omega.{arith}
 use lib.ListN.{getD, take, drop, replicate}
-use Rattle.list.specs.Changes.{changeCount}
+use Rattle.runs.specs.Changes.{changeCount}
 use Rattle.book.specs.Book.{isFree}
 use Rattle.book.specs.Layout.{bytes}
 use Rattle.book.specs.Next.{fresh}
@@ -77,7 +77,8 @@ pub record ListsSay : Type 0 where
   -- backup d names its old block 0 and its new block 1
   pub names : map (changesName (plainEnd clinic beforeD) 1 9 (list 3 (B ∷ []))) (0 ∷ 1 ∷ 2 ∷ 3 ∷ []) ≡ true ∷ true ∷ false ∷ false ∷ []
   -- .. and a refused one names none
-  pub refusedNames : map (changesName (plainEnd clinic beforeD) 1 9 (list 3 (B ∷ B ∷ []))) (0 ∷ 1 ∷ 2 ∷ 3 ∷ []) ≡ false ∷ false ∷ false ∷ false ∷ []
+  pub refusedNames : map (changesName (plainEnd clinic beforeD) 1 9 (list 3 (B ∷ B ∷ []))) (0 ∷ 1 ∷ 2 ∷ 3 ∷ [])
+      ≡ false ∷ false ∷ false ∷ false ∷ []
 
 pub lists-say : ListsSay
 unfolding model over list callOf table calls clinic answers beforeG beforeD backupD

@@ -1,6 +1,6 @@
 -- One name that opens every definition of the model, for proofs by computation: `unfolding model`.
 use Prim.Native.Nat.{ℕ}
-use Rattle.list.specs.Changes
+use Rattle.runs.specs.Changes
 use Rattle.book.specs.Book
 use Rattle.book.specs.Layout
 use Rattle.book.specs.Form
@@ -29,24 +29,26 @@ unfolding
     Form.between Form.sizesOk Form.layoutOk Form.retentionOk Form.entryOk Form.pbnOk Form.recOk Form.slotOk Form.laterOk Form.bookOk
     Form.stateOk Form.secondOk Form.rawOk Form.formNumber
     Next.withDay Next.withCursor Next.withRetention Next.withEntries Next.withMaps Next.withSlot Next.withRecord Next.countAs Next.expiryAs
-    Next.heldAs Next.freed Next.fresh
+    Next.heldAs Next.madeFree Next.fresh
     Days.kept Days.badDay Days.notAfter Days.badRetention
     Journal.journal Journal.backups Journal.days Journal.noVolume
     Enrol.enrolNumber Enrol.enrol
     Backup.backupNumber Backup.findHeld Backup.findFree Backup.takeBlock Backup.placeFree Backup.placeHeld Backup.place Backup.lowered
     Backup.lower Backup.raised Backup.nameBlock Backup.moveNumber Backup.moved Backup.moveTo Backup.changeStep Backup.begun Backup.closed
     Backup.backup
-    Collect.collectNumber Collect.isOver Collect.entryAfter Collect.collected Collect.collect
+    Collect.collectNumber Collect.isOver Collect.sweptEntry Collect.collected Collect.collect
     Read.image Read.readNumber Read.read
     Audit.noMaps Audit.mapsSound Audit.countSound Audit.expirySound Audit.printsSound Audit.cellSound Audit.currentSound Audit.backupSound
     Audit.backupsSound Audit.audit
-    OnBytes.poolNumber OnBytes.spareNumber OnBytes.formatNumber OnBytes.formatBytes OnBytes.enrolBytes OnBytes.backedBytes OnBytes.backupBytes
+    OnBytes.poolNumber OnBytes.spareNumber OnBytes.formatNumber OnBytes.formatBytes OnBytes.enrolBytes
+    OnBytes.backedBytes OnBytes.backupBytes
     OnBytes.collectedBytes OnBytes.collectBytes OnBytes.readBytes OnBytes.readNumberBytes OnBytes.readPlaceBytes OnBytes.auditBytes
     Views.enrolledNumber Views.outputNumber Views.usedOf Views.volumeOf Views.backupsOf Views.cellsOf Views.blocksOf Views.sizesBytes
     Views.usedBytes Views.volumeBytes Views.withRoom Views.backupsBytes Views.cellsBytes Views.blocksBytes
-    Plain.noVolume Plain.start Plain.withDay Plain.withBlocks Plain.withVolume Plain.currentMaps Plain.enrolNumber Plain.enrol Plain.marked
+    Plain.unenrolled Plain.start Plain.atDay Plain.withBlocks Plain.withVolume Plain.currentMaps Plain.enrolNumber Plain.enrol Plain.marked
     Plain.collected Plain.collectNumber Plain.collect Plain.readNumber Plain.read
-    PlainBackup.backupsSoFar PlainBackup.changesSoFar PlainBackup.backupNumber PlainBackup.findHeld PlainBackup.findFree PlainBackup.takeBlock
+    PlainBackup.backupsSoFar PlainBackup.changesSoFar PlainBackup.backupNumber PlainBackup.findHeld PlainBackup.findFree
+    PlainBackup.takeBlock
     PlainBackup.placeFree PlainBackup.placeHeld PlainBackup.place PlainBackup.moveNumber PlainBackup.moved PlainBackup.moveTo
     PlainBackup.changeStep PlainBackup.begun PlainBackup.withImage PlainBackup.closed PlainBackup.backup
     Runs.readAnswer Runs.auditAnswer Runs.oursEnrolled Runs.oursBacked Runs.oursCollected Runs.ours Runs.plainEnrolled Runs.plainBacked

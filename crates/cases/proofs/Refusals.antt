@@ -1,10 +1,11 @@
--- Every number of refusal of these calls, and its place in the checking order: each call breaks its own number and, where it can, later ones.
+-- Every number of refusal of these calls, and its place in the checking order: each call breaks its own number and, where it can, later
+-- ones.
 use Prim.Native.Nat.{ℕ}
 use mathlib.Core.Path.{_≡_, refl}
 use mathlib.Core.List.{List, [], _∷_, _++_, map}
 use lib.ListN.{take, drop, replicate}
 use Rattle.words.specs.Numbers.{two, put}
-use Rattle.book.specs.Layout.{bytes, bPlace, zeroPlace}
+use Rattle.book.specs.Layout.{bytes, bOffset, zeroOffset}
 use Rattle.book.specs.Next.{fresh}
 use Rattle.model.specs.OnBytes.{numberOf, formatBytes, enrolBytes, backupBytes, collectBytes, readNumberBytes, readPlaceBytes, auditBytes}
 use Rattle.model.specs.Calls.{Call, enrol, backup, collect, read, Answer, number, backed, freed}
@@ -86,10 +87,10 @@ unfoldable pub short : List ℕ
 short = drop 1 good
 
 unfoldable pub odd : List ℕ
-odd = put good zeroPlace 1
+odd = put good zeroOffset 1
 
 unfoldable pub more : List ℕ
-more = put good bPlace 5
+more = put good bOffset 5
 
 abbrev pub pool : List ℕ
 pool = replicate 1024 0
@@ -102,7 +103,8 @@ pub record Damage : Type 0 where
   pub enrols : map (λ b. numberOf (enrolBytes b 8 0)) (nothing ∷ short ∷ odd ∷ more ∷ good ∷ []) ≡ 1 ∷ 1 ∷ 2 ∷ 2 ∷ 5 ∷ []
   pub collects : map (λ b. numberOf (collectBytes b 60001)) (nothing ∷ short ∷ odd ∷ more ∷ good ∷ []) ≡ 1 ∷ 1 ∷ 2 ∷ 2 ∷ 7 ∷ []
   pub audits : map (λ b. numberOf (auditBytes b)) (nothing ∷ short ∷ odd ∷ more ∷ good ∷ []) ≡ 1 ∷ 1 ∷ 2 ∷ 2 ∷ 0 ∷ []
-  pub backups : map (λ b. numberOf (backupBytes b nothing 0 8 60001 nothing)) (nothing ∷ short ∷ odd ∷ more ∷ good ∷ []) ≡ 1 ∷ 1 ∷ 2 ∷ 2 ∷ 3 ∷ []
+  pub backups : map (λ b. numberOf (backupBytes b nothing 0 8 60001 nothing)) (nothing ∷ short ∷ odd ∷ more ∷ good ∷ [])
+      ≡ 1 ∷ 1 ∷ 2 ∷ 2 ∷ 3 ∷ []
   pub spares : map (λ s. numberOf (backupBytes good pool s 8 60001 nothing)) (0 ∷ 219 ∷ 220 ∷ []) ≡ 4 ∷ 4 ∷ 5 ∷ []
   pub reads : map (λ b. readNumberBytes b nothing 8 0 4) (nothing ∷ short ∷ odd ∷ more ∷ good ∷ []) ≡ 1 ∷ 1 ∷ 2 ∷ 2 ∷ 3 ∷ []
   pub readNext : readNumberBytes good pool 8 0 4 ≡ 5

@@ -6,12 +6,13 @@ use lib.ListN.{take, replicate}
 use Rattle.words.specs.Lists.{joined}
 use Rattle.words.specs.Outcome.{refused, accepted}
 use Rattle.book.specs.Book.{noPrint}
+use Rattle.book.proofs.AfterD.{afterD}
 use Rattle.model.specs.OnBytes.{after}
 use Rattle.model.specs.Runs.{endOf, ours}
 use Rattle.model.specs.Views.{sizesBytes, usedBytes, volumeBytes, backupsBytes, cellsBytes, blocksBytes, outputAfter}
 use Rattle.cases.proofs.Open.{model}
 use Rattle.cases.proofs.Letters.{A, B, C, printOf, over, list, box}
-use Rattle.cases.proofs.Cases.{sizes, callOf, table, calls, afterD}
+use Rattle.cases.proofs.Cases.{sizes, callOf, table, calls}
 
 unfoldable pub afterG : List ℕ
 afterG = endOf (ours 276) (box sizes) (take 10 calls) .book

@@ -2,10 +2,10 @@
 ghost use mathlib.Core.Path.{_≡_};
 ghost use mathlib.Core.Bool.{false};
 ghost use Rattle.book.specs.Layout.{Holds};
-use book::entry;
-use book::header;
-use book::map;
 use engine::audit::aspen_audit;
+use entries::entry;
+use fields::header;
+use fields::map;
 use samples::UNCHANGED;
 use samples::number;
 use samples::word;

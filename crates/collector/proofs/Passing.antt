@@ -45,6 +45,8 @@ module _ {A : Type 0} where
         go true = refl
         go false = refl
 
-    pub count-more : (xs : List A) (p : ℕ) (d : A) → p < length xs → countOf g (take (suc p) xs) ≡ countOf g (take p xs) + bit (g (getD xs p d))
+    pub count-more : (xs : List A) (p : ℕ) (d : A) → p < length xs
+        → countOf g (take (suc p) xs) ≡ countOf g (take p xs) + bit (g (getD xs p d))
     count-more xs p d h =
-        ap (countOf g) (take-suc xs p d h) ∙ countOf-append g (take p xs) (getD xs p d ∷ []) ∙ ap (λ (k : ℕ). countOf g (take p xs) + k) (one (getD xs p d))
+        ap (countOf g) (take-suc xs p d h) ∙ countOf-append g (take p xs) (getD xs p d ∷ [])
+        ∙ ap (λ (k : ℕ). countOf g (take p xs) + k) (one (getD xs p d))

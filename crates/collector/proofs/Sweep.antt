@@ -11,13 +11,13 @@ use Rattle.words.specs.Lists.{bit}
 use Rattle.words.specs.Lists.{countOf}
 use Rattle.book.specs.Book.{Entry, Book, freeEntry, entryAt}
 use Rattle.book.specs.Layout.{bookOf, Holds, Is}
-use Rattle.book.specs.Next.{freed, withEntries, withEntry}
-use Rattle.model.specs.Collect.{isOver, entryAfter}
+use Rattle.book.specs.Next.{madeFree, withEntries, withEntry}
+use Rattle.model.specs.Collect.{isOver, sweptEntry}
 use Rattle.collector.proofs.Passing.{bit-le, mapTo, mapTo-at, mapTo-more, mapTo-all, count-more}
 
 -- the blocks below p are swept, the others as they were
 unfoldable pub sweptTo : Book → ℕ → ℕ → Book
-sweptTo x t p = withEntries (mapTo (entryAfter t) p (x .entries)) x
+sweptTo x t p = withEntries (mapTo (sweptEntry t) p (x .entries)) x
 
 module _ (x : Book) (t : ℕ) where
   swept-none : x ≡ sweptTo x t 0
@@ -26,29 +26,30 @@ module _ (x : Book) (t : ℕ) where
 
   swept-at : (p : ℕ) → entryAt (sweptTo x t p .entries) p ≡ entryAt (x .entries) p
   unfolding sweptTo withEntries
-  swept-at p = mapTo-at (entryAfter t) (x .entries) p freeEntry
+  swept-at p = mapTo-at (sweptEntry t) (x .entries) p freeEntry
 
   swept-n : (p : ℕ) → sweptTo x t p .sizes .n ≡ x .sizes .n
   unfolding sweptTo withEntries
   swept-n p = refl
 
-  swept-more : (p : ℕ) → p < length (x .entries) → withEntry (entryAfter t) p (sweptTo x t p) ≡ sweptTo x t (p + 1)
+  swept-more : (p : ℕ) → p < length (x .entries) → withEntry (sweptEntry t) p (sweptTo x t p) ≡ sweptTo x t (p + 1)
   unfolding sweptTo withEntries
-  swept-more p h = rw add-one (ap (λ (es : List Entry). withEntries es x) (mapTo-more (entryAfter t) (x .entries) p freeEntry h))
+  swept-more p h = rw add-one (ap (λ (es : List Entry). withEntries es x) (mapTo-more (sweptEntry t) (x .entries) p freeEntry h))
 
-  swept-end : sweptTo x t (length (x .entries)) ≡ withEntries (map (entryAfter t) (x .entries)) x
+  swept-end : sweptTo x t (length (x .entries)) ≡ withEntries (map (sweptEntry t) (x .entries)) x
   unfolding sweptTo
-  swept-end = ap (λ (es : List Entry). withEntries es x) (mapTo-all (entryAfter t) (x .entries))
+  swept-end = ap (λ (es : List Entry). withEntries es x) (mapTo-all (sweptEntry t) (x .entries))
 
 -- ---- one block
 
 module _ (b : List ℕ) (t p : ℕ) where
-  pub free-kept : Holds b → isOver t (entryAt (bookOf b .entries) p) ≡ false → Is b (withEntry (entryAfter t) p (bookOf b))
-  unfolding entryAfter withEntries
+  pub free-kept : Holds b → isOver t (entryAt (bookOf b .entries) p) ≡ false → Is b (withEntry (sweptEntry t) p (bookOf b))
+  unfolding sweptEntry withEntries
   free-kept h e = record { holds = h; book = rw (e, set-getD) }
 
-  pub free-freed : {b′ : List ℕ} → isOver t (entryAt (bookOf b .entries) p) ≡ true → Is b′ (withEntry freed p (bookOf b)) → Is b′ (withEntry (entryAfter t) p (bookOf b))
-  unfolding entryAfter
+  pub free-freed : {b′ : List ℕ} → isOver t (entryAt (bookOf b .entries) p) ≡ true
+      → Is b′ (withEntry madeFree p (bookOf b)) → Is b′ (withEntry (sweptEntry t) p (bookOf b))
+  unfolding sweptEntry
   free-freed e i = rw e i
 
 -- ---- the pass
@@ -66,12 +67,20 @@ sweeping-inside {b₀ = b₀} {t = t} {p = p} s l = rw (s .book .book, swept-n (
 
 module _ {b₀ : List ℕ} (t : ℕ) (h : Holds b₀) where
   pub sweeping-start : Sweeping b₀ t b₀ 0 0
-  sweeping-start = record { inside = omega arith; few = omega arith; len = refl; book = record { holds = h; book = swept-none (bookOf b₀) t }; count = refl }
+  sweeping-start =
+      record {
+        inside = omega arith;
+        few = omega arith;
+        len = refl;
+        book = record
+            { holds = h; book = swept-none (bookOf b₀) t };
+        count = refl;
+      }
 
   module _ {b : List ℕ} {freed p : ℕ} (s : Sweeping b₀ t b freed p) where
     pub sweeping-more : {b′ : List ℕ} {freed′ : ℕ} {r : Bool} → p < bookOf b₀ .sizes .n
         → r ≡ isOver t (entryAt (bookOf b .entries) p)
-        → Is b′ (withEntry (entryAfter t) p (bookOf b))
+        → Is b′ (withEntry (sweptEntry t) p (bookOf b))
         → length b′ ≡ length b
         → freed′ ≡ freed + bit r
         → Sweeping b₀ t b′ freed′ (p + 1)
@@ -87,7 +96,7 @@ module _ {b₀ : List ℕ} (t : ℕ) (h : Holds b₀) where
         }
 
     pub sweeping-end : p ≡ bookOf b₀ .sizes .n
-        → (freed ≡ countOf (isOver t) (bookOf b₀ .entries)) × Is b (withEntries (map (entryAfter t) (bookOf b₀ .entries)) (bookOf b₀))
+        → (freed ≡ countOf (isOver t) (bookOf b₀ .entries)) × Is b (withEntries (map (sweptEntry t) (bookOf b₀ .entries)) (bookOf b₀))
     sweeping-end e =
         let q : p ≡ length (bookOf b₀ .entries) = e ∙ sym (h .sized .entries) in
         (rw (q, take-length) at (s .count), rw (q, swept-end (bookOf b₀) t) at (s .book))

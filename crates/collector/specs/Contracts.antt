@@ -2,10 +2,12 @@
 use Prim.Native.Nat.{ℕ}
 use mathlib.Core.Path.{_≡_}
 use mathlib.Core.List.{List}
+use denote.Ref.{now}
+use Rattle.words.specs.Lent.{Lent}
 use Rattle.model.specs.OnBytes.{numberOf, collectBytes, collectedBook, collectedFreed}
 
--- b and b′ are the book before and after the call, r is what it returns
-pub record Swept (b : List ℕ) (t freed r : ℕ) (b′ : List ℕ) (freed′ : ℕ) : Type 0 where
-  pub number : r ≡ numberOf (collectBytes b t)
-  pub book : b′ ≡ collectedBook (collectBytes b t) b
-  pub answer : freed′ ≡ collectedFreed (collectBytes b t) freed
+-- r is what the call returns
+pub record Swept (b : Lent (List ℕ)) (t : ℕ) (freed : Lent ℕ) (r : ℕ) : Type 0 where
+  pub number : r ≡ numberOf (collectBytes (now (b .entry)) t)
+  pub book : now (b .exit) ≡ collectedBook (collectBytes (now (b .entry)) t) (now (b .entry))
+  pub answer : now (freed .exit) ≡ collectedFreed (collectBytes (now (b .entry)) t) (now (freed .entry))

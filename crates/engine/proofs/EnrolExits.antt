@@ -4,9 +4,11 @@ use mathlib.Core.Path.{_≡_, refl}
 use mathlib.Core.Bool.{true}
 use mathlib.Core.List.{List}
 use lib.Dec.{ltb, eqb}
+use denote.Ref.{now}
 use borrow.Author.Tests.{lt-ltb, le-ltb, eq-eqb, ne-eqb}
 use Rattle.words.proofs.Accepted.{unless-refused}
 use Rattle.words.proofs.ChoiceLaws.{or-r}
+use Rattle.words.specs.Lent.{Lent}
 use Rattle.words.specs.Outcome.{refused, accepted, andThen}
 use Rattle.book.specs.Book.{Book, retentionOf}
 use Rattle.book.specs.Layout.{bytes, bookOf, Is}
@@ -44,19 +46,23 @@ module _ (x : Book) (v r : ℕ) where
 
 -- ---- the ways out
 
-module _ (b : List ℕ) (v r : ℕ) where
-  left : (k : ℕ) → enrolBytes b v r ≡ refused k → Enrolled b v r k b
-  left k e = record { number = rw e; book = rw e }
+module _ (book : Lent (List ℕ)) (v r : ℕ) where
+  abbrev b : List ℕ
+  b = now (book .entry)
 
-  pub enrol-misformed : (k : ℕ) → k ≡ formNumber b → (k ≡ 0 → ⊥) → Enrolled b v r k b
-  unfolding enrolBytes
-  enrol-misformed k e h = left k (rw (← e) (unless-refused k (andThen (enrol (bookOf b) v r) (λ x. accepted (bytes x))) h))
+  module _ (same : now (book .exit) ≡ b) where
+    left : (k : ℕ) → enrolBytes b v r ≡ refused k → Enrolled book v r k
+    left k e = record { number = rw e; book = rw e same }
 
-  module _ (f : formNumber b ≡ 0) where
-    pub enrol-refused : (k : ℕ) → k ≡ enrolNumber (bookOf b) v r → (k ≡ 0 → ⊥) → Enrolled b v r k b
+    pub enrol-misformed : (k : ℕ) → k ≡ formNumber b → (k ≡ 0 → ⊥) → Enrolled book v r k
+    unfolding enrolBytes
+    enrol-misformed k e h = left k (rw (← e) (unless-refused k (andThen (enrol (bookOf b) v r) (λ x. accepted (bytes x))) h))
+
+    pub enrol-refused : formNumber b ≡ 0 → (k : ℕ) → k ≡ enrolNumber (bookOf b) v r → (k ≡ 0 → ⊥) → Enrolled book v r k
     unfolding enrolBytes enrol
-    enrol-refused k e h = left k (rw (f, ← e, unless-refused k (accepted (withRetention v r (bookOf b))) h))
+    enrol-refused f k e h = left k (rw (f, ← e, unless-refused k (accepted (withRetention v r (bookOf b))) h))
 
-    pub enrol-done : {b′ : List ℕ} → enrolNumber (bookOf b) v r ≡ 0 → Is b′ (withRetention v r (bookOf b)) → Enrolled b v r 0 b′
-    unfolding enrolBytes enrol
-    enrol-done e i = record { number = rw (f, e); book = rw (f, e) (bytes-is i) }
+  pub enrol-done : formNumber b ≡ 0 → enrolNumber (bookOf b) v r ≡ 0 → Is (now (book .exit)) (withRetention v r (bookOf b))
+      → Enrolled book v r 0
+  unfolding enrolBytes enrol
+  enrol-done f e i = record { number = rw (f, e); book = rw (f, e) (bytes-is i) }

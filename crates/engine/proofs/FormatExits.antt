@@ -5,8 +5,10 @@ use mathlib.Core.Bool.{true, false, _&&_}
 use mathlib.Core.List.{List}
 use lib.Dec.{eqb}
 use lib.ListN.{length}
+use denote.Ref.{now}
 use borrow.Author.Tests.{eq-eqb, ne-eqb}
 use Rattle.words.proofs.ChoiceLaws.{and-false}
+use Rattle.words.specs.Lent.{Lent}
 use Rattle.book.specs.Book.{Sizes}
 use Rattle.book.specs.Layout.{bookSize, Is}
 use Rattle.book.specs.Form.{sizesOk}
@@ -15,18 +17,23 @@ use Rattle.book.proofs.Holding.{bytes-is}
 use Rattle.model.specs.OnBytes.{formatNumber, formatBytes}
 use Rattle.engine.specs.Contracts.{Formatted}
 
-module _ (b : List ℕ) (z : Sizes) where
-  refused : (sizesOk z && eqb (length b) (bookSize z)) ≡ false → Formatted b (z .n) (z .l) (z .s) (z .j) 1 b
-  unfolding formatBytes formatNumber
-  refused e = record { number = rw e; book = rw e }
+module _ (book : Lent (List ℕ)) (z : Sizes) where
+  abbrev b : List ℕ
+  b = now (book .entry)
 
-  pub format-sizes : sizesOk z ≡ false → Formatted b (z .n) (z .l) (z .s) (z .j) 1 b
-  format-sizes e = refused (rw e)
+  module _ (same : now (book .exit) ≡ b) where
+    refused : (sizesOk z && eqb (length b) (bookSize z)) ≡ false → Formatted book (z .n) (z .l) (z .s) (z .j) 1
+    unfolding formatBytes formatNumber
+    refused e = record { number = rw e; book = rw e same }
 
-  pub format-length : (length b ≡ bookSize z → ⊥) → Formatted b (z .n) (z .l) (z .s) (z .j) 1 b
-  format-length h = refused (rw (ne-eqb (length b) (bookSize z) h) (and-false (sizesOk z)))
+    pub format-sizes : sizesOk z ≡ false → Formatted book (z .n) (z .l) (z .s) (z .j) 1
+    format-sizes e = refused (rw e)
 
-  pub format-done : {b′ : List ℕ} → sizesOk z ≡ true → length b ≡ bookSize z → Is b′ (fresh z) → Formatted b (z .n) (z .l) (z .s) (z .j) 0 b′
+    pub format-length : (length b ≡ bookSize z → ⊥) → Formatted book (z .n) (z .l) (z .s) (z .j) 1
+    format-length h = refused (rw (ne-eqb (length b) (bookSize z) h) (and-false (sizesOk z)))
+
+  pub format-done : sizesOk z ≡ true → length b ≡ bookSize z → Is (now (book .exit)) (fresh z)
+      → Formatted book (z .n) (z .l) (z .s) (z .j) 0
   unfolding formatBytes formatNumber
   format-done e l i =
       let t = eq-eqb (length b) (bookSize z) l in

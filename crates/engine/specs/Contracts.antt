@@ -2,13 +2,15 @@
 use Prim.Native.Nat.{ℕ}
 use mathlib.Core.Path.{_≡_}
 use mathlib.Core.List.{List}
+use denote.Ref.{now}
+use Rattle.words.specs.Lent.{Lent}
 use Rattle.model.specs.OnBytes.{numberOf, bookAfter, formatBytes, enrolBytes}
 
--- b and b′ are the book before and after the call, r is what it returns
-pub record Formatted (b : List ℕ) (n l s j r : ℕ) (b′ : List ℕ) : Type 0 where
-  pub number : r ≡ numberOf (formatBytes b (record { n = n; l = l; s = s; j = j }))
-  pub book : b′ ≡ bookAfter (formatBytes b (record { n = n; l = l; s = s; j = j })) b
+-- r is what the call returns
+pub record Formatted (b : Lent (List ℕ)) (n l s j r : ℕ) : Type 0 where
+  pub number : r ≡ numberOf (formatBytes (now (b .entry)) (record { n = n; l = l; s = s; j = j }))
+  pub book : now (b .exit) ≡ bookAfter (formatBytes (now (b .entry)) (record { n = n; l = l; s = s; j = j })) (now (b .entry))
 
-pub record Enrolled (b : List ℕ) (v retention r : ℕ) (b′ : List ℕ) : Type 0 where
-  pub number : r ≡ numberOf (enrolBytes b v retention)
-  pub book : b′ ≡ bookAfter (enrolBytes b v retention) b
+pub record Enrolled (b : Lent (List ℕ)) (v retention r : ℕ) : Type 0 where
+  pub number : r ≡ numberOf (enrolBytes (now (b .entry)) v retention)
+  pub book : now (b .exit) ≡ bookAfter (enrolBytes (now (b .entry)) v retention) (now (b .entry))

@@ -4,7 +4,7 @@ use auditor::audit::answer;
 
 #[no_mangle]
 pub extern "C" fn aspen_audit(book: &[u8], sound: &mut u16) -> u16
-    ensures { λ r. ⌜ Audited (now (book .entry)) (now (sound .entry)) r (now (sound .exit)) ⌝ }
+    ensures { λ r. ⌜ Audited book sound r ⌝ }
 {
     answer(book, sound)
 }

@@ -13,10 +13,7 @@ pub extern "C" fn aspen_backup(
     taken: &mut u16,
     touched: &mut u16,
 ) -> u16
-    ensures { λ r. ⌜ BackedUp (now (book .entry)) (now (pool .entry)) (now (spare .entry)) volume day (now (list .entry))
-        (record { number = now (number .entry); taken = now (taken .entry); touched = now (touched .entry) })
-        r (now (book .exit)) (now (pool .exit))
-        (record { number = now (number .exit); taken = now (taken .exit); touched = now (touched .exit) }) ⌝ }
+    ensures { λ r. ⌜ BackedUp book pool spare volume day list number taken touched r ⌝ }
 {
     intake::backup::backup(book, pool, spare, volume, day, list, number, taken, touched)
 }

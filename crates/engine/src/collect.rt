@@ -3,7 +3,7 @@ ghost use Rattle.collector.specs.Contracts.{Swept};
 
 #[no_mangle]
 pub extern "C" fn aspen_collect(book: &mut [u8], day: u16, freed: &mut u16) -> u16
-    ensures { λ r. ⌜ Swept (now (book .entry)) day (now (freed .entry)) r (now (book .exit)) (now (freed .exit)) ⌝ }
+    ensures { λ r. ⌜ Swept book day freed r ⌝ }
 {
     collector::collect::collect(book, day, freed)
 }

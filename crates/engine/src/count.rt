@@ -1,6 +1,6 @@
 // Counting: how many blocks are held and waiting, and how many references point to them.
-ghost use Rattle.pages.specs.Counted.{CountedUp};
-use pages::count::count;
+ghost use Rattle.counter.specs.Counted.{CountedUp};
+use counter::count::count;
 
 #[no_mangle]
 pub extern "C" fn aspen_count(
@@ -10,7 +10,7 @@ pub extern "C" fn aspen_count(
     waiting: &mut u16,
     references: &mut u32,
 ) -> u16
-    ensures { λ r. ⌜ CountedUp (now (book .entry)) (now (blocks .entry)) (now (held .entry)) (now (waiting .entry)) (now (references .entry)) r (now (blocks .exit)) (now (held .exit)) (now (waiting .exit)) (now (references .exit)) ⌝ }
+    ensures { λ r. ⌜ CountedUp book blocks held waiting references r ⌝ }
 {
     count(book, blocks, held, waiting, references)
 }

@@ -1,18 +1,19 @@
 // Format: a fresh book.
 ghost use Rattle.engine.specs.Contracts.{Formatted};
-use book::fresh;
-use book::sizes::size;
-use book::sizes::sizes_ok;
+use fields::fresh;
+use fields::sizes::size;
+use fields::sizes::sizes_ok;
+use words::refusals;
 
 #[no_mangle]
 pub extern "C" fn aspen_format(book: &mut [u8], n: u16, l: u16, s: u16, j: u16) -> u16
-    ensures { λ r. ⌜ Formatted (now (book .entry)) n l s j r (now (book .exit)) ⌝ }
+    ensures { λ r. ⌜ Formatted book n l s j r ⌝ }
 {
     if !sizes_ok(n, l, s, j) {
-        return 1;
+        return refusals::BAD_LAYOUT;
     }
     if book.len() != size(n, l, s, j) {
-        return 1;
+        return refusals::BAD_LAYOUT;
     }
     fresh::format(book, n, l, s, j);
     0

@@ -1,4 +1,4 @@
-// Read: a block of a backup. Rattle callers get the block itself, C callers its place in the pool.
+// Read: a block of a backup. Rattle callers get the block itself, C callers its offset in the pool.
 ghost use Rattle.restorer.specs.Contracts.{Located};
 pub use restorer::read::read;
 pub use restorer::read::read_number;
@@ -14,7 +14,7 @@ pub extern "C" fn aspen_read(
     lbn: u16,
     at: &mut u32,
 ) -> u16
-    ensures { λ r. ⌜ Located (now (book .entry)) (now (pool .entry)) volume number lbn (now (at .entry)) r (now (at .exit)) ⌝ }
+    ensures { λ r. ⌜ Located book pool volume number lbn at r ⌝ }
 {
-    restorer::read::read_place(book, pool, volume, number, LBN(lbn), at)
+    restorer::read::read_offset(book, pool, volume, number, LBN(lbn), at)
 }

@@ -9,14 +9,14 @@ pub extern "C" fn aspen_sizes(
     slots: &mut u16,
     records: &mut u16,
 ) -> u16
-    ensures { λ r. ⌜ SizesTold (now (book .entry)) (now (blocks .entry)) (now (cells .entry)) (now (slots .entry)) (now (records .entry)) r (now (blocks .exit)) (now (cells .exit)) (now (slots .exit)) (now (records .exit)) ⌝ }
+    ensures { λ r. ⌜ SizesTold book blocks cells slots records r ⌝ }
 {
     figures::header::sizes(book, blocks, cells, slots, records)
 }
 
 #[no_mangle]
 pub extern "C" fn aspen_used(book: &[u8], slots: &mut u16, records: &mut u16, day: &mut u16) -> u16
-    ensures { λ r. ⌜ UsedTold (now (book .entry)) (now (slots .entry)) (now (records .entry)) (now (day .entry)) r (now (slots .exit)) (now (records .exit)) (now (day .exit)) ⌝ }
+    ensures { λ r. ⌜ UsedTold book slots records day r ⌝ }
 {
     figures::header::used(book, slots, records, day)
 }
@@ -28,7 +28,7 @@ pub extern "C" fn aspen_volume(
     retention: &mut u16,
     backups: &mut u16,
 ) -> u16
-    ensures { λ r. ⌜ VolumeTold (now (book .entry)) volume (now (retention .entry)) (now (backups .entry)) r (now (retention .exit)) (now (backups .exit)) ⌝ }
+    ensures { λ r. ⌜ VolumeTold book volume retention backups r ⌝ }
 {
     figures::volume::volume(book, volume, retention, backups)
 }

@@ -3,6 +3,8 @@ use Prim.Native.Nat.{ℕ}
 use mathlib.Core.Path.{_≡_}
 use mathlib.Core.List.{List}
 use lib.ListN.{length}
+use denote.Ref.{now}
+use Rattle.words.specs.Lent.{Lent}
 use Rattle.words.proofs.Accepted.{unless-refused}
 use Rattle.words.specs.Outcome.{accepted}
 use Rattle.book.specs.Layout.{bookOf}
@@ -10,29 +12,38 @@ use Rattle.book.specs.Form.{formNumber}
 use Rattle.model.specs.Views.{usedOf, sizesBytes, usedBytes}
 use Rattle.figures.specs.Contracts.{SizesTold, UsedTold}
 
-module _ (b : List ℕ) where
-  pub sizes-refused : {n l s j r : ℕ} → r ≡ formNumber b → (r ≡ 0 → ⊥) → SizesTold b n l s j r n l s j
-  unfolding sizesBytes
-  sizes-refused {r = r} e h =
-      let o = unless-refused r (accepted (bookOf b .sizes)) h in
-      record { number = rw (← e, o); blocks = rw (← e, o); cells = rw (← e, o); slots = rw (← e, o); records = rw (← e, o) }
+abbrev Same : Lent ℕ → Type 0
+Same x = now (x .exit) ≡ now (x .entry)
 
-  pub used-refused : {s u d r : ℕ} → r ≡ formNumber b → (r ≡ 0 → ⊥) → UsedTold b s u d r s u d
-  unfolding usedBytes
-  used-refused {r = r} e h =
-      let o = unless-refused r (accepted (usedOf (bookOf b))) h in
-      record { number = rw (← e, o); slots = rw (← e, o); records = rw (← e, o); day = rw (← e, o) }
+module _ (book : Lent (List ℕ)) where
+  abbrev b : List ℕ
+  b = now (book .entry)
 
-  module _ (f : formNumber b ≡ 0) where
-    pub sizes-told : {n l s j n′ l′ s′ j′ : ℕ} → n′ ≡ bookOf b .sizes .n → l′ ≡ bookOf b .sizes .l
-        → s′ ≡ bookOf b .sizes .s
-        → j′ ≡ bookOf b .sizes .j
-        → SizesTold b n l s j 0 n′ l′ s′ j′
+  module _ (n l s j : Lent ℕ) where
+    pub sizes-refused : Same n → Same l → Same s → Same j → {r : ℕ} → r ≡ formNumber b → (r ≡ 0 → ⊥)
+        → SizesTold book n l s j r
     unfolding sizesBytes
-    sizes-told n l s j = record { number = rw f; blocks = rw f n; cells = rw f l; slots = rw f s; records = rw f j }
+    sizes-refused n l s j {r} e h =
+        let o = unless-refused r (accepted (bookOf b .sizes)) h in
+        record { number = rw (← e, o); blocks = rw (← e, o) n; cells = rw (← e, o) l; slots = rw (← e, o) s; records = rw (← e, o) j }
 
-    pub used-told : {s u d s′ u′ d′ : ℕ} → s′ ≡ length (bookOf b .slots) → u′ ≡ length (bookOf b .records)
-        → d′ ≡ bookOf b .day
-        → UsedTold b s u d 0 s′ u′ d′
+    pub sizes-told : formNumber b ≡ 0 → now (n .exit) ≡ bookOf b .sizes .n → now (l .exit) ≡ bookOf b .sizes .l
+        → now (s .exit) ≡ bookOf b .sizes .s
+        → now (j .exit) ≡ bookOf b .sizes .j
+        → SizesTold book n l s j 0
+    unfolding sizesBytes
+    sizes-told f n l s j = record { number = rw f; blocks = rw f n; cells = rw f l; slots = rw f s; records = rw f j }
+
+  module _ (s u d : Lent ℕ) where
+    pub used-refused : Same s → Same u → Same d → {r : ℕ} → r ≡ formNumber b → (r ≡ 0 → ⊥) → UsedTold book s u d r
+    unfolding usedBytes
+    used-refused s u d {r} e h =
+        let o = unless-refused r (accepted (usedOf (bookOf b))) h in
+        record { number = rw (← e, o); slots = rw (← e, o) s; records = rw (← e, o) u; day = rw (← e, o) d }
+
+    pub used-told : formNumber b ≡ 0 → now (s .exit) ≡ length (bookOf b .slots)
+        → now (u .exit) ≡ length (bookOf b .records)
+        → now (d .exit) ≡ bookOf b .day
+        → UsedTold book s u d 0
     unfolding usedBytes usedOf
-    used-told s u d = record { number = rw f; slots = rw f s; records = rw f u; day = rw f d }
+    used-told f s u d = record { number = rw f; slots = rw f s; records = rw f u; day = rw f d }

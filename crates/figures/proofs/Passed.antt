@@ -4,8 +4,8 @@ use mathlib.Core.Path.{_≡_, sym, _∙_}
 use native.Mathlib.Omega.{arith}
 use lib.ListN.{length}
 use Rattle.book.specs.Book.{Book, slotAt}
-use Rattle.book.specs.Struct.{SlotIs}
-use Rattle.book.specs.declared.slot.Slot.{Slot}
+use Rattle.journal.specs.Struct.{SlotIs}
+use Rattle.journal.specs.declared.slot.Slot.{Slot}
 use Rattle.model.specs.Journal.{backups}
 use Rattle.model.specs.JournalAt.{backupsFrom}
 use Rattle.model.proofs.kept.JournalAtLaws.{from-start, from-own, from-other, from-end}

@@ -3,6 +3,8 @@ use Prim.Native.Nat.{ℕ}
 use mathlib.Core.Path.{_≡_}
 use mathlib.Core.List.{List}
 use lib.ListN.{length}
+use denote.Ref.{now}
+use Rattle.words.specs.Lent.{Lent}
 use Rattle.words.proofs.Accepted.{unless-refused}
 use Rattle.words.specs.Outcome.{accepted}
 use Rattle.book.specs.Book.{retentionOf}
@@ -11,14 +13,19 @@ use Rattle.model.specs.Journal.{backups}
 use Rattle.model.specs.Views.{enrolledNumber, volumeOf, volumeBytes}
 use Rattle.figures.specs.Contracts.{VolumeTold}
 
-module _ (b : List ℕ) (v : ℕ) {k n r : ℕ} where
-  pub volume-refused : r ≡ enrolledNumber b v → (r ≡ 0 → ⊥) → VolumeTold b v k n r k n
-  unfolding volumeBytes
-  volume-refused e h =
-      let o = unless-refused r (accepted (volumeOf (bookOf b) v)) h in
-      record { number = rw (← e, o); retention = rw (← e, o); backups = rw (← e, o) }
+module _ (book : Lent (List ℕ)) (v : ℕ) (k n : Lent ℕ) where
+  abbrev b : List ℕ
+  b = now (book .entry)
 
-  pub volume-told : {c : ℕ} → enrolledNumber b v ≡ 0 → r ≡ retentionOf (bookOf b) v → c ≡ length (backups (bookOf b) v)
-      → VolumeTold b v k n 0 r c
+  pub volume-refused : now (k .exit) ≡ now (k .entry) → now (n .exit) ≡ now (n .entry)
+      → {r : ℕ} → r ≡ enrolledNumber b v → (r ≡ 0 → ⊥) → VolumeTold book v k n r
+  unfolding volumeBytes
+  volume-refused k n {r} e h =
+      let o = unless-refused r (accepted (volumeOf (bookOf b) v)) h in
+      record { number = rw (← e, o); retention = rw (← e, o) k; backups = rw (← e, o) n }
+
+  pub volume-told : enrolledNumber b v ≡ 0 → now (k .exit) ≡ retentionOf (bookOf b) v
+      → now (n .exit) ≡ length (backups (bookOf b) v)
+      → VolumeTold book v k n 0
   unfolding volumeBytes volumeOf
-  volume-told e r c = record { number = rw e; retention = rw e r; backups = rw e c }
+  volume-told e k n = record { number = rw e; retention = rw e k; backups = rw e n }

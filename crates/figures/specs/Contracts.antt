@@ -2,24 +2,26 @@
 use Prim.Native.Nat.{ℕ}
 use mathlib.Core.Path.{_≡_}
 use mathlib.Core.List.{List}
+use denote.Ref.{now}
+use Rattle.words.specs.Lent.{Lent}
 use Rattle.model.specs.OnBytes.{numberOf, after}
 use Rattle.model.specs.Views.{sizesBytes, usedBytes, volumeBytes}
 
--- r is what the call returns; an answer's name is what stood there before the call, with a stroke what stands there after it
-pub record SizesTold (b : List ℕ) (n l s j r n′ l′ s′ j′ : ℕ) : Type 0 where
-  pub number : r ≡ numberOf (sizesBytes b)
-  pub blocks : n′ ≡ after (λ z. z .n) (sizesBytes b) n
-  pub cells : l′ ≡ after (λ z. z .l) (sizesBytes b) l
-  pub slots : s′ ≡ after (λ z. z .s) (sizesBytes b) s
-  pub records : j′ ≡ after (λ z. z .j) (sizesBytes b) j
+-- r is what the call returns
+pub record SizesTold (b : Lent (List ℕ)) (n l s j : Lent ℕ) (r : ℕ) : Type 0 where
+  pub number : r ≡ numberOf (sizesBytes (now (b .entry)))
+  pub blocks : now (n .exit) ≡ after (λ z. z .n) (sizesBytes (now (b .entry))) (now (n .entry))
+  pub cells : now (l .exit) ≡ after (λ z. z .l) (sizesBytes (now (b .entry))) (now (l .entry))
+  pub slots : now (s .exit) ≡ after (λ z. z .s) (sizesBytes (now (b .entry))) (now (s .entry))
+  pub records : now (j .exit) ≡ after (λ z. z .j) (sizesBytes (now (b .entry))) (now (j .entry))
 
-pub record UsedTold (b : List ℕ) (s u d r s′ u′ d′ : ℕ) : Type 0 where
-  pub number : r ≡ numberOf (usedBytes b)
-  pub slots : s′ ≡ after (λ w. w .slots) (usedBytes b) s
-  pub records : u′ ≡ after (λ w. w .records) (usedBytes b) u
-  pub day : d′ ≡ after (λ w. w .day) (usedBytes b) d
+pub record UsedTold (b : Lent (List ℕ)) (s u d : Lent ℕ) (r : ℕ) : Type 0 where
+  pub number : r ≡ numberOf (usedBytes (now (b .entry)))
+  pub slots : now (s .exit) ≡ after (λ w. w .slots) (usedBytes (now (b .entry))) (now (s .entry))
+  pub records : now (u .exit) ≡ after (λ w. w .records) (usedBytes (now (b .entry))) (now (u .entry))
+  pub day : now (d .exit) ≡ after (λ w. w .day) (usedBytes (now (b .entry))) (now (d .entry))
 
-pub record VolumeTold (b : List ℕ) (v k n r k′ n′ : ℕ) : Type 0 where
-  pub number : r ≡ numberOf (volumeBytes b v)
-  pub retention : k′ ≡ after (λ w. w .retention) (volumeBytes b v) k
-  pub backups : n′ ≡ after (λ w. w .backups) (volumeBytes b v) n
+pub record VolumeTold (b : Lent (List ℕ)) (v : ℕ) (k n : Lent ℕ) (r : ℕ) : Type 0 where
+  pub number : r ≡ numberOf (volumeBytes (now (b .entry)) v)
+  pub retention : now (k .exit) ≡ after (λ w. w .retention) (volumeBytes (now (b .entry)) v) (now (k .entry))
+  pub backups : now (n .exit) ≡ after (λ w. w .backups) (volumeBytes (now (b .entry)) v) (now (n .entry))

@@ -1,6 +1,6 @@
 // The sizes of a book, and how much of it is used.
 ghost use Rattle.figures.specs.Contracts.{SizesTold, UsedTold};
-use book::header;
+use fields::header;
 use form::form_number;
 
 // Pool blocks, logical blocks of a volume, backup slots and journal slots.
@@ -11,7 +11,7 @@ pub fn sizes(
     slots: &mut u16,
     records: &mut u16,
 ) -> u16
-    ensures { λ r. ⌜ SizesTold (now (book .entry)) (now (blocks .entry)) (now (cells .entry)) (now (slots .entry)) (now (records .entry)) r (now (blocks .exit)) (now (cells .exit)) (now (slots .exit)) (now (records .exit)) ⌝ }
+    ensures { λ r. ⌜ SizesTold book blocks cells slots records r ⌝ }
 {
     let refusal = form_number(book);
     if refusal != 0 {
@@ -26,7 +26,7 @@ pub fn sizes(
 
 // Slots and records used, and the book's day.
 pub fn used(book: &[u8], slots: &mut u16, records: &mut u16, day: &mut u16) -> u16
-    ensures { λ r. ⌜ UsedTold (now (book .entry)) (now (slots .entry)) (now (records .entry)) (now (day .entry)) r (now (slots .exit)) (now (records .exit)) (now (day .exit)) ⌝ }
+    ensures { λ r. ⌜ UsedTold book slots records day r ⌝ }
 {
     let refusal = form_number(book);
     if refusal != 0 {

@@ -1,16 +1,16 @@
 // What a volume has: its retention, and how many backups.
 ghost use mathlib.Core.Path.{_≡_};
 ghost use lib.ListN.{length};
-ghost use Rattle.book.specs.Layout.{bookOf, Holds};
+ghost use Rattle.book.specs.Layout.{told, Holds};
 ghost use Rattle.model.specs.Journal.{backups};
 ghost use Rattle.figures.specs.Contracts.{VolumeTold};
 use super::enrolled::enrolled_number;
-use book::header;
-use book::slot;
+use fields::header;
+use journal::slot;
 
 pub fn count_backups(book: &[u8], v: u16) -> u16
     requires { ⌜ Holds (now book) ⌝ }
-    ensures { λ r. ⌜ r ≡ length (backups (bookOf (now (book .entry))) v) ⌝ }
+    ensures { λ r. ⌜ r ≡ length (backups (told (book .entry)) v) ⌝ }
 {
     let used = header::used_slots(book);
     let mut count = 0;
@@ -26,7 +26,7 @@ pub fn count_backups(book: &[u8], v: u16) -> u16
 }
 
 pub fn volume(book: &[u8], volume: u16, retention: &mut u16, backups: &mut u16) -> u16
-    ensures { λ r. ⌜ VolumeTold (now (book .entry)) volume (now (retention .entry)) (now (backups .entry)) r (now (retention .exit)) (now (backups .exit)) ⌝ }
+    ensures { λ r. ⌜ VolumeTold book volume retention backups r ⌝ }
 {
     let refusal = enrolled_number(book, volume);
     if refusal != 0 {

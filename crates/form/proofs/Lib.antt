@@ -1,4 +1,1 @@
-pub mod DayLaws
-pub mod CheckLaws
-pub mod SlotLaws
 pub mod PassLaws

@@ -19,17 +19,20 @@ use Rattle.words.specs.Numbers.{num}
 use Rattle.words.specs.Sections.{tab, part}
 use Rattle.words.proofs.SectionLaws.{length-tab}
 use Rattle.book.specs.Book.{volumes, Slot}
-use Rattle.book.specs.Layout.{nPlace, lPlace, sPlace, jPlace, bPlace, uPlace, retentionPlace, entriesFrom, entrySize, mapsFrom, cellPlace, slotsFrom, slotSize, recSize, slotPlace, recordsFrom, recPlace, bookSize, sizesOf, entryOf, cellOf, recOf, bookOf}
-use Rattle.book.specs.Form.{retentionOk, entryOk, pbnOk, recOk, enrolled, slotOk, daysOk, pairsOk, bookOk, stateOk, secondOk, rawOk, layoutOk, formNumber}
+use Rattle.book.specs.Layout.{nOffset, lOffset, sOffset, jOffset, bOffset, uOffset, retentionOffset, entriesFrom, entrySize, mapsFrom}
+use Rattle.book.specs.Layout.{cellOffset, slotsFrom, slotSize, recSize, slotOffset, recordsFrom, recOffset, bookSize, sizesOf, entryOf}
+use Rattle.book.specs.Layout.{cellOf, recOf, bookOf}
+use Rattle.book.specs.Form.{retentionOk, entryOk, pbnOk, recOk, enrolled, slotOk, daysOk, pairsOk, bookOk, stateOk, secondOk, rawOk}
+use Rattle.book.specs.Form.{layoutOk, formNumber}
 use Rattle.book.proofs.FormNumber.{number-0, number-2}
-use Rattle.book.specs.Formed.{BookParts}
-use Rattle.book.proofs.FormParts.{book-parts, parts-book, RawParts, raw-parts, parts-raw}
-use Rattle.form.proofs.DayLaws.{volumeOk, days-pass}
-use Rattle.form.specs.Days.{noLasts}
-use Rattle.form.specs.Slots.{slotsLeft}
-use Rattle.form.proofs.SlotLaws.{no-retention}
-use Rattle.form.specs.Checks.{zerosIn, headOk, retentionsOk, entriesOk, mapsOk, recordsOk}
-use Rattle.form.proofs.CheckLaws.{head-facts, facts-head}
+use Rattle.book.specs.FormFacts.{BookParts}
+use Rattle.book.proofs.Clauses.{book-parts, parts-book, RawParts, raw-parts, parts-raw}
+use Rattle.slots.proofs.DayLaws.{volumeOk, days-pass}
+use Rattle.slots.specs.Days.{noLasts}
+use Rattle.slots.specs.Slots.{slotsLeft}
+use Rattle.slots.proofs.SlotLaws.{no-retention}
+use Rattle.sections.specs.Checks.{zerosIn, headOk, retentionsOk, entriesOk, mapsOk, recordsOk}
+use Rattle.sections.proofs.CheckLaws.{head-facts, facts-head}
 use Rattle.form.specs.Passes.{blocksOk, slotsOk, journalOk}
 
 -- ---- section by section
@@ -37,33 +40,36 @@ use Rattle.form.specs.Passes.{blocksOk, slotsOk, journalOk}
 module _ (b : List ℕ) where
   retentions-pass : all retentionOk (bookOf b .retentions) ≡ retentionsOk b
   unfolding bookOf retentionsOk
-  retentions-pass = tab-each retentionOk volumes (λ v. num b (retentionPlace v))
+  retentions-pass = tab-each retentionOk volumes (λ v. num b (retentionOffset v))
 
-  entries-pass : (all (stateOk b) (upFrom 0 (num b nPlace)) && all entryOk (bookOf b .entries)) ≡ entriesOk b (num b nPlace)
+  entries-pass : (all (stateOk b) (upFrom 0 (num b nOffset)) && all entryOk (bookOf b .entries)) ≡ entriesOk b (num b nOffset)
   unfolding bookOf entriesOk
   entries-pass =
-      rw (all-each (stateOk b) (num b nPlace), tab-each entryOk (num b nPlace) (entryOf b))
-      (sym (each-and (stateOk b) (λ p. entryOk (entryOf b p)) 0 (num b nPlace)))
+      rw (all-each (stateOk b) (num b nOffset), tab-each entryOk (num b nOffset) (entryOf b))
+      (sym (each-and (stateOk b) (λ p. entryOk (entryOf b p)) 0 (num b nOffset)))
 
-  maps-pass : all (all (pbnOk (bookOf b .sizes .n))) (bookOf b .maps) ≡ mapsOk b (mapsFrom (sizesOf b)) (volumes * num b lPlace) (num b nPlace)
+  maps-pass : all (all (pbnOk (bookOf b .sizes .n))) (bookOf b .maps)
+      ≡ mapsOk b (mapsFrom (sizesOf b)) (volumes * num b lOffset) (num b nOffset)
   unfolding bookOf mapsOk
   maps-pass =
-      let row : ℕ → ℕ → Bool = λ v k. pbnOk (num b nPlace) (cellOf b v k) in
-      tab-each (all (pbnOk (num b nPlace))) volumes (λ v. tab (num b lPlace) (cellOf b v))
-      ∙ each-same (λ v. all (pbnOk (num b nPlace)) (tab (num b lPlace) (cellOf b v))) (λ v. each (λ k. cell (v * num b lPlace + k)) 0 (num b lPlace)) 0 volumes
-      (λ v _ _. tab-each (pbnOk (num b nPlace)) (num b lPlace) (cellOf b v)
-      ∙ each-same (row v) (λ k. cell (v * num b lPlace + k)) 0 (num b lPlace) (λ k _ _. ap (λ (at : ℕ). pbnOk (num b nPlace) (num b at)) (place v k)))
-      ∙ rows-each cell (num b lPlace) volumes
+      let row : ℕ → ℕ → Bool = λ v k. pbnOk (num b nOffset) (cellOf b v k) in
+      tab-each (all (pbnOk (num b nOffset))) volumes (λ v. tab (num b lOffset) (cellOf b v))
+      ∙ each-same (λ v. all (pbnOk (num b nOffset)) (tab (num b lOffset) (cellOf b v)))
+      (λ v. each (λ k. cell (v * num b lOffset + k)) 0 (num b lOffset)) 0 volumes
+      (λ v _ _. tab-each (pbnOk (num b nOffset)) (num b lOffset) (cellOf b v)
+      ∙ each-same (row v) (λ k. cell (v * num b lOffset + k)) 0 (num b lOffset)
+      (λ k _ _. ap (λ (at : ℕ). pbnOk (num b nOffset) (num b at)) (offset v k)))
+      ∙ rows-each cell (num b lOffset) volumes
     where
       cell : ℕ → Bool
-      cell c = pbnOk (num b nPlace) (num b (mapsFrom (sizesOf b) + c * 2))
+      cell c = pbnOk (num b nOffset) (num b (mapsFrom (sizesOf b) + c * 2))
 
-      place : (v k : ℕ) → cellPlace (sizesOf b) v k ≡ mapsFrom (sizesOf b) + (v * num b lPlace + k) * 2
-      place v k = let e : v * (num b lPlace * 2) ≡ v * num b lPlace * 2 = sym (mul-assoc v (num b lPlace) 2) in omega arith
+      offset : (v k : ℕ) → cellOffset (sizesOf b) v k ≡ mapsFrom (sizesOf b) + (v * num b lOffset + k) * 2
+      offset v k = let e : v * (num b lOffset * 2) ≡ v * num b lOffset * 2 = sym (mul-assoc v (num b lOffset) 2) in omega arith
 
-  records-pass : all (recOk (bookOf b .sizes)) (bookOf b .records) ≡ recordsOk b (recordsFrom (sizesOf b)) (num b uPlace)
+  records-pass : all (recOk (bookOf b .sizes)) (bookOf b .records) ≡ recordsOk b (recordsFrom (sizesOf b)) (num b uOffset)
   unfolding bookOf recordsOk
-  records-pass = tab-each (recOk (sizesOf b)) (num b uPlace) (λ q. recOf b (recPlace (sizesOf b) q))
+  records-pass = tab-each (recOk (sizesOf b)) (num b uOffset) (λ q. recOf b (recOffset (sizesOf b) q))
 
   -- a slot in form names a volume below 8
   slot-volume : (t : Slot) → slotOk (bookOf b) t ≡ true → volumeOk t ≡ true
@@ -74,16 +80,19 @@ module _ (b : List ℕ) where
       go (yes l) f = lt-ltb (t .volume) volumes l
       go (no l) f = let z : false ≡ true = rw (no-retention b (t .volume) (omega arith)) at f in cc
 
-  used : length (bookOf b .records) ≡ num b uPlace
+  used : length (bookOf b .records) ≡ num b uOffset
   unfolding bookOf
-  used = length-tab (num b uPlace) (λ q. recOf b (recPlace (sizesOf b) q))
+  used = length-tab (num b uOffset) (λ q. recOf b (recOffset (sizesOf b) q))
 
-  slots-pass : (all (secondOk b) (upFrom 0 (num b bPlace)) && all (slotOk (bookOf b)) (bookOf b .slots) && daysOk (bookOf b .slots)
+  slots-pass : (all (secondOk b) (upFrom 0 (num b bOffset)) && all (slotOk (bookOf b)) (bookOf b .slots) && daysOk (bookOf b .slots)
       && pairsOk 0 (bookOf b .slots) (length (bookOf b .records))) ≡ slotsLeft b 0 noLasts 0 0
   unfolding slotsLeft
   slots-pass =
-      rw (all-each (secondOk b) (num b bPlace), used)
-      (go (each (secondOk b) 0 (num b bPlace)) (all (slotOk (bookOf b)) (bookOf b .slots)) (pairsOk 0 (bookOf b .slots) (num b uPlace)) (λ e. sym (days-pass (bookOf b .slots) (all-weaker (slotOk (bookOf b)) volumeOk (bookOf b .slots) slot-volume e))))
+      rw (all-each (secondOk b) (num b bOffset), used)
+      (go (each (secondOk b) 0 (num b bOffset)) (all (slotOk (bookOf b)) (bookOf b .slots))
+      (pairsOk 0 (bookOf b .slots) (num b uOffset))
+      (λ e. sym (days-pass (bookOf b .slots)
+      (all-weaker (slotOk (bookOf b)) volumeOk (bookOf b .slots) slot-volume e))))
     where
       go : (a s p : Bool) {d d′ : Bool} → (s ≡ true → d ≡ d′) → (a && s && d && p) ≡ (a && s && d′ && p)
       go false s p h = refl
@@ -97,25 +106,46 @@ abbrev pub sectionsOk : List ℕ → Bool
 sectionsOk b = headOk b && blocksOk b && slotsOk b && journalOk b
 
 module _ (b : List ℕ) (len : length b ≡ bookSize (sizesOf b)) where
-  rest-slots : num b bPlace ≤ num b sPlace
-      → allZero (part b (slotPlace (sizesOf b) (num b bPlace)) ((num b sPlace - num b bPlace) * slotSize)) ≡ zerosIn b (slotPlace (sizesOf b) (num b bPlace)) (recordsFrom (sizesOf b))
+  rest-slots : num b bOffset ≤ num b sOffset
+      → allZero (part b (slotOffset (sizesOf b) (num b bOffset)) ((num b sOffset - num b bOffset) * slotSize))
+      ≡ zerosIn b (slotOffset (sizesOf b) (num b bOffset)) (recordsFrom (sizesOf b))
   rest-slots h =
-      zeros-each b ((num b sPlace - num b bPlace) * slotSize) (slotPlace (sizesOf b) (num b bPlace)) (omega arith)
-      ∙ ap (zerosIn b (slotPlace (sizesOf b) (num b bPlace))) (omega arith)
+      zeros-each b ((num b sOffset - num b bOffset) * slotSize) (slotOffset (sizesOf b) (num b bOffset)) (omega arith)
+      ∙ ap (zerosIn b (slotOffset (sizesOf b) (num b bOffset))) (omega arith)
 
-  rest-records : num b uPlace ≤ num b jPlace
-      → allZero (part b (recPlace (sizesOf b) (num b uPlace)) ((num b jPlace - num b uPlace) * recSize)) ≡ zerosIn b (recPlace (sizesOf b) (num b uPlace)) (bookSize (sizesOf b))
+  rest-records : num b uOffset ≤ num b jOffset
+      → allZero (part b (recOffset (sizesOf b) (num b uOffset)) ((num b jOffset - num b uOffset) * recSize))
+      ≡ zerosIn b (recOffset (sizesOf b) (num b uOffset)) (bookSize (sizesOf b))
   rest-records h =
-      zeros-each b ((num b jPlace - num b uPlace) * recSize) (recPlace (sizesOf b) (num b uPlace)) (omega arith)
-      ∙ ap (zerosIn b (recPlace (sizesOf b) (num b uPlace))) (omega arith)
+      zeros-each b ((num b jOffset - num b uOffset) * recSize) (recOffset (sizesOf b) (num b uOffset)) (omega arith)
+      ∙ ap (zerosIn b (recOffset (sizesOf b) (num b uOffset))) (omega arith)
 
   to-sections : RawParts b → BookParts (bookOf b) → sectionsOk b ≡ true
   unfolding blocksOk slotsOk journalOk bookOf
   to-sections r p =
-      let head : headOk b ≡ true = facts-head b (record { slots = r .slots; records = r .records; day = p .day; cursor = p .cursor; spare = r .spare }) in
-      let entries = sym (entries-pass b) ∙ true-and (all (stateOk b) (upFrom 0 (num b nPlace))) (all entryOk (bookOf b .entries)) (r .states) (p .entries) in
+      let head : headOk b ≡ true =
+      facts-head b (record {
+        slots = r .slots;
+        records = r .records;
+        day = p .day;
+        cursor = p .cursor;
+        spare
+            = r .spare;
+      }) in
+      let entries =
+      sym (entries-pass b) ∙ true-and (all (stateOk b) (upFrom 0 (num b nOffset))) (all entryOk (bookOf b .entries))
+      (r .states) (p .entries) in
       let slots : slotsLeft b 0 noLasts 0 0 ≡ true = sym (slots-pass b) ∙ rw (r .seconds, p .slots, p .days) (p .pairs) in
-      rw (head, sym (retentions-pass b) ∙ p .retentions, entries, sym (maps-pass b) ∙ p .maps, slots, sym (rest-slots (r .slots)) ∙ r .restSlots, sym (records-pass b) ∙ p .records)
+      rw (
+        head,
+        sym (retentions-pass b) ∙ p .retentions,
+        entries,
+        sym (maps-pass b)
+            ∙ p .maps,
+        slots,
+        sym (rest-slots (r .slots)) ∙ r .restSlots,
+        sym (records-pass b) ∙ p .records,
+      )
       (sym (rest-records (r .records)) ∙ r .restRecords)
 
   from-sections : sectionsOk b ≡ true → RawParts b × BookParts (bookOf b)
@@ -126,15 +156,19 @@ module _ (b : List ℕ) (len : length b ≡ bookSize (sizesOf b)) where
       let t₁ = and-true (headOk b) (blocksOk b) (t₂ .0) in
       let h = head-facts b (t₁ .0) in
       let retentions = retentionsOk b in
-      let entries = entriesOk b (num b nPlace) in
-      let m = and-true (retentions && entries) (mapsOk b (mapsFrom (sizesOf b)) (volumes * num b lPlace) (num b nPlace)) (t₁ .1) in
+      let entries = entriesOk b (num b nOffset) in
+      let m = and-true (retentions && entries) (mapsOk b (mapsFrom (sizesOf b)) (volumes * num b lOffset) (num b nOffset)) (t₁ .1) in
       let n = and-true retentions entries (m .0) in
-      let states = and-true (all (stateOk b) (upFrom 0 (num b nPlace))) (all entryOk (bookOf b .entries)) (entries-pass b ∙ n .1) in
-      let s = and-true (slotsLeft b 0 noLasts 0 0) (zerosIn b (slotPlace (sizesOf b) (num b bPlace)) (recordsFrom (sizesOf b))) (t₂ .1) in
-      let j = and-true (recordsOk b (recordsFrom (sizesOf b)) (num b uPlace)) (zerosIn b (recPlace (sizesOf b) (num b uPlace)) (bookSize (sizesOf b))) (t₃ .1) in
-      let second = all (secondOk b) (upFrom 0 (num b bPlace)) in
+      let states = and-true (all (stateOk b) (upFrom 0 (num b nOffset))) (all entryOk (bookOf b .entries)) (entries-pass b ∙ n .1) in
+      let s = and-true (slotsLeft b 0 noLasts 0 0) (zerosIn b (slotOffset (sizesOf b) (num b bOffset)) (recordsFrom (sizesOf b))) (t₂ .1) in
+      let j =
+      and-true (recordsOk b (recordsFrom (sizesOf b)) (num b uOffset))
+      (zerosIn b (recOffset (sizesOf b) (num b uOffset)) (bookSize (sizesOf b))) (t₃ .1) in
+      let second = all (secondOk b) (upFrom 0 (num b bOffset)) in
       let used = all (slotOk (bookOf b)) (bookOf b .slots) in
-      let s₃ = and-true (second && used && daysOk (bookOf b .slots)) (pairsOk 0 (bookOf b .slots) (length (bookOf b .records))) (slots-pass b ∙ s .0) in
+      let s₃ =
+      and-true (second && used && daysOk (bookOf b .slots))
+      (pairsOk 0 (bookOf b .slots) (length (bookOf b .records))) (slots-pass b ∙ s .0) in
       let s₂ = and-true (second && used) (daysOk (bookOf b .slots)) (s₃ .0) in
       let s₁ = and-true second used (s₂ .0) in (
         record {
@@ -174,17 +208,19 @@ module _ (b : List ℕ) (len : length b ≡ bookSize (sizesOf b)) where
 -- ---- the groups as the code tests them, on numbers that it read
 
 module _ (b : List ℕ) where
-  pub blocks-tests : {n l : ℕ} {r e m : Bool} → n ≡ num b nPlace → l ≡ num b lPlace → r ≡ retentionsOk b → e ≡ entriesOk b n
+  pub blocks-tests : {n l : ℕ} {r e m : Bool} → n ≡ num b nOffset → l ≡ num b lOffset → r ≡ retentionsOk b → e ≡ entriesOk b n
       → m ≡ mapsOk b (entriesFrom + n * entrySize) (volumes * l) n → (r && e && m) ≡ blocksOk b
   unfolding blocksOk
   blocks-tests en el er ee em = rw (er, ee, em, en, el)
 
-  pub slots-tests : {from used s : ℕ} {r z : Bool} → from ≡ slotsFrom (sizesOf b) → used ≡ num b bPlace → s ≡ num b sPlace
+  pub slots-tests : {from used s : ℕ} {r z : Bool} → from ≡ slotsFrom (sizesOf b) → used ≡ num b bOffset → s ≡ num b sOffset
       → r ≡ slotsLeft b 0 noLasts 0 0 → z ≡ zerosIn b (from + used * slotSize) (from + s * slotSize) → (r && z) ≡ slotsOk b
   unfolding slotsOk
   slots-tests ef eu es er ez = rw (er, ez, ef, eu, es)
 
-  pub journal-tests : {from used s : ℕ} {r z : Bool} → length b ≡ bookSize (sizesOf b) → from ≡ slotsFrom (sizesOf b) → s ≡ num b sPlace → used ≡ num b uPlace
-      → r ≡ recordsOk b (from + s * slotSize) used → z ≡ zerosIn b (from + s * slotSize + used * recSize) (length b) → (r && z) ≡ journalOk b
+  pub journal-tests : {from used s : ℕ} {r z : Bool} → length b ≡ bookSize (sizesOf b) → from ≡ slotsFrom (sizesOf b)
+      → s ≡ num b sOffset → used ≡ num b uOffset
+      → r ≡ recordsOk b (from + s * slotSize) used → z ≡ zerosIn b (from + s * slotSize + used * recSize) (length b)
+      → (r && z) ≡ journalOk b
   unfolding journalOk
   journal-tests len ef es eu er ez = rw (er, ez, len, ef, es, eu)

@@ -1,4 +1,1 @@
-pub mod Days
-pub mod Checks
-pub mod Slots
 pub mod Passes

@@ -4,17 +4,23 @@ use mathlib.Core.Bool.{Bool, _&&_}
 use mathlib.Core.List.{List}
 use Rattle.words.specs.Numbers.{num}
 use Rattle.book.specs.Book.{volumes}
-use Rattle.book.specs.Layout.{nPlace, lPlace, bPlace, uPlace, mapsFrom, slotPlace, recordsFrom, recPlace, bookSize, sizesOf}
-use Rattle.form.specs.Days.{noLasts}
-use Rattle.form.specs.Slots.{slotsLeft}
-use Rattle.form.specs.Checks.{zerosIn, retentionsOk, entriesOk, mapsOk, recordsOk}
+use Rattle.book.specs.Layout.{nOffset, lOffset, bOffset, uOffset, mapsFrom, slotOffset, recordsFrom, recOffset, bookSize}
+use Rattle.book.specs.Layout.{sizesOf}
+use Rattle.slots.specs.Days.{noLasts}
+use Rattle.slots.specs.Slots.{slotsLeft}
+use Rattle.sections.specs.Checks.{zerosIn, retentionsOk, entriesOk, mapsOk, recordsOk}
 
 -- after the header: retentions, entries and maps; slots; records
 unfoldable pub blocksOk : List ℕ → Bool
-blocksOk b = retentionsOk b && entriesOk b (num b nPlace) && mapsOk b (mapsFrom (sizesOf b)) (volumes * num b lPlace) (num b nPlace)
+blocksOk b =
+    retentionsOk b
+    && entriesOk b (num b nOffset)
+    && mapsOk b (mapsFrom (sizesOf b)) (volumes * num b lOffset) (num b nOffset)
 
 unfoldable pub slotsOk : List ℕ → Bool
-slotsOk b = slotsLeft b 0 noLasts 0 0 && zerosIn b (slotPlace (sizesOf b) (num b bPlace)) (recordsFrom (sizesOf b))
+slotsOk b = slotsLeft b 0 noLasts 0 0 && zerosIn b (slotOffset (sizesOf b) (num b bOffset)) (recordsFrom (sizesOf b))
 
 unfoldable pub journalOk : List ℕ → Bool
-journalOk b = recordsOk b (recordsFrom (sizesOf b)) (num b uPlace) && zerosIn b (recPlace (sizesOf b) (num b uPlace)) (bookSize (sizesOf b))
+journalOk b =
+    recordsOk b (recordsFrom (sizesOf b)) (num b uOffset)
+    && zerosIn b (recOffset (sizesOf b) (num b uOffset)) (bookSize (sizesOf b))

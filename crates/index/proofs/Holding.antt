@@ -9,8 +9,8 @@ use lib.Seq.{getD-set-same}
 use Rattle.book.specs.Book.{Entry, Book, freeEntry, entryAt}
 use Rattle.book.specs.Layout.{bookOf, Is}
 use Rattle.book.specs.Next.{withEntries, withEntry, heldAs}
-use Rattle.index.specs.Bucket.{bucketOf}
-use Rattle.index.specs.Indexed.{Indexed}
+use Rattle.finder.specs.Bucket.{bucketOf}
+use Rattle.finder.specs.Indexed.{Indexed}
 use Rattle.index.proofs.Without.{without}
 use Rattle.index.proofs.Joining.{Joins, homeOf}
 use Rattle.index.proofs.Keeping.{indexed-alike, alike-without}

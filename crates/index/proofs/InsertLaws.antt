@@ -12,9 +12,9 @@ use borrow.Author.Tests.{eqb-true, eqb-false}
 use Rattle.words.proofs.ChoiceLaws.{not-both}
 use Rattle.words.proofs.Tests.{surely-not}
 use Rattle.book.specs.Book.{Entry, entryAt}
-use Rattle.index.specs.Bucket.{tableSize, bucketOf, inBucket, firstIn}
-use Rattle.index.proofs.BucketLaws.{held-in, in-held}
-use Rattle.index.specs.Indexed.{Indexed}
+use Rattle.finder.specs.Bucket.{tableSize, bucketOf, inBucket, firstIn}
+use Rattle.finder.proofs.BucketLaws.{held-in, in-held}
+use Rattle.finder.specs.Indexed.{Indexed}
 use Rattle.index.proofs.Without.{without}
 use Rattle.index.proofs.Joining.{Joins, homeOf, as-long, other, was, not-p, kept, becomes, beyond}
 
@@ -74,10 +74,12 @@ module _ {es : List Entry} {p : ℕ} (j : Joins es p) {heads nexts : List ℕ} (
       ∙ kept j (bucketOf (entryAt es q .print)) (q + 1) (omega arith)
       (λ i k. surely-not _ (λ y. alike i k (in-held (bucketOf (entryAt es q .print)) (entryAt es p) y .1)))
     where
-      alike : q + 1 ≤ p → p < firstIn (without p es) (bucketOf (entryAt es q .print)) (q + 1) → homeOf es p ≡ bucketOf (entryAt es q .print) → ⊥
+      alike : q + 1 ≤ p → p < firstIn (without p es) (bucketOf (entryAt es q .print)) (q + 1)
+          → homeOf es p ≡ bucketOf (entryAt es q .print) → ⊥
       alike i k c = out (sym c) (omega arith) (rw (sym c) at k)
 
-  pub insert-first : (h : ℕ) → h < tableSize → h ≡ homeOf es p → p < getD heads h 0 → Indexed es (set heads h p) (set nexts p (getD heads h 0))
+  pub insert-first : (h : ℕ) → h < tableSize → h ≡ homeOf es p → p < getD heads h 0
+      → Indexed es (set heads h p) (set nexts p (getD heads h 0))
   insert-first h s e g = record {
     head = λ f i. head f i (eqb f h) refl;
     next = λ q a u n. next q u n (eqb q p) refl;
@@ -90,7 +92,9 @@ module _ {es : List Entry} {p : ℕ} (j : Joins es p) {heads nexts : List ℕ} (
       lower = rw (sym (head-is h s e)) g
 
       head : (f : ℕ) → f < tableSize → (t : Bool) → eqb f h ≡ t → getD (set heads h p) f 0 ≡ firstIn es f 0
-      head f i true c = rw (eqb-true f h c) (getD-set-same heads h p 0 (omega (arith, x .buckets)) ∙ rw e (sym (becomes j 0 (omega arith) lower)))
+      head f i true c =
+          rw (eqb-true f h c) (getD-set-same heads h p 0 (omega (arith, x .buckets))
+          ∙ rw e (sym (becomes j 0 (omega arith) lower)))
       head f i false c =
           getD-set-other heads h f p 0 (eqb-false f h c)
           ∙ x .head f i
@@ -100,10 +104,12 @@ module _ {es : List Entry} {p : ℕ} (j : Joins es p) {heads nexts : List ℕ} (
           → getD (set nexts p (getD heads h 0)) q 0 ≡ firstIn es (bucketOf (entryAt es q .print)) (q + 1)
       next q u n true c =
           rw (eqb-true q p c)
-          (getD-set-same nexts p (getD heads h 0) 0 (omega (arith, x .blocks, x .small, as-long j, j .inside)) ∙ head-is h s e ∙ beyond j 0 (omega arith) lower)
+          (getD-set-same nexts p (getD heads h 0) 0 (omega (arith, x .blocks, x .small, as-long j, j .inside))
+          ∙ head-is h s e ∙ beyond j 0 (omega arith) lower)
       next q u n false c =
           getD-set-other nexts p q (getD heads h 0) 0 (eqb-false q p c)
-          ∙ unmoved q u (eqb-false q p c) n (λ b v k. not-both (inBucket (homeOf es p) (entryAt es q)) (held-in (homeOf es p) (entryAt es q) n b)
+          ∙ unmoved q u (eqb-false q p c) n
+          (λ b v k. not-both (inBucket (homeOf es p) (entryAt es q)) (held-in (homeOf es p) (entryAt es q) n b)
           (rw (other j q (eqb-false q p c)) at (was j (homeOf es p) 0 (omega arith) .skips q (omega arith) (omega (arith, lower)))))
 
   pub insert-after : (q n : ℕ) → Before es p q → n ≡ getD nexts q 0 → p ≤ n → Indexed es heads (set (set nexts p n) q p)
@@ -129,7 +135,8 @@ module _ {es : List Entry} {p : ℕ} (j : Joins es p) {heads nexts : List ℕ} (
 
       not-first : (f : ℕ) → p < firstIn (without p es) f 0 → homeOf es p ≡ f → ⊥
       not-first f k c =
-          not-both (inBucket f (entryAt es q)) (rw (sym c) (b .inside)) (rw same at (was j f 0 (omega arith) .skips q (omega arith) (omega (arith, place))))
+          not-both (inBucket f (entryAt es q)) (rw (sym c) (b .inside))
+          (rw same at (was j f 0 (omega arith) .skips q (omega arith) (omega (arith, place))))
 
       -- no other block of the bucket lies between q and p, or comes before q and after which p would come
       alone : (r : ℕ) → (r ≡ q → ⊥) → (r ≡ p → ⊥) → entryAt es r .held ≡ true → bucketOf (entryAt es r .print) ≡ homeOf es p → r < p
@@ -142,14 +149,16 @@ module _ {es : List Entry} {p : ℕ} (j : Joins es p) {heads nexts : List ℕ} (
               (rw same at (was j (homeOf es p) (r + 1) (omega (arith, j .inside)) .skips q (omega arith) (omega (arith, place))))
           go (no w) =
               not-both (inBucket (homeOf es p) (entryAt es r)) (held-in (homeOf es p) (entryAt es r) m f)
-              (rw (other j r d) at (was j (homeOf es p) (q + 1) (omega (arith, place, j .inside)) .skips r (omega arith) (omega (arith, between))))
+              (rw (other j r d) at (was j (homeOf es p) (q + 1) (omega (arith, place, j .inside)) .skips r (omega arith)
+              (omega (arith, between))))
 
       next : (r : ℕ) → r < length es → entryAt es r .held ≡ true → (t : Bool) → eqb r q ≡ t → (t′ : Bool) → eqb r p ≡ t′
           → getD (set (set nexts p n) q p) r 0 ≡ firstIn es (bucketOf (entryAt es r .print)) (r + 1)
       next r u m true c t′ c′ =
           rw (eqb-true r q c)
           (getD-set-same (set nexts p n) q p 0 (omega (arith, place, length-set nexts p n, room))
-          ∙ sym (ap (λ (f : ℕ). firstIn es f (q + 1)) (in-held (homeOf es p) (entryAt es q) (b .inside) .1) ∙ becomes j (q + 1) place between))
+          ∙ sym (ap (λ (f : ℕ). firstIn es f (q + 1)) (in-held (homeOf es p) (entryAt es q) (b .inside) .1)
+          ∙ becomes j (q + 1) place between))
       next r u m false c true c′ =
           rw (eqb-true r p c′)
           (getD-set-other (set nexts p n) q p p 0 (λ d. absurd (omega (arith, place)))

@@ -10,9 +10,9 @@ use lib.Seq.{getD-set-same, getD-set-other}
 use borrow.Author.Tests.{eqb-true, eqb-false}
 use Rattle.words.proofs.ChoiceLaws.{not-both}
 use Rattle.book.specs.Book.{Entry, freeEntry, entryAt}
-use Rattle.index.proofs.FirstLaws.{First, first-is, first-at}
-use Rattle.index.specs.Bucket.{bucketOf, inBucket, firstIn}
-use Rattle.index.proofs.BucketLaws.{free-held, free-out, held-in}
+use Rattle.finder.proofs.FirstLaws.{First, first-is, first-at}
+use Rattle.finder.specs.Bucket.{bucketOf, inBucket, firstIn}
+use Rattle.finder.proofs.BucketLaws.{free-held, free-out, held-in}
 use Rattle.index.proofs.Without.{without}
 
 -- p is held in es; it joins those that are held in `without p es`
@@ -33,7 +33,9 @@ module _ {es : List Entry} {p : ℕ} (j : Joins es p) where
   other q n = getD-set-other es p q freeEntry freeEntry n
 
   nowhere : (h : ℕ) → inBucket h (entryAt (without p es) p) ≡ false
-  nowhere h = free-out h (entryAt (without p es) p) (ap (λ (e : Entry). e .held) (getD-set-same es p freeEntry freeEntry (j .inside)) ∙ free-held)
+  nowhere h =
+      free-out h (entryAt (without p es) p)
+      (ap (λ (e : Entry). e .held) (getD-set-same es p freeEntry freeEntry (j .inside)) ∙ free-held)
 
   pub was : (h a : ℕ) → a ≤ length es → First (inBucket h) (without p es) freeEntry a (firstIn (without p es) h a)
   was h a i = first-is (inBucket h) (without p es) freeEntry a (omega (arith, as-long))
@@ -80,5 +82,7 @@ module _ {es : List Entry} {p : ℕ} (j : Joins es p) where
           above = omega arith;
           within = omega (arith, m .within, as-long);
           skips = λ q u v. rw (other q (λ e. absurd (omega arith))) at (m .skips q (omega arith) v);
-          passes = λ u. rw (other (firstIn (without p es) (homeOf es p) a) (λ e. absurd (omega arith))) at (m .passes (omega (arith, as-long)));
+          passes =
+              λ u. rw (other (firstIn (without p es) (homeOf es p) a) (λ e. absurd (omega arith))) at
+              (m .passes (omega (arith, as-long)));
         }))

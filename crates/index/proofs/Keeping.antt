@@ -7,12 +7,12 @@ use native.Mathlib.Omega.{arith}
 use lib.ListN.{length, getD, set, length-set}
 use lib.Seq.{getD-set-other, set-set}
 use Rattle.words.proofs.ChoiceLaws.{not-both}
-use Rattle.words.proofs.Stores.{getD-set-kept}
+use Rattle.words.proofs.SetLaws.{getD-set-kept}
 use Rattle.book.specs.Book.{Entry, freeEntry, entryAt}
-use Rattle.index.proofs.FirstLaws.{first-is, first-at}
-use Rattle.index.specs.Bucket.{bucketOf, inBucket, firstIn}
-use Rattle.index.proofs.BucketLaws.{free-held, free-out, bucket-by}
-use Rattle.index.specs.Indexed.{Indexed}
+use Rattle.finder.proofs.FirstLaws.{first-is, first-at}
+use Rattle.finder.specs.Bucket.{bucketOf, inBucket, firstIn}
+use Rattle.finder.proofs.BucketLaws.{free-held, free-out, bucket-by}
+use Rattle.finder.specs.Indexed.{Indexed}
 use Rattle.index.proofs.Without.{without}
 
 -- the same blocks are held, with the same fingerprints
@@ -55,7 +55,8 @@ module _ {es es′ : List Entry} (a : Alike es es′) where
           ∙ rw (a .print q k) (first-alike (bucketOf (entryAt es′ q .print)) (q + 1) (omega (arith, a .long)))
 
 -- one entry changed in its count or expiry
-pub alike-set : (es : List Entry) (p : ℕ) (e : Entry) → e .held ≡ entryAt es p .held → e .print ≡ entryAt es p .print → Alike es (set es p e)
+pub alike-set : (es : List Entry) (p : ℕ) (e : Entry) → e .held ≡ entryAt es p .held → e .print ≡ entryAt es p .print
+    → Alike es (set es p e)
 alike-set es p e h f = record {
   long = sym (length-set es p e);
   held = λ q. sym (getD-set-kept (λ (e : Entry). e .held) es p e freeEntry h q);
@@ -67,5 +68,7 @@ pub alike-without : (es : List Entry) (p : ℕ) (e : Entry) → entryAt es p .he
 alike-without es p e k = rw (set-set es p e freeEntry) (record {
   long = sym (length-set es p freeEntry);
   held = λ q. sym (getD-set-kept (λ (e : Entry). e .held) es p freeEntry freeEntry (free-held ∙ sym k) q);
-  print = λ q n. sym (ap (λ (e : Entry). e .print) (getD-set-other es p q freeEntry freeEntry (λ z. not-both (entryAt es p .held) (rw z at n) k)));
+  print =
+      λ q n. sym (ap (λ (e : Entry). e .print)
+      (getD-set-other es p q freeEntry freeEntry (λ z. not-both (entryAt es p .held) (rw z at n) k)));
 })

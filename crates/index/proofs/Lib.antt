@@ -1,9 +1,5 @@
-pub mod AnswerLaws
-pub mod FirstLaws
-pub mod BucketLaws
 pub mod Without
 pub mod LinkLaws
-pub mod FindingLaws
 pub mod Joining
 pub mod InsertLaws
 pub mod Keeping

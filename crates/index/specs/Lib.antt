@@ -1,5 +1,0 @@
-pub mod Answers
-pub mod First
-pub mod Bucket
-pub mod Indexed
-pub mod Finding

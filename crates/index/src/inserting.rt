@@ -5,22 +5,23 @@ ghost use Prim.Native.Nat.{_<_};
 ghost use lib.ListN.{length};
 ghost use Rattle.words.specs.Blocks.{printSize};
 ghost use Rattle.book.specs.Book.{entryAt};
-ghost use Rattle.book.specs.Layout.{bookOf, Holds, Is};
+ghost use Rattle.book.specs.Layout.{told, Holds, Is};
 ghost use Rattle.book.specs.Next.{heldAs, withEntry};
-ghost use Rattle.index.specs.Indexed.{Indexed};
-use super::bucket::bucket_of;
-use book::entry;
+ghost use Rattle.finder.specs.Indexed.{Indexed};
+use entries::entry;
+use finder::bucket::bucket_of;
 use words::PBN;
+use words::limits::Table;
 
-// A free block becomes held with this fingerprint; its count and expiry stay. It goes after the last block of its bucket below it, so that a lookup
-// still finds the lowest.
-pub fn hold(book: &mut [u8], heads: &mut [u16; 4096], nexts: &mut [u16; 4096], p: PBN, print: &[u8])
+// A free block becomes held with this fingerprint; its count and expiry stay. It goes after the last block of its
+// bucket below it, so that a lookup still finds the lowest.
+pub fn hold(book: &mut [u8], heads: &mut Table, nexts: &mut Table, p: PBN, print: &[u8])
     requires { ⌜ Holds (now book) ⌝ }
-    requires { ⌜ (p .0 < bookOf (now book) .sizes .n) × (entryAt (bookOf (now book) .entries) (p .0) .held ≡ false) ⌝ }
+    requires { ⌜ (p .0 < told book .sizes .n) × (entryAt (told book .entries) (p .0) .held ≡ false) ⌝ }
     requires { ⌜ length (now print) ≡ printSize ⌝ }
-    requires { ⌜ Indexed (bookOf (now book) .entries) (now heads) (now nexts) ⌝ }
-    ensures { λ _. ⌜ Is (now (book .exit)) (withEntry (heldAs (now (print .entry))) (p .0) (bookOf (now (book .entry)))) ⌝ }
-    ensures { λ _. ⌜ Indexed (bookOf (now (book .exit)) .entries) (now (heads .exit)) (now (nexts .exit)) ⌝ }
+    requires { ⌜ Indexed (told book .entries) (now heads) (now nexts) ⌝ }
+    ensures { λ _. ⌜ Is (now (book .exit)) (withEntry (heldAs (now (print .entry))) (p .0) (told (book .entry))) ⌝ }
+    ensures { λ _. ⌜ Indexed (told (book .exit) .entries) (now (heads .exit)) (now (nexts .exit)) ⌝ }
 {
     entry::hold(book, p, print);
     let at = p.0 as usize;

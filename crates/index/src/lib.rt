@@ -1,12 +1,7 @@
-// An index of the held blocks by fingerprint, in two tables that live for one call: `heads` has the lowest held block of each bucket, and
-// `nexts` the next one up of a held block's own bucket. Where there is none, both have N.
-mod bucket;
-mod finding;
+// The index of a book's held blocks, which lives for one call: built, kept while blocks become held, and asked whether a fingerprint is its own.
 mod inserting;
 mod linking;
 
-pub use finding::Found;
-pub use finding::find;
 pub use inserting::hold;
 pub use linking::build;
 pub use linking::clear;

@@ -2,29 +2,33 @@
 ghost use mathlib.Core.Path.{_≡_};
 ghost use Prim.Native.Nat.{_+_, _<_};
 ghost use lib.ListN.{getD, set};
-ghost use Rattle.book.specs.Layout.{bookOf, Holds};
-ghost use Rattle.index.specs.Bucket.{tableSize, apart};
-ghost use Rattle.index.specs.Indexed.{IndexedFrom, Indexed};
-use super::bucket::bucket_of;
-use super::finding::search;
-use book::entry;
-use book::header;
+ghost use Rattle.book.specs.Layout.{told, Holds};
+ghost use Rattle.finder.specs.Bucket.{tableSize, apart};
+ghost use Rattle.finder.specs.Indexed.{IndexedFrom, Indexed};
+use entries::entry;
+use fields::header;
+use finder::bucket::bucket_of;
+use finder::search;
 use words::PBN;
+use words::limits::MAX_BLOCKS;
+use words::limits::Table;
 
 // No block is linked yet, whatever the tables had.
-pub fn clear(book: &[u8], heads: &mut [u16; 4096], nexts: &mut [u16; 4096])
+pub fn clear(book: &[u8], heads: &mut Table, nexts: &mut Table)
     requires { ⌜ Holds (now book) ⌝ }
-    ensures { λ _. ⌜ IndexedFrom (bookOf (now (book .entry)) .sizes .n) (bookOf (now (book .entry)) .entries) (now (heads .exit)) (now (nexts .exit)) ⌝ }
+    ensures { λ _. ⌜ IndexedFrom (told (book .entry) .sizes .n) (told (book .entry) .entries)
+        (now (heads .exit)) (now (nexts .exit)) ⌝ }
 {
     let n = header::blocks(book);
-    *heads = [n; 4096];
-    *nexts = [n; 4096];
+    *heads = [n; MAX_BLOCKS];
+    *nexts = [n; MAX_BLOCKS];
 }
 
 // A block becomes the first of a bucket.
-fn prepend(heads: &mut [u16; 4096], nexts: &mut [u16; 4096], home: usize, p: PBN)
+fn prepend(heads: &mut Table, nexts: &mut Table, home: usize, p: PBN)
     requires { ⌜ (home < tableSize) × (p .0 < tableSize) ⌝ }
-    ensures { λ _. ⌜ (now (heads .exit) ≡ set (now (heads .entry)) home (p .0)) × (now (nexts .exit) ≡ set (now (nexts .entry)) (p .0) (getD (now (heads .entry)) home 0)) ⌝ }
+    ensures { λ _. ⌜ (now (heads .exit) ≡ set (now (heads .entry)) home (p .0))
+        × (now (nexts .exit) ≡ set (now (nexts .entry)) (p .0) (getD (now (heads .entry)) home 0)) ⌝ }
 {
     let at = p.0 as usize;
     nexts[at] = heads[home];
@@ -32,11 +36,11 @@ fn prepend(heads: &mut [u16; 4096], nexts: &mut [u16; 4096], home: usize, p: PBN
 }
 
 // A held block comes before those above it.
-fn link(book: &[u8], heads: &mut [u16; 4096], nexts: &mut [u16; 4096], p: PBN)
+fn link(book: &[u8], heads: &mut Table, nexts: &mut Table, p: PBN)
     requires { ⌜ Holds (now book) ⌝ }
-    requires { ⌜ p .0 < bookOf (now book) .sizes .n ⌝ }
-    requires { ⌜ IndexedFrom (p .0 + 1) (bookOf (now book) .entries) (now heads) (now nexts) ⌝ }
-    ensures { λ _. ⌜ IndexedFrom (p .0) (bookOf (now (book .entry)) .entries) (now (heads .exit)) (now (nexts .exit)) ⌝ }
+    requires { ⌜ p .0 < told book .sizes .n ⌝ }
+    requires { ⌜ IndexedFrom (p .0 + 1) (told book .entries) (now heads) (now nexts) ⌝ }
+    ensures { λ _. ⌜ IndexedFrom (p .0) (told (book .entry) .entries) (now (heads .exit)) (now (nexts .exit)) ⌝ }
 {
     if !entry::is_held(book, p) {
         return;
@@ -46,12 +50,12 @@ fn link(book: &[u8], heads: &mut [u16; 4096], nexts: &mut [u16; 4096], p: PBN)
 }
 
 // .. which are first asked for its fingerprint. Whether none has it.
-pub fn link_apart(book: &[u8], heads: &mut [u16; 4096], nexts: &mut [u16; 4096], p: PBN) -> bool
+pub fn link_apart(book: &[u8], heads: &mut Table, nexts: &mut Table, p: PBN) -> bool
     requires { ⌜ Holds (now book) ⌝ }
-    requires { ⌜ p .0 < bookOf (now book) .sizes .n ⌝ }
-    requires { ⌜ IndexedFrom (p .0 + 1) (bookOf (now book) .entries) (now heads) (now nexts) ⌝ }
-    ensures { λ r. ⌜ r ≡ apart (bookOf (now (book .entry)) .entries) (p .0) ⌝ }
-    ensures { λ _. ⌜ IndexedFrom (p .0) (bookOf (now (book .entry)) .entries) (now (heads .exit)) (now (nexts .exit)) ⌝ }
+    requires { ⌜ p .0 < told book .sizes .n ⌝ }
+    requires { ⌜ IndexedFrom (p .0 + 1) (told book .entries) (now heads) (now nexts) ⌝ }
+    ensures { λ r. ⌜ r ≡ apart (told (book .entry) .entries) (p .0) ⌝ }
+    ensures { λ _. ⌜ IndexedFrom (p .0) (told (book .entry) .entries) (now (heads .exit)) (now (nexts .exit)) ⌝ }
 {
     if !entry::is_held(book, p) {
         return true;
@@ -64,9 +68,9 @@ pub fn link_apart(book: &[u8], heads: &mut [u16; 4096], nexts: &mut [u16; 4096],
 }
 
 // The index of all held blocks.
-pub fn build(book: &[u8], heads: &mut [u16; 4096], nexts: &mut [u16; 4096])
+pub fn build(book: &[u8], heads: &mut Table, nexts: &mut Table)
     requires { ⌜ Holds (now book) ⌝ }
-    ensures { λ _. ⌜ Indexed (bookOf (now (book .entry)) .entries) (now (heads .exit)) (now (nexts .exit)) ⌝ }
+    ensures { λ _. ⌜ Indexed (told (book .entry) .entries) (now (heads .exit)) (now (nexts .exit)) ⌝ }
 {
     clear(book, heads, nexts);
     let mut p = header::blocks(book);

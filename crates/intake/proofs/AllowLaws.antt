@@ -12,7 +12,7 @@ use Rattle.words.specs.Blocks.{blockSize}
 use Rattle.words.specs.Choice.{if_then_else_}
 use Rattle.words.specs.Lists.{those, lastOf}
 use Rattle.words.specs.Outcome.{Outcome, refused, accepted, andThen, unless}
-use Rattle.list.specs.Changes.{changeCount, changes, listNumber}
+use Rattle.runs.specs.Changes.{changeCount, changes, listNumber}
 use Rattle.book.specs.Book.{Book, retentionOf}
 use Rattle.book.specs.Layout.{bookOf}
 use Rattle.book.specs.Form.{formNumber}
@@ -112,7 +112,8 @@ module _ (x : Book) (n : ℕ) where
 
 -- ---- the call
 
-then-then : {A B C : Type 0} (o : Outcome A) (f : A → B) (g : B → C) → andThen (andThen o (λ a. accepted (f a))) (λ b. accepted (g b)) ≡ andThen o (λ a. accepted (g (f a)))
+then-then : {A B C : Type 0} (o : Outcome A) (f : A → B) (g : B → C)
+    → andThen (andThen o (λ a. accepted (f a))) (λ b. accepted (g b)) ≡ andThen o (λ a. accepted (g (f a)))
 then-then (refused k) f g = refl
 then-then (accepted a) f g = refl
 
@@ -120,7 +121,9 @@ module _ (b pool : List ℕ) (spare v t : ℕ) (list : List ℕ) where
   abbrev inner : Outcome BackedBytes
   inner = andThen (backup (bookOf b) pool v t list) (λ (d : Backed). accepted (backedBytes d))
 
-  by-lent : backupBytes b pool spare v t list ≡ unless (lentNumber b pool spare) (andThen (backup (bookOf b) pool v t list) (λ (d : Backed). accepted (backedBytes d)))
+  by-lent : backupBytes b pool spare v t list
+      ≡ unless (lentNumber b pool spare)
+      (andThen (backup (bookOf b) pool v t list) (λ (d : Backed). accepted (backedBytes d)))
   unfolding backupBytes lentNumber
   by-lent = buffers-order b pool (unless (spareNumber b spare) inner) ∙ unless-or (buffersNumber b pool) (spareNumber b spare) inner
 
@@ -133,13 +136,15 @@ module _ (b pool : List ℕ) (spare v t : ℕ) (list : List ℕ) where
     number-refused k f n =
         by-lent ∙ rw (e, f)
         (ap (λ (o : Outcome Backed). andThen o (λ (d : Backed). accepted (backedBytes d)))
-        (unless-refused k (andThen (runChanges v (t + retentionOf (bookOf b) v) (changes list) (begun (bookOf b) pool)) (λ (w : Work). accepted (closed (bookOf b) v t (changeCount list) w))) n))
+        (unless-refused k (andThen (runChanges v (t + retentionOf (bookOf b) v) (changes list) (begun (bookOf b) pool))
+        (λ (w : Work). accepted (closed (bookOf b) v t (changeCount list) w))) n))
 
     pub goes-on : backupNumber (bookOf b) v t list ≡ 0 → backupBytes b pool spare v t list ≡ goesOn (bookOf b) pool v t list
     unfolding backup
     goes-on f =
         by-lent ∙ rw (e, f)
-        (then-then (runChanges v (t + retentionOf (bookOf b) v) (changes list) (begun (bookOf b) pool)) (closed (bookOf b) v t (changeCount list)) backedBytes)
+        (then-then (runChanges v (t + retentionOf (bookOf b) v) (changes list) (begun (bookOf b) pool))
+        (closed (bookOf b) v t (changeCount list)) backedBytes)
 
 -- ---- a volume has no more backups than slots are used
 

@@ -2,66 +2,82 @@
 use Prim.Native.Nat.{ℕ}
 use mathlib.Core.Path.{_≡_, sym, ap, _∙_}
 use mathlib.Core.List.{List}
-use native.Mathlib.Omega.{arith}
 use lib.ListN.{length}
+use denote.Ref.{now}
+use Rattle.words.specs.Lent.{Lent}
 use Rattle.words.specs.Outcome.{Outcome, refused, accepted, andThen}
-use Rattle.list.specs.Changes.{changeCount, changes}
+use Rattle.runs.specs.Changes.{changeCount, changes}
 use Rattle.book.specs.Book.{Book}
-use Rattle.book.specs.Layout.{bookOf}
+use Rattle.book.specs.Layout.{told, Is}
 use Rattle.book.proofs.Holding.{bytes-is}
 use Rattle.model.specs.Backup.{Work, runChanges, begun, closed}
-use Rattle.model.specs.OnBytes.{backedBytes, backupBytes}
-use Rattle.mover.specs.Stepping.{stepNumber}
-use Rattle.mover.specs.Working.{workAt}
-use Rattle.mover.specs.declared.placing.Tally.{Tally}
-use Rattle.mover.specs.declared.moving.Step.{Step}
-use Rattle.mover.specs.declared.moving.Step.the-variants.{Next, Stop}
-use Rattle.intake.specs.Allowing.{Ready, AllowedBy, allowedNumber}
-use Rattle.intake.specs.Closing.{WorkedBy}
-use Rattle.intake.specs.Contracts.{Answers, BackedUp}
+use Rattle.model.specs.OnBytes.{backedBytes}
+use Rattle.placer.specs.Working.{workAt}
+use Rattle.placer.specs.declared.placing.Tally.{Tally}
+use Rattle.intake.specs.Allowing.{Ready, AllowedBy}
+use Rattle.intake.specs.Closing.{closedBook}
+use Rattle.intake.specs.Contracts.{outcome, BackedUp}
 use Rattle.intake.specs.declared.allowing.Plan.{Plan}
 use Rattle.intake.specs.declared.allowing.Allowed.{Allowed}
-use Rattle.intake.specs.declared.allowing.Allowed.the-variants.{Go, Refused}
 
-module _ (b pool spare : List ℕ) (v t : ℕ) (list : List ℕ) (a : Answers) where
+-- what the check answered, once it is known which answer it is
+pub allowed-as : (book pool : Lent (List ℕ)) (spare v t : ℕ) (list : Lent (List ℕ)) {r r′ : Allowed} → r ≡ r′
+    → AllowedBy book pool spare v t list r → AllowedBy book pool spare v t list r′
+allowed-as book pool spare v t list e h = rw e at h
+
+module _ (book pool spare : Lent (List ℕ)) (v t : ℕ) (list : Lent (List ℕ)) (number taken touched : Lent ℕ) where
   -- nothing changes on a refusal
-  refused-up : (k : ℕ) → backupBytes b pool (length spare) v t list ≡ refused k → BackedUp b pool spare v t list a k b pool a
-  refused-up k e = record { refusal = rw e; book = rw e; stored = rw e; number = rw e; taken = rw e; touched = rw e }
+  module _ (same : now (book .exit) ≡ now (book .entry)) (unnumbered : now (number .exit) ≡ now (number .entry))
+      (untaken : now (taken .exit) ≡ now (taken .entry)) (untouched : now (touched .exit) ≡ now (touched .entry))
+      (n k : ℕ) (e : n ≡ k) where
+    pub refused-up : outcome book pool spare v t list ≡ refused k → now (pool .exit) ≡ now (pool .entry)
+        → BackedUp book pool spare v t list number taken touched n
+    refused-up f kept = record {
+      refusal = rw (f, e);
+      book = rw f same;
+      stored = rw f kept;
+      number = rw f unnumbered;
+      taken = rw f untaken;
+      touched = rw f untouched;
+    }
 
-  pub not-allowed : (r : Allowed) (k n : ℕ) → r ≡ Refused k → n ≡ allowedNumber r → AllowedBy b pool (length spare) v t list r
-      → BackedUp b pool spare v t list a n b pool a
-  unfolding AllowedBy
-  not-allowed (Go plan) k n e f h = absurd (let z : _≡_ {A = ℕ} 0 1 = cc in omega arith)
-  not-allowed (Refused m) k n e f h = rw f (refused-up m h)
-
-  module _ (plan : Plan) (ready : Ready b pool (length spare) v t list plan) where
+  module _ (plan : Plan) (ready : Ready (now (book .entry)) (now (pool .entry)) (length (now (spare .entry))) v t
+      (now (list .entry)) plan) where
     abbrev x : Book
-    x = bookOf b
+    x = told (book .entry)
+
+    abbrev begin : Work
+    begin = begun (told (book .entry)) (now (pool .entry))
 
     -- the call, by what the changes came to
-    comes-to : (o : Outcome Work) → runChanges v (plan .until) (changes list) (begun (bookOf b) pool) ≡ o
-        → backupBytes b pool (length spare) v t list ≡ andThen o (λ (w : Work). accepted (backedBytes (closed (bookOf b) v t (changeCount list) w)))
+    comes-to : (o : Outcome Work) → runChanges v (plan .until) (changes (now (list .entry))) begin ≡ o
+        → outcome book pool spare v t list
+        ≡ andThen o (λ (w : Work). accepted (backedBytes (closed x v t (changeCount (now (list .entry))) w)))
     comes-to o e =
         ready .goes
-        ∙ ap (λ (o : Outcome Work). andThen o (λ (w : Work). accepted (backedBytes (closed x v t (changeCount list) w))))
-        (ap (λ (u : ℕ). runChanges v u (changes list) (begun x pool)) (sym (ready .until)) ∙ e)
+        ∙ ap (λ (o : Outcome Work). andThen o (λ (w : Work). accepted (backedBytes (closed x v t (changeCount (now (list .entry))) w))))
+        (ap (λ (u : ℕ). runChanges v u (changes (now (list .entry))) begin) (sym (ready .until)) ∙ e)
 
-    pub changes-stopped : (r : Step) (k n : ℕ) (pool′ b′ : List ℕ) → r ≡ Stop k → n ≡ stepNumber r → WorkedBy (bookOf b) pool list v t (plan .until) r pool′ b′
-        → BackedUp b pool spare v t list a n b pool′ a
-    unfolding WorkedBy
-    changes-stopped (Next u) k n pool′ b′ e f h = absurd (let z : _≡_ {A = ℕ} 0 1 = cc in omega arith)
-    changes-stopped (Stop m) k n pool′ b′ e f h = rw (f, h .1) (refused-up m (comes-to (refused m) (h .0)))
+    pub changes-stopped : now (book .exit) ≡ now (book .entry) → now (number .exit) ≡ now (number .entry)
+        → now (taken .exit) ≡ now (taken .entry) → now (touched .exit) ≡ now (touched .entry) → (n k : ℕ) → n ≡ k
+        → runChanges v (plan .until) (changes (now (list .entry))) begin ≡ refused k → now (pool .exit) ≡ now (pool .entry)
+        → BackedUp book pool spare v t list number taken touched n
+    changes-stopped same unnumbered untaken untouched n k e h kept =
+        refused-up same unnumbered untaken untouched n k e (comes-to (refused k) h) kept
 
-    pub backed-up : (u : Tally) (pool′ b′ b″ : List ℕ) → WorkedBy (bookOf b) pool list v t (plan .until) (Next u) pool′ b′ → b″ ≡ b′
-        → BackedUp b pool spare v t list a 0 b″ pool′ (record { number = plan .number; taken = u .taken; touched = u .touched })
-    unfolding WorkedBy backedBytes closed
-    backed-up u pool′ b′ b″ h e =
-        let f = comes-to (accepted (workAt (h .book) pool′ u)) (h .run) in
+    pub backed-up : (u : Tally) (made : Book) (b′ : List ℕ)
+        → runChanges v (plan .until) (changes (now (list .entry))) begin ≡ accepted (workAt made (now (pool .exit)) u)
+        → Is b′ (closedBook v t (length (x .records)) (changeCount (now (list .entry))) made) → now (book .exit) ≡ b′
+        → now (number .exit) ≡ plan .number → now (taken .exit) ≡ u .taken → now (touched .exit) ≡ u .touched
+        → BackedUp book pool spare v t list number taken touched 0
+    unfolding backedBytes closed
+    backed-up u made b′ run ends e n k m =
+        let f = comes-to (accepted (workAt made (now (pool .exit)) u)) run in
         record {
           refusal = rw f;
-          book = rw f (e ∙ bytes-is (h .closed));
+          book = rw f (e ∙ bytes-is ends);
           stored = rw f;
-          number = rw f (ready .number);
-          taken = rw f;
-          touched = rw f;
+          number = rw f (n ∙ ready .number);
+          taken = rw f k;
+          touched = rw f m;
         }

@@ -7,8 +7,8 @@ use native.Mathlib.Omega.{arith}
 use lib.ListN.{length, length-map}
 use Rattle.words.specs.Lists.{lastOf}
 use Rattle.book.specs.Book.{Book, slotAt}
-use Rattle.book.specs.Struct.{SlotIs}
-use Rattle.book.specs.declared.slot.Slot.{Slot}
+use Rattle.journal.specs.Struct.{SlotIs}
+use Rattle.journal.specs.declared.slot.Slot.{Slot}
 use Rattle.model.specs.Journal.{Backup, backups, days}
 use Rattle.model.proofs.kept.JournalAtLaws.{day-at, from-start, from-own, from-other, from-end}
 use Rattle.model.specs.JournalAt.{backupsFrom}
@@ -30,7 +30,8 @@ module _ (x : Book) (v : ℕ) where
       record { number = rw (e, length-map (backups x v) (λ b. b .day)) (omega arith); newest = rw e }
 
   module _ (q count last : ℕ) (p : Passed x v q count last) where
-    pub passed-own : (t : Slot) → SlotIs (slotAt (x .slots) q) t → q < length (x .slots) → t .volume ≡ v → Passed x v (q + 1) (count + 1) (t .day)
+    pub passed-own : (t : Slot) → SlotIs (slotAt (x .slots) q) t → q < length (x .slots) → t .volume ≡ v
+        → Passed x v (q + 1) (count + 1) (t .day)
     passed-own t s h e =
         let own = from-own x v q h (sym (s .volume) ∙ e) in
         record {
@@ -38,7 +39,8 @@ module _ (x : Book) (v : ℕ) where
           newest = p .newest ∙ rw own (rw (day-at x q, ← (s .day)));
         }
 
-    pub passed-other : (t : Slot) → SlotIs (slotAt (x .slots) q) t → q < length (x .slots) → (t .volume ≡ v → ⊥) → Passed x v (q + 1) count last
+    pub passed-other : (t : Slot) → SlotIs (slotAt (x .slots) q) t → q < length (x .slots) → (t .volume ≡ v → ⊥)
+        → Passed x v (q + 1) count last
     passed-other t s h n =
         let other = from-other x v q h (λ e. n (s .volume ∙ e)) in
         record { number = p .number ∙ rw other; newest = p .newest ∙ rw other }

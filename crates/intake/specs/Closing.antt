@@ -3,14 +3,16 @@ use Prim.Native.Nat.{ℕ}
 use mathlib.Core.Path.{_≡_}
 use mathlib.Core.List.{List}
 use lib.ListN.{length}
+use denote.Ref.{now}
+use Rattle.words.specs.Lent.{Lent}
 use Rattle.words.specs.Outcome.{refused, accepted}
-use Rattle.list.specs.Changes.{changeCount, changes}
+use Rattle.runs.specs.Changes.{changeCount, changes}
 use Rattle.book.specs.Book.{Book}
-use Rattle.book.specs.Layout.{Is}
+use Rattle.book.specs.Layout.{told, Is}
 use Rattle.book.specs.Next.{withDay, withSlot}
 use Rattle.model.specs.Backup.{runChanges, begun}
-use Rattle.mover.specs.Working.{workAt}
-use Rattle.mover.specs.declared.placing.Tally.{Tally}
+use Rattle.placer.specs.Working.{workAt}
+use Rattle.placer.specs.declared.placing.Tally.{Tally}
 use Rattle.mover.specs.declared.moving.Step.{Step}
 use Rattle.mover.specs.declared.moving.Step.the-variants.{Next, Stop}
 
@@ -18,13 +20,17 @@ use Rattle.mover.specs.declared.moving.Step.the-variants.{Next, Stop}
 abbrev pub closedBook : ℕ → ℕ → ℕ → ℕ → Book → Book
 closedBook v t first n y = withDay t (withSlot (record { volume = v; day = t; first = first; number = n }) y)
 
--- all changes were made: the pool has them, and the working copy b′ is the book after the call
-pub record Worked (x : Book) (pool list : List ℕ) (v t until : ℕ) (tally : Tally) (pool′ b′ : List ℕ) : Type 0 where
-  pub book : Book
-  pub run : runChanges v until (changes list) (begun x pool) ≡ accepted (workAt book pool′ tally)
-  pub closed : Is b′ (closedBook v t (length (x .records)) (changeCount list) book)
+-- all changes were made: the pool has them, and the working copy is the book after the call
+pub record Worked (book pool work list : Lent (List ℕ)) (v t until : ℕ) (tally : Tally) : Type 0 where
+  pub made : Book
+  pub run : runChanges v until (changes (now (list .entry))) (begun (told (book .entry)) (now (pool .entry)))
+      ≡ accepted (workAt made (now (pool .exit)) tally)
+  pub closed : Is (now (work .exit))
+      (closedBook v t (length (told (book .entry) .records)) (changeCount (now (list .entry))) made)
 
--- both passes, from the old book x and its pool
-unfoldable pub WorkedBy : Book → List ℕ → List ℕ → ℕ → ℕ → ℕ → Step → List ℕ → List ℕ → Type 0
-WorkedBy x pool list v t until (Next tally) pool′ b′ = Worked x pool list v t until tally pool′ b′
-WorkedBy x pool list v t until (Stop k) pool′ b′ = (runChanges v until (changes list) (begun x pool) ≡ refused k) × (pool′ ≡ pool)
+-- both passes
+unfoldable pub WorkedBy : (book pool work list : Lent (List ℕ)) → (v t until : ℕ) → Step → Type 0
+WorkedBy book pool work list v t until (Next tally) = Worked book pool work list v t until tally
+WorkedBy book pool work list v t until (Stop k) =
+    (runChanges v until (changes (now (list .entry))) (begun (told (book .entry)) (now (pool .entry))) ≡ refused k)
+    × (now (pool .exit) ≡ now (pool .entry))

@@ -1,22 +1,26 @@
--- What a backup leaves, for all inputs: its number, its answers, book and pool, by the definition on bytes of `model`. The spare alone is
--- free.
+-- What a backup leaves, for all inputs: its number, its answers, book and pool, by the definition on bytes of `model`.
+-- The spare alone is free.
 use Prim.Native.Nat.{ℕ}
 use mathlib.Core.Path.{_≡_}
 use mathlib.Core.List.{List}
 use lib.ListN.{length}
-use Rattle.model.specs.OnBytes.{numberOf, backupBytes, backedBook, backedPool, backedNumber, backedTaken, backedTouched}
+use denote.Ref.{now}
+use Rattle.words.specs.Lent.{Lent}
+use Rattle.words.specs.Outcome.{Outcome}
+use Rattle.model.specs.OnBytes.{numberOf, BackedBytes, backupBytes, backedBook, backedPool}
+use Rattle.model.specs.OnBytes.{backedNumber, backedTaken, backedTouched}
 
--- the three numbers that a backup answers
-pub record Answers : Type 0 where
-  pub number : ℕ
-  pub taken : ℕ
-  pub touched : ℕ
+-- what the call comes to, by what it is lent
+abbrev pub outcome : (b pool spare : Lent (List ℕ)) → (v t : ℕ) → Lent (List ℕ) → Outcome BackedBytes
+outcome b pool spare v t list =
+    backupBytes (now (b .entry)) (now (pool .entry)) (length (now (spare .entry))) v t (now (list .entry))
 
--- b and b′ are the book before and after the call, r is what it returns
-pub record BackedUp (b pool spare : List ℕ) (v t : ℕ) (list : List ℕ) (a : Answers) (r : ℕ) (b′ pool′ : List ℕ) (a′ : Answers) : Type 0 where
-  pub refusal : r ≡ numberOf (backupBytes b pool (length spare) v t list)
-  pub book : b′ ≡ backedBook (backupBytes b pool (length spare) v t list) b
-  pub stored : pool′ ≡ backedPool (backupBytes b pool (length spare) v t list) pool
-  pub number : a′ .number ≡ backedNumber (backupBytes b pool (length spare) v t list) (a .number)
-  pub taken : a′ .taken ≡ backedTaken (backupBytes b pool (length spare) v t list) (a .taken)
-  pub touched : a′ .touched ≡ backedTouched (backupBytes b pool (length spare) v t list) (a .touched)
+-- n, m and k have what a backup answers: its number, the blocks taken, the entries touched. r is what the call returns
+pub record BackedUp (b pool spare : Lent (List ℕ)) (v t : ℕ) (list : Lent (List ℕ)) (n m k : Lent ℕ) (r : ℕ)
+    : Type 0 where
+  pub refusal : r ≡ numberOf (outcome b pool spare v t list)
+  pub book : now (b .exit) ≡ backedBook (outcome b pool spare v t list) (now (b .entry))
+  pub stored : now (pool .exit) ≡ backedPool (outcome b pool spare v t list) (now (pool .entry))
+  pub number : now (n .exit) ≡ backedNumber (outcome b pool spare v t list) (now (n .entry))
+  pub taken : now (m .exit) ≡ backedTaken (outcome b pool spare v t list) (now (m .entry))
+  pub touched : now (k .exit) ≡ backedTouched (outcome b pool spare v t list) (now (k .entry))

@@ -1,14 +1,17 @@
 // Numbers 1 to 10 of a backup.
 ghost use mathlib.Core.Path.{_≡_};
-ghost use Rattle.book.specs.Layout.{bookOf, Holds};
+ghost use Rattle.book.specs.Layout.{told, Holds};
 ghost use Rattle.intake.specs.Allowing.{lentNumber, dayRefused, roomNumber, AllowedBy};
 ghost use Rattle.intake.specs.Backups.{BackupsAre};
 use super::slots::Backups;
 use super::slots::backups_of;
-use book::header;
 use buffers::buffers_number;
+use fields::header;
 use list::Checked;
 use list::Shape;
+use words::limits::LAST_VOLUME;
+use words::limits::MAX_DAY;
+use words::refusals;
 
 // What a backup goes by once it is allowed: its list's numbers, the day until which it keeps what it replaces, and its own number.
 pub struct Plan {
@@ -31,7 +34,7 @@ fn lent_number(book: &[u8], pool: &[u8], spare: usize) -> u16
         return number;
     }
     if spare < book.len() {
-        return 4;
+        return refusals::SHORT_SPARE;
     }
     0
 }
@@ -39,10 +42,10 @@ fn lent_number(book: &[u8], pool: &[u8], spare: usize) -> u16
 // Number 7: whether the day can't be a backup's.
 fn bad_day(book: &[u8], v: u16, day: u16, backups: Backups) -> bool
     requires { ⌜ Holds (now book) ⌝ }
-    requires { ⌜ BackupsAre (bookOf (now book)) v backups ⌝ }
-    ensures { λ r. ⌜ r ≡ dayRefused (bookOf (now (book .entry))) v day ⌝ }
+    requires { ⌜ BackupsAre (told book) v backups ⌝ }
+    ensures { λ r. ⌜ r ≡ dayRefused (told (book .entry)) v day ⌝ }
 {
-    if 60000 < day {
+    if MAX_DAY < day {
         return true;
     }
     if day < header::day(book) {
@@ -57,38 +60,38 @@ fn bad_day(book: &[u8], v: u16, day: u16, backups: Backups) -> bool
 // Numbers 9 and 10 for so many changes, or 0.
 fn room(book: &[u8], changes: u16) -> u16
     requires { ⌜ Holds (now book) ⌝ }
-    ensures { λ r. ⌜ r ≡ roomNumber (bookOf (now (book .entry))) changes ⌝ }
+    ensures { λ r. ⌜ r ≡ roomNumber (told (book .entry)) changes ⌝ }
 {
     if header::slots(book) <= header::used_slots(book) {
-        return 9;
+        return refusals::NO_SLOT;
     }
     if (header::journal(book) as usize) < header::used_records(book) as usize + changes as usize {
-        return 10;
+        return refusals::NO_RECORD;
     }
     0
 }
 
 pub fn allow(book: &[u8], pool: &[u8], spare: usize, v: u16, day: u16, list: &[u8]) -> Allowed
-    ensures { λ r. ⌜ AllowedBy (now (book .entry)) (now (pool .entry)) spare v day (now (list .entry)) r ⌝ }
+    ensures { λ r. ⌜ AllowedBy book pool spare v day list r ⌝ }
 {
     let refusal = lent_number(book, pool, spare);
     if refusal != 0 {
         return Allowed::Refused(refusal);
     }
-    if 7 < v {
-        return Allowed::Refused(5);
+    if LAST_VOLUME < v {
+        return Allowed::Refused(refusals::BAD_VOLUME);
     }
     let days = header::retention(book, v);
     if days == 0 {
-        return Allowed::Refused(5);
+        return Allowed::Refused(refusals::BAD_VOLUME);
     }
     let backups = backups_of(book, v);
     if bad_day(book, v, day, backups) {
-        return Allowed::Refused(7);
+        return Allowed::Refused(refusals::BAD_DAY);
     }
     let checked = list::check(list, header::cells(book));
     let Checked::Good(shape) = checked else {
-        return Allowed::Refused(8);
+        return Allowed::Refused(refusals::BAD_LIST);
     };
     let full = room(book, shape.changes);
     if full != 0 {

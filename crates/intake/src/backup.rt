@@ -3,10 +3,10 @@ ghost use mathlib.Core.Path.{_≡_};
 ghost use Prim.Native.Nat.{_<_};
 ghost use lib.ListN.{length};
 ghost use Rattle.book.specs.Book.{volumes};
-ghost use Rattle.book.specs.Layout.{bookOf, Holds, Is};
-ghost use Rattle.book.specs.Formed.{Formed};
+ghost use Rattle.book.specs.Layout.{told, Holds, Is};
+ghost use Rattle.book.specs.FormFacts.{FormFacts};
 ghost use Rattle.mover.specs.Stepping.{stepNumber};
-ghost use Rattle.mover.specs.Working.{Job};
+ghost use Rattle.placer.specs.Working.{Job};
 ghost use Rattle.intake.specs.Allowing.{allowedNumber};
 ghost use Rattle.intake.specs.Contracts.{BackedUp};
 ghost use Rattle.intake.specs.Closing.{closedBook, WorkedBy};
@@ -14,11 +14,12 @@ use super::allowing::Allowed;
 use super::allowing::allow;
 use super::storing::copy;
 use super::storing::store_all;
-use book::header;
-use book::slot;
+use fields::header;
+use journal::slot;
 use list::Shape;
 use mover::changing::run_changes;
 use mover::moving::Step;
+use words::limits::MAX_BLOCKS;
 
 // The number of a backup that isn't allowed.
 fn allowed_number(allowed: Allowed) -> u16
@@ -43,8 +44,8 @@ fn step_number(step: Step) -> u16
 // The slot of the backup is added, and its day becomes the book's.
 fn close(work: &mut [u8], v: u16, day: u16, first: u16, number: u16)
     requires { ⌜ Holds (now work) ⌝ }
-    requires { ⌜ (length (bookOf (now work) .slots) < bookOf (now work) .sizes .s) × (v < volumes) ⌝ }
-    ensures { λ _. ⌜ Is (now (work .exit)) (closedBook v day first number (bookOf (now (work .entry)))) ⌝ }
+    requires { ⌜ (length (told work .slots) < told work .sizes .s) × (v < volumes) ⌝ }
+    ensures { λ _. ⌜ Is (now (work .exit)) (closedBook v day first number (told (work .entry))) ⌝ }
 {
     slot::append_slot(work, v, day, first, number);
     header::set_day(work, day);
@@ -61,17 +62,17 @@ fn work_through(
     day: u16,
     until: u16,
 ) -> Step
-    requires { ⌜ Formed (now book) × (now work ≡ now book) ⌝ }
-    requires { ⌜ Job (bookOf (now book)) (now pool) (now list) shape × (v < volumes) ⌝ }
-    requires { ⌜ length (bookOf (now book) .slots) < bookOf (now book) .sizes .s ⌝ }
-    ensures { λ r. ⌜ WorkedBy (bookOf (now (book .entry))) (now (pool .entry)) (now (list .entry)) v day until r (now (pool .exit)) (now (work .exit)) ⌝ }
+    requires { ⌜ FormFacts (now book) × (now work ≡ now book) ⌝ }
+    requires { ⌜ Job (told book) (now pool) (now list) shape × (v < volumes) ⌝ }
+    requires { ⌜ length (told book .slots) < told book .sizes .s ⌝ }
+    ensures { λ r. ⌜ WorkedBy book pool work list v day until r ⌝ }
 {
-    let mut by = [0u16; 4096];
-    let step = run_changes(book, pool, work, list, shape, &mut by, v, until);
+    let mut taker = [0u16; MAX_BLOCKS];
+    let step = run_changes(book, pool, work, list, shape, &mut taker, v, until);
     let Step::Next(t) = step else {
         return step;
     };
-    store_all(book, work, pool, list, shape, &by);
+    store_all(book, work, pool, list, shape, &taker);
     let first = header::used_records(book);
     close(work, v, day, first, shape.changes);
     Step::Next(t)
@@ -89,10 +90,7 @@ pub fn backup(
     taken: &mut u16,
     touched: &mut u16,
 ) -> u16
-    ensures { λ r. ⌜ BackedUp (now (book .entry)) (now (pool .entry)) (now (spare .entry)) volume day (now (list .entry))
-        (record { number = now (number .entry); taken = now (taken .entry); touched = now (touched .entry) })
-        r (now (book .exit)) (now (pool .exit))
-        (record { number = now (number .exit); taken = now (taken .exit); touched = now (touched .exit) }) ⌝ }
+    ensures { λ r. ⌜ BackedUp book pool spare volume day list number taken touched r ⌝ }
 {
     let allowed = allow(book, pool, spare.len(), volume, day, list);
     let Allowed::Go(plan) = allowed else {

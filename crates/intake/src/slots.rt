@@ -1,8 +1,8 @@
 // The backups of a volume, by the used slots.
-ghost use Rattle.book.specs.Layout.{bookOf, Holds};
+ghost use Rattle.book.specs.Layout.{told, Holds};
 ghost use Rattle.intake.specs.Backups.{BackupsAre};
-use book::header;
-use book::slot;
+use fields::header;
+use journal::slot;
 
 // How many backups a volume has, and the day of the last one, 0 where there is none.
 pub struct Backups {
@@ -12,7 +12,7 @@ pub struct Backups {
 
 pub fn backups_of(book: &[u8], v: u16) -> Backups
     requires { ⌜ Holds (now book) ⌝ }
-    ensures { λ r. ⌜ BackupsAre (bookOf (now (book .entry))) v r ⌝ }
+    ensures { λ r. ⌜ BackupsAre (told (book .entry)) v r ⌝ }
 {
     let used = header::used_slots(book);
     let mut count = 0;

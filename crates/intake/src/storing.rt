@@ -5,15 +5,16 @@ ghost use Prim.Native.Nat.{_<_};
 ghost use lib.ListN.{length, getD};
 ghost use Rattle.list.specs.Answers.{Whole};
 ghost use Rattle.book.specs.Book.{entryAt};
-ghost use Rattle.book.specs.Layout.{bookOf, Holds};
+ghost use Rattle.book.specs.Layout.{told, Holds};
 ghost use Rattle.model.specs.Pool.{poolSize};
-ghost use Rattle.mover.specs.Working.{poolNow, Storable};
+ghost use Rattle.placer.specs.Working.{poolNow, Storable};
 ghost use Rattle.intake.specs.Storing.{storedBlock};
-use book::entry;
-use book::header;
+use entries::entry;
+use fields::header;
 use list::Shape;
 use words::BLOCK_SIZE;
 use words::PBN;
+use words::limits::Table;
 use words::put_bytes;
 
 // The copying leaf: dst becomes src.
@@ -31,13 +32,16 @@ fn store_block(
     pool: &mut [u8],
     list: &[u8],
     shape: Shape,
-    by: &[u16; 4096],
+    taker: &Table,
     p: PBN,
 )
     requires { ⌜ Holds (now book) × Holds (now work) × Whole (now list) shape ⌝ }
-    requires { ⌜ (p .0 < bookOf (now book) .sizes .n) × (p .0 < bookOf (now work) .sizes .n) × (length (now pool) ≡ poolSize (bookOf (now book) .sizes .n)) ⌝ }
-    requires { ⌜ (entryAt (bookOf (now book) .entries) (p .0) .held ≡ false → entryAt (bookOf (now work) .entries) (p .0) .held ≡ true → getD (now by) (p .0) 0 < shape .changes) ⌝ }
-    ensures { λ _. ⌜ now (pool .exit) ≡ storedBlock (bookOf (now (book .entry)) .entries) (bookOf (now (work .entry)) .entries) (now (by .entry)) (now (list .entry)) (now (pool .entry)) (p .0) ⌝ }
+    requires { ⌜ (p .0 < told book .sizes .n) × (p .0 < told work .sizes .n)
+        × (length (now pool) ≡ poolSize (told book .sizes .n)) ⌝ }
+    requires { ⌜ (entryAt (told book .entries) (p .0) .held ≡ false → entryAt (told work .entries) (p .0) .held ≡ true
+        → getD (now taker) (p .0) 0 < shape .changes) ⌝ }
+    ensures { λ _. ⌜ now (pool .exit) ≡ storedBlock (told (book .entry) .entries) (told (work .entry) .entries)
+        (now (taker .entry)) (now (list .entry)) (now (pool .entry)) (p .0) ⌝ }
 {
     if entry::is_held(book, p) {
         return;
@@ -48,7 +52,7 @@ fn store_block(
     let at = p.0 as usize;
     let from = at * BLOCK_SIZE;
     let to = from + BLOCK_SIZE;
-    let i = by[at] as usize;
+    let i = taker[at] as usize;
     copy(&mut pool[from..to], list::block_of(list, shape, i));
 }
 
@@ -59,16 +63,17 @@ pub fn store_all(
     pool: &mut [u8],
     list: &[u8],
     shape: Shape,
-    by: &[u16; 4096],
+    taker: &Table,
 )
     requires { ⌜ Holds (now book) × Holds (now work) ⌝ }
-    requires { ⌜ Storable (bookOf (now book)) (bookOf (now work)) (now pool) (now list) shape (now by) ⌝ }
-    ensures { λ _. ⌜ now (pool .exit) ≡ poolNow (bookOf (now (book .entry)) .entries) (bookOf (now (work .entry)) .entries) (now (by .entry)) (now (list .entry)) (now (pool .entry)) ⌝ }
+    requires { ⌜ Storable (told book) (told work) (now pool) (now list) shape (now taker) ⌝ }
+    ensures { λ _. ⌜ now (pool .exit) ≡ poolNow (told (book .entry) .entries) (told (work .entry) .entries)
+        (now (taker .entry)) (now (list .entry)) (now (pool .entry)) ⌝ }
 {
     let n = header::blocks(book);
     let mut p = 0;
     while p < n {
-        store_block(book, work, pool, list, shape, by, PBN(p));
+        store_block(book, work, pool, list, shape, taker, PBN(p));
         p += 1;
     }
 }

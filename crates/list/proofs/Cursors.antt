@@ -10,10 +10,9 @@ use lib.ListN.{take}
 use lib.Seq.{take-all}
 use Rattle.words.specs.Lists.{sum}
 use Rattle.words.proofs.Runs.{sum-take}
-use Rattle.list.specs.Changes.{Pair, pairCount, pairAt, pairs, lengths, changeCount, lbns, changeAt}
-use Rattle.list.proofs.Pairs.{run-at}
+use Rattle.runs.specs.Changes.{Pair, pairCount, pairAt, pairs, lengths, changeCount, lbns, changeAt}
+use Rattle.runs.proofs.Pairs.{length-pairs, getD-pairs, run-at}
 use Rattle.list.specs.Answers.{indexOf, Valid}
-use Rattle.list.proofs.Reading.{length-pairs, getD-pairs}
 use Rattle.list.specs.declared.Cursor.{Cursor}
 
 module _ (b : List ℕ) (c : Cursor) where

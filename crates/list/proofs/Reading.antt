@@ -9,36 +9,29 @@ use lib.ListN.{length, getD, drop, drop-of-length-le}
 use lib.Seq.{drop-cons}
 use Rattle.words.specs.Choice.{if_then_else_}
 use Rattle.words.specs.Lists.{sum}
-use Rattle.words.proofs.SectionLaws.{length-tab, getD-tab}
-use Rattle.list.specs.Changes.{Pair, pairCount, pairAt, pairs, lengths, changeCount, pairsFit}
+use Rattle.runs.specs.Changes.{Pair, pairCount, pairAt, pairs, lengths, changeCount, pairsFit}
 use Rattle.list.specs.Answers.{pairFits, countedOf}
-use Rattle.list.proofs.Pairs.{fit-sum}
+use Rattle.runs.proofs.Pairs.{length-pairs, getD-pairs, fit-sum}
 use Rattle.list.specs.declared.Counted.the-variants.{Fit, Unfit}
 
 module _ (b : List ℕ) where
-  pub length-pairs : length (pairs b) ≡ pairCount b
-  unfolding pairs
-  length-pairs = length-tab (pairCount b) (pairAt b)
-
-  pub getD-pairs : (i : ℕ) (d : Pair) → i < pairCount b → getD (pairs b) i d ≡ pairAt b i
-  unfolding pairs
-  getD-pairs i d h = getD-tab (pairCount b) (pairAt b) i d h
-
   drop-pairs : (i : ℕ) → i < pairCount b → drop i (pairs b) ≡ pairAt b i ∷ drop (i + 1) (pairs b)
   drop-pairs i h =
       rw (add-one i)
-      (drop-cons (pairs b) i (pairAt b i) (rw length-pairs h)
-      ∙ ap (λ (p : Pair). p ∷ drop (suc i) (pairs b)) (getD-pairs i (pairAt b i) h))
+      (drop-cons (pairs b) i (pairAt b i) (rw (length-pairs b) h)
+      ∙ ap (λ (p : Pair). p ∷ drop (suc i) (pairs b)) (getD-pairs b i (pairAt b i) h))
 
   pub pairs-end : (i : ℕ) → pairCount b ≤ i → drop i (pairs b) ≡ []
-  pairs-end i h = drop-of-length-le (pairs b) {i = i} (rw length-pairs h)
+  pairs-end i h = drop-of-length-le (pairs b) {i = i} (rw (length-pairs b) h)
 
 -- one turn of a loop over the pairs, at pair i
 module _ (b : List ℕ) (i first many : ℕ) (h : i < pairCount b) (p : first ≡ pairAt b i .first) (q : many ≡ pairAt b i .many) where
-  fit-turn : (L end : ℕ) → pairsFit L end (drop i (pairs b)) ≡ (pairFits L end first many && pairsFit L (first + many) (drop (i + 1) (pairs b)))
+  fit-turn : (L end : ℕ) → pairsFit L end (drop i (pairs b))
+      ≡ (pairFits L end first many && pairsFit L (first + many) (drop (i + 1) (pairs b)))
   fit-turn L end = rw (p, q) (ap (λ (ps : List Pair). pairsFit L end ps) (drop-pairs b i h))
 
-  pub fit-more : (L end : ℕ) → pairFits L end first many ≡ true → pairsFit L end (drop i (pairs b)) ≡ pairsFit L (first + many) (drop (i + 1) (pairs b))
+  pub fit-more : (L end : ℕ) → pairFits L end first many ≡ true
+      → pairsFit L end (drop i (pairs b)) ≡ pairsFit L (first + many) (drop (i + 1) (pairs b))
   fit-more L end e = fit-turn L end ∙ ap (λ (t : Bool). t && pairsFit L (first + many) (drop (i + 1) (pairs b))) e
 
   pub fit-stop : (L end : ℕ) → pairFits L end first many ≡ false → pairsFit L end (drop i (pairs b)) ≡ false

@@ -7,7 +7,7 @@ use mathlib.Core.Bool.{Bool, not, _&&_}
 use lib.Dec.{leb, eqb}
 use Rattle.words.specs.Choice.{if_then_else_}
 use Rattle.words.specs.Lists.{sum}
-use Rattle.list.specs.Changes.{pairSize, lengths, pairAt, pairs, pairCount, changeCount, pairsFit, listNumber}
+use Rattle.runs.specs.Changes.{pairSize, lengths, pairAt, pairs, pairCount, changeCount, pairsFit, listNumber}
 use Rattle.words.specs.Blocks.{blockSize, printSize}
 use Rattle.list.specs.declared.Shape.{Shape}
 use Rattle.list.specs.declared.Cursor.{Cursor}
@@ -26,11 +26,6 @@ pairFits L end first many = not (eqb many 0) && leb end first && leb (first + ma
 
 unfoldable pub countedOf : ℕ → List ℕ → Counted
 countedOf L b = if pairsFit L 0 (pairs b) then Fit (changeCount b) else Unfit
-
--- document 01's number for each case of the answer
-abbrev pub numberOf : Checked → ℕ
-numberOf (Good s) = 0
-numberOf Refused = 8
 
 unfoldable pub checkedOf : ℕ → List ℕ → Checked
 checkedOf L b = if eqb (listNumber L b) 0 then Good (shapeOf b) else Refused
@@ -52,3 +47,6 @@ pub record Valid (b : List ℕ) (c : Cursor) : Type 0 where
   pub pair : c .pair ≤ pairCount b
   pub inside : c .pair < pairCount b → c .within < pairAt b (c .pair) .many
   pub end : c .pair ≡ pairCount b → c .within ≡ 0
+
+abbrev pub StandsAt : List ℕ → Cursor → ℕ → Type 0
+StandsAt b c i = Valid b c × (indexOf b c ≡ i)

@@ -3,9 +3,9 @@ ghost use mathlib.Core.Path.{_≡_};
 ghost use Prim.Native.Nat.{_+_, _*_, _≤_, _<_};
 ghost use lib.ListN.{length};
 ghost use Rattle.words.specs.Sections.{part};
-ghost use Rattle.list.specs.Changes.{pairCount, changeAt, pairSize, printsFrom};
+ghost use Rattle.runs.specs.Changes.{pairCount, changeAt, pairSize, printsFrom};
 ghost use Rattle.words.specs.Blocks.{printSize};
-ghost use Rattle.list.specs.Answers.{pairFits, countedOf, checkedOf, Whole, indexOf, Valid};
+ghost use Rattle.list.specs.Answers.{pairFits, countedOf, checkedOf, Whole, indexOf, Valid, StandsAt};
 use words::BLOCK_SIZE;
 use words::LBN;
 use words::PRINT_SIZE;
@@ -25,7 +25,7 @@ pub enum Checked {
     Refused,
 }
 
-// A place between two changes: the pair that the next change is in, and how many of that pair's blocks were passed.
+// Between two changes: the pair that the next change is in, and how many of that pair's blocks were passed.
 pub struct Cursor {
     pub pair: u16,
     pub within: u16,
@@ -97,10 +97,10 @@ pub fn check(list: &[u8], l: u16) -> Checked
     })
 }
 
-// The place before the first change.
+// Before the first change.
 pub fn start(list: &[u8], shape: Shape) -> Cursor
     requires { ⌜ Whole (now list) shape ⌝ }
-    ensures { λ r. ⌜ Valid (now (list .entry)) r × (indexOf (now (list .entry)) r ≡ 0) ⌝ }
+    ensures { λ r. ⌜ StandsAt (now (list .entry)) r 0 ⌝ }
 {
     Cursor { pair: 0, within: 0 }
 }
@@ -114,10 +114,10 @@ pub fn lbn_at(list: &[u8], shape: Shape, at: Cursor) -> LBN
     LBN(first + at.within)
 }
 
-// The place after the change at the cursor.
+// After the change at the cursor.
 pub fn next(list: &[u8], shape: Shape, at: Cursor) -> Cursor
     requires { ⌜ Whole (now list) shape × Valid (now list) at × (indexOf (now list) at < shape .changes) ⌝ }
-    ensures { λ r. ⌜ Valid (now (list .entry)) r × (indexOf (now (list .entry)) r ≡ indexOf (now (list .entry)) at + 1) ⌝ }
+    ensures { λ r. ⌜ StandsAt (now (list .entry)) r (indexOf (now (list .entry)) at + 1) ⌝ }
 {
     let many = u16_at(list, 2 + at.pair as usize * PAIR_SIZE + 2);
     if at.within + 1 < many {

@@ -1,4 +1,5 @@
--- The agreement of the two stores: where our book and pool and the plain store stand alike (`Agree`, the abstraction relation), and that every call keeps it.
+-- The agreement of the two stores: where our book and pool and the plain store stand alike (`Agree`, the abstraction relation), and that
+-- every call keeps it.
 pub mod Agree
 pub mod AgreeLaws
 pub mod Sweep

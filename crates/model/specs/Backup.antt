@@ -9,7 +9,7 @@ use Rattle.words.specs.Blocks.{unmapped}
 use Rattle.words.specs.Choice.{if_then_else_}
 use Rattle.words.specs.Lists.{placeFrom, orElse, same}
 use Rattle.words.specs.Outcome.{Outcome, refused, accepted, andThen, unless}
-use Rattle.list.specs.Changes.{Change, changes, changeCount, listNumber}
+use Rattle.runs.specs.Changes.{Change, changes, changeCount, listNumber}
 use Rattle.book.specs.Book.{Entry, Book, entryAt, isFree, cellAt, retentionOf}
 use Rattle.book.specs.Next.{withDay, withCursor, withEntries, withEntry, withCell, withRecord, withSlot, countAs, expiryAs, heldAs}
 use Rattle.model.specs.Days.{badDay, notAfter}

@@ -11,7 +11,8 @@ pub data Call : Type 0 where
   read : ℕ → ℕ → ℕ → Call  -- volume, number, LBN
   audit : Call
 
--- "the number of a refusal; an enrol's 0; a backup's number, taken and touched; a collect's freed; a read's bytes or its number; an audit's yes or no"
+-- "the number of a refusal; an enrol's 0; a backup's number, taken and touched; a collect's freed; a read's bytes or its number; an
+-- audit's yes or no"
 pub data Answer : Type 0 where
   number : ℕ → Answer
   backed : ℕ → ℕ → ℕ → Answer

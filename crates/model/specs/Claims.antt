@@ -1,5 +1,5 @@
--- What is claimed: of every list of calls on every fresh book (document 01, "The plain store", last two paragraphs), of power cuts, and of what
--- backup's numbers count, backup finds and audit says. Statements only; the proofs are in proofs/claims.
+-- What is claimed: of every list of calls on every fresh book (document 01, "The plain store", last two paragraphs), of power cuts, and
+-- of what backup's numbers count, backup finds and audit says. Statements only; the proofs are in proofs/claims.
 use Prim.Native.Nat.{ℕ, _+_, _-_, _*_, _≤_, _<_}
 use mathlib.Core.Path.{_≡_}
 use mathlib.Core.Logic.{_≢_}
@@ -11,7 +11,7 @@ use Rattle.words.specs.Blocks.{unmapped}
 use Rattle.words.specs.Choice.{if_then_else_}
 use Rattle.words.specs.Lists.{all, someOf, countOf, joined}
 use Rattle.words.specs.Outcome.{accepted}
-use Rattle.list.specs.Changes.{lbns, changeCount}
+use Rattle.runs.specs.Changes.{lbns, changeCount}
 use Rattle.book.specs.Book.{volumes, Sizes, Entry, Rec, Book, entryAt, isFree, cellAt, retentionOf}
 use Rattle.book.specs.Layout.{bookSize, bookOf}
 use Rattle.model.specs.Pool.{poolSize, blockAt}
@@ -87,7 +87,8 @@ pub record Lists (f : Fresh) (cs : List Call) : Type 0 where
   pub answers : ourAnswers f cs ≡ plainAnswers f cs
   -- "after the list, the held blocks with PBN, fingerprint and bytes, and the current maps of all eight volumes"
   pub shown : oursShown (ourEnd f cs) ≡ plainShown (plainEnd f cs)
-  -- "In an accepted collect, a block held in our book before is free after exactly when no current map and no backup kept at T .. points to it"
+  -- "In an accepted collect, a block held in our book before is free after exactly when no current map and no backup kept at T .. points
+  -- to it"
   pub freeing : (before after : List Call) (t k p : ℕ) → cs ≡ before ++ (collect t ∷ after)
       → ourAnswer f before (collect t) ≡ freed k → p < f .sizes .n → entryBefore f before p .held ≡ true
       → isFree (entryAfter f before (collect t) p) ≡ not (marked (plainEnd f before) t p)
@@ -126,9 +127,10 @@ pub record Corollaries (f : Fresh) (cs : List Call) : Type 0 where
   -- a collect right after a collect on the same day frees nothing
   pub collects : (t k : ℕ) → ourAnswer f cs (collect t) ≡ freed k → ourAnswer f (cs ++ (collect t ∷ [])) (collect t) ≡ freed 0
 
--- ---- the claim about power cuts. A host writes the pool blocks that a call took, syncs them, and then replaces the book. Cut off, it has the new
--- book and the new pool, or the old book and a pool in which only blocks were written that this book has free: from there it goes on as if the
--- call had not been
+-- ---- the claim about power cuts
+
+-- A host writes the pool blocks that a call took, syncs them, and then replaces the book. Cut off, it has the new book and the new pool, or
+-- the old book and a pool in which only blocks were written that this book has free: from there it goes on as if the call had not been.
 
 -- a pool that has the bytes of every block that the book holds, and of the others any
 pub record Serves (o : Ours) (pool : List ℕ) : Type 0 where
@@ -204,7 +206,9 @@ Holds x p = p ≢ unmapped → entryAt (x .entries) p .held ≡ true
 
 -- held entries of the same fingerprint are one
 abbrev pub Differ : List Entry → Type 0
-Differ es = (p q : ℕ) → p < q → q < length es → entryAt es p .held ≡ true → entryAt es q .held ≡ true → entryAt es p .print ≢ entryAt es q .print
+Differ es =
+    (p q : ℕ) → p < q → q < length es → entryAt es p .held ≡ true → entryAt es q .held ≡ true
+    → entryAt es p .print ≢ entryAt es q .print
 
 pub record Means (x : Book) : Type 0 where
   -- "the maps are the records replayed in order from all unmapped, each before being the cell that it replaces"
@@ -218,5 +222,6 @@ pub record Means (x : Book) : Type 0 where
   pub prints : Differ (x .entries)
   -- "no current map and no kept backup names a free block"
   pub current : (v l : ℕ) → v < length (x .maps) → l < length (getD (x .maps) v []) → Holds x (cellAt (x .maps) v l)
-  pub kept : (v k l : ℕ) → v < volumes → 1 ≤ k → k ≤ length (days x v) → Days.kept (days x v) (retentionOf x v) (x .day) k ≡ true → l < x .sizes .l
+  pub kept : (v k l : ℕ) → v < volumes → 1 ≤ k → k ≤ length (days x v)
+      → Days.kept (days x v) (retentionOf x v) (x .day) k ≡ true → l < x .sizes .l
       → Holds x (image x v k l)

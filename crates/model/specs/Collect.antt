@@ -7,7 +7,7 @@ use Rattle.words.specs.Choice.{if_then_else_}
 use Rattle.words.specs.Lists.{countOf}
 use Rattle.words.specs.Outcome.{Outcome, accepted, unless}
 use Rattle.book.specs.Book.{Entry, Book}
-use Rattle.book.specs.Next.{withDay, withEntries, freed}
+use Rattle.book.specs.Next.{withDay, withEntries, madeFree}
 use Rattle.model.specs.Days.{badDay}
 
 unfoldable pub collectNumber : Book → ℕ → ℕ
@@ -18,8 +18,8 @@ unfoldable pub isOver : ℕ → Entry → Bool
 isOver t e = e .held && eqb (e .count) 0 && ltb (e .expiry) t
 
 -- .. "becomes free with a zero fingerprint and its expiry kept"
-unfoldable pub entryAfter : ℕ → Entry → Entry
-entryAfter t e = if isOver t e then freed e else e
+unfoldable pub sweptEntry : ℕ → Entry → Entry
+sweptEntry t e = if isOver t e then madeFree e else e
 
 pub record Collected : Type 0 where
   pub book : Book
@@ -27,7 +27,7 @@ pub record Collected : Type 0 where
 
 -- "day becomes T. The answer is how many"
 unfoldable pub collected : Book → ℕ → Collected
-collected x t = record { book = withDay t (withEntries (map (entryAfter t) (x .entries)) x); freed = countOf (isOver t) (x .entries) }
+collected x t = record { book = withDay t (withEntries (map (sweptEntry t) (x .entries)) x); freed = countOf (isOver t) (x .entries) }
 
 unfoldable pub collect : Book → ℕ → Outcome Collected
 collect x t = unless (collectNumber x t) (accepted (collected x t))

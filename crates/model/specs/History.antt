@@ -8,7 +8,7 @@ use lib.Dec.{leb, ltb, eqb}
 use Rattle.words.specs.Choice.{if_then_else_}
 use Rattle.words.specs.Lists.{orElse, joined}
 use Rattle.words.specs.Outcome.{accepted, unless}
-use Rattle.list.specs.Changes.{Change, changes}
+use Rattle.runs.specs.Changes.{Change, changes}
 use Rattle.model.specs.Days.{kept}
 use Rattle.model.specs.Calls.{Call, enrol, backup, collect, read, audit, Answer, isZero, isBacked, isFreed}
 use Rattle.model.specs.Runs.{readAnswer}

@@ -20,7 +20,7 @@ pub data Block : Type 0 where
 pub record Image : Type 0 where
   pub day : ℕ
   pub cells : List ℕ
-  pub changes : ℕ
+  pub changed : ℕ
 
 -- "for each enrolled volume a retention and a list"; 0 means not enrolled
 pub record Volume : Type 0 where
@@ -34,16 +34,16 @@ pub record Plain : Type 0 where
   pub blocks : List Block
   pub volumes : List Volume
 
-unfoldable pub noVolume : Volume
-noVolume = record { retention = 0; images = [] }
+unfoldable pub unenrolled : Volume
+unenrolled = record { retention = 0; images = [] }
 
 -- "It starts with the format's sizes, day and cursor 0, all blocks free and no volume enrolled"
 unfoldable pub start : Sizes → Plain
-start z = record { sizes = z; day = 0; cursor = 0; blocks = replicate (z .n) free; volumes = replicate volumes noVolume }
+start z = record { sizes = z; day = 0; cursor = 0; blocks = replicate (z .n) free; volumes = replicate volumes unenrolled }
 
 -- a store with one thing changed
-unfoldable pub withDay : ℕ → Plain → Plain
-withDay t q = record { sizes = q .sizes; day = t; cursor = q .cursor; blocks = q .blocks; volumes = q .volumes }
+unfoldable pub atDay : ℕ → Plain → Plain
+atDay t q = record { sizes = q .sizes; day = t; cursor = q .cursor; blocks = q .blocks; volumes = q .volumes }
 
 unfoldable pub withBlocks : List Block → ℕ → Plain → Plain
 withBlocks bs c q = record { sizes = q .sizes; day = q .day; cursor = c; blocks = bs; volumes = q .volumes }
@@ -54,7 +54,7 @@ withVolume v u q = record { sizes = q .sizes; day = q .day; cursor = q .cursor; 
 -- ---- looking things up
 
 abbrev pub volumeAt : Plain → ℕ → Volume
-volumeAt q v = getD (q .volumes) v noVolume
+volumeAt q v = getD (q .volumes) v unenrolled
 
 abbrev pub isEnrolled : Plain → ℕ → Bool
 isEnrolled q v = not (eqb (volumeAt q v .retention) 0)
@@ -122,21 +122,21 @@ abbrev pub sweptCount : (ℕ → Bool) → ℕ → List Block → ℕ
 sweptCount mark p [] = 0
 sweptCount mark p (b ∷ bs) = (if isFree b || mark p then 0 else 1) + sweptCount mark (suc p) bs
 
-pub record Collected : Type 0 where
+pub record PlainCollected : Type 0 where
   pub store : Plain
   pub freed : ℕ
 
 -- "The T of an accepted call becomes its day"
-unfoldable pub collected : Plain → ℕ → Collected
+unfoldable pub collected : Plain → ℕ → PlainCollected
 collected q t = record {
-  store = withDay t (withBlocks (swept (marked q t) 0 (q .blocks)) (q .cursor) q);
+  store = atDay t (withBlocks (swept (marked q t) 0 (q .blocks)) (q .cursor) q);
   freed = sweptCount (marked q t) 0 (q .blocks);
 }
 
 unfoldable pub collectNumber : Plain → ℕ → ℕ
 collectNumber q t = if badDay (q .day) t then 7 else 0
 
-unfoldable pub collect : Plain → ℕ → Outcome Collected
+unfoldable pub collect : Plain → ℕ → Outcome PlainCollected
 collect q t = unless (collectNumber q t) (accepted (collected q t))
 
 -- ---- read: "gives the bytes of the block that map k has at the LBN"

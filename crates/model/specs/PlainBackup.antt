@@ -9,16 +9,17 @@ use Rattle.words.specs.Blocks.{unmapped}
 use Rattle.words.specs.Choice.{if_then_else_}
 use Rattle.words.specs.Lists.{countOf, placeFrom, orElse, joined, same, sum}
 use Rattle.words.specs.Outcome.{Outcome, refused, accepted, andThen, unless}
-use Rattle.list.specs.Changes.{Change, changes, changeCount, listNumber}
+use Rattle.runs.specs.Changes.{Change, changes, changeCount, listNumber}
 use Rattle.model.specs.Days.{badDay, notAfter}
-use Rattle.model.specs.Plain.{Block, free, held, Image, Volume, Plain, withDay, withBlocks, withVolume, volumeAt, isEnrolled, daysOf, current, currentMaps, isFree, bytesOf}
+use Rattle.model.specs.Plain.{Block, free, held, Image, Volume, Plain, atDay, withBlocks, withVolume, volumeAt, isEnrolled, daysOf}
+use Rattle.model.specs.Plain.{current, currentMaps, isFree, bytesOf}
 
 -- "9 and 10 count all backups and changes so far"
 unfoldable pub backupsSoFar : Plain → ℕ
 backupsSoFar q = sum (map (λ (u : Volume). length (u .images)) (q .volumes))
 
 abbrev pub changesIn : Volume → ℕ
-changesIn u = sum (map (λ (i : Image). i .changes) (u .images))
+changesIn u = sum (map (λ (i : Image). i .changed) (u .images))
 
 unfoldable pub changesSoFar : Plain → ℕ
 changesSoFar q = sum (map changesIn (q .volumes))
@@ -35,16 +36,16 @@ backupNumber q v t list =
 
 -- ---- the changes: "for each change runs steps 1 and 2 and sets the cell in the copy"
 
-pub record Work : Type 0 where
+pub record PlainWork : Type 0 where
   pub blocks : List Block
   pub cursor : ℕ
   pub copy : List ℕ
   pub taken : ℕ
   pub touched : ℕ
 
-pub record Placed : Type 0 where
+pub record PlainPlaced : Type 0 where
   pub pbn : ℕ
-  pub work : Work
+  pub work : PlainWork
 
 abbrev pub hasPrint : List ℕ → Block → Bool
 hasPrint f free = false
@@ -57,7 +58,7 @@ findHeld bs f = placeFrom 0 (hasPrint f) bs
 unfoldable pub findFree : List Block → ℕ → Option ℕ
 findFree bs c = orElse (placeFrom c isFree (drop c bs)) (placeFrom 0 isFree (take c bs))
 
-unfoldable pub takeBlock : Change → ℕ → Work → Work
+unfoldable pub takeBlock : Change → ℕ → PlainWork → PlainWork
 takeBlock c p w = record {
   blocks = set (w .blocks) p (held (c .print) (c .block));
   cursor = suc p % length (w .blocks);
@@ -66,24 +67,24 @@ takeBlock c p w = record {
   touched = w .touched;
 }
 
-unfoldable pub placeFree : Change → Work → Option ℕ → Outcome Placed
+unfoldable pub placeFree : Change → PlainWork → Option ℕ → Outcome PlainPlaced
 placeFree c w none = refused 12
 placeFree c w (some p) = accepted (record { pbn = p; work = takeBlock c p w })
 
-unfoldable pub placeHeld : Change → Work → Option ℕ → Outcome Placed
+unfoldable pub placeHeld : Change → PlainWork → Option ℕ → Outcome PlainPlaced
 placeHeld c w none = placeFree c w (findFree (w .blocks) (w .cursor))
 placeHeld c w (some p) = if same (bytesOf (getD (w .blocks) p free)) (c .block) then accepted (record { pbn = p; work = w }) else refused 11
 
-unfoldable pub place : Change → Work → Outcome Placed
+unfoldable pub place : Change → PlainWork → Outcome PlainPlaced
 place c w = placeHeld c w (findHeld (w .blocks) (c .print))
 
 -- 14: "255 cells of current maps name the found block, this list's earlier changes made and this cell's before taken out"
-unfoldable pub moveNumber : List (List ℕ) → ℕ → ℕ → Placed → ℕ
+unfoldable pub moveNumber : List (List ℕ) → ℕ → ℕ → PlainPlaced → ℕ
 moveNumber maps v lbn d =
     if eqb (countOf (eqb (d .pbn)) (joined (set maps v (set (d .work .copy) lbn unmapped)))) 255 then 14 else 0
 
 -- "Taken, touched and freed are counted as above"
-unfoldable pub moved : ℕ → Placed → Work
+unfoldable pub moved : ℕ → PlainPlaced → PlainWork
 moved lbn d = record {
   blocks = d .work .blocks;
   cursor = d .work .cursor;
@@ -92,43 +93,43 @@ moved lbn d = record {
   touched = d .work .touched + (if eqb (getD (d .work .copy) lbn unmapped) unmapped then 1 else 2);
 }
 
-unfoldable pub moveTo : List (List ℕ) → ℕ → ℕ → Placed → Outcome Work
+unfoldable pub moveTo : List (List ℕ) → ℕ → ℕ → PlainPlaced → Outcome PlainWork
 moveTo maps v lbn d = unless (moveNumber maps v lbn d) (accepted (moved lbn d))
 
 -- maps are the current maps before the call, and v is the volume
-unfoldable pub changeStep : List (List ℕ) → ℕ → Change → Work → Outcome Work
+unfoldable pub changeStep : List (List ℕ) → ℕ → Change → PlainWork → Outcome PlainWork
 changeStep maps v c w = andThen (place c w) (moveTo maps v (c .lbn))
 
-abbrev pub runChanges : List (List ℕ) → ℕ → List Change → Work → Outcome Work
+abbrev pub runChanges : List (List ℕ) → ℕ → List Change → PlainWork → Outcome PlainWork
 runChanges maps v [] w = accepted w
 runChanges maps v (c ∷ cs) w = andThen (changeStep maps v c w) (λ w′. runChanges maps v cs w′)
 
 -- ---- the whole call: "copies the current map, .. and appends the copy with T"
 
-pub record Backed : Type 0 where
+pub record PlainBacked : Type 0 where
   pub store : Plain
   pub number : ℕ
   pub taken : ℕ
   pub touched : ℕ
 
-unfoldable pub begun : Plain → ℕ → Work
+unfoldable pub begun : Plain → ℕ → PlainWork
 begun q v = record { blocks = q .blocks; cursor = q .cursor; copy = current (q .sizes) (volumeAt q v); taken = 0; touched = 0 }
 
 unfoldable pub withImage : Image → Volume → Volume
 withImage i u = record { retention = u .retention; images = u .images ++ (i ∷ []) }
 
-unfoldable pub closed : Plain → ℕ → ℕ → ℕ → Work → Backed
+unfoldable pub closed : Plain → ℕ → ℕ → ℕ → PlainWork → PlainBacked
 closed q v t n w = record {
   store =
-      withDay t
+      atDay t
       (withBlocks (w .blocks) (w .cursor)
-      (withVolume v (withImage (record { day = t; cells = w .copy; changes = n }) (volumeAt q v)) q));
+      (withVolume v (withImage (record { day = t; cells = w .copy; changed = n }) (volumeAt q v)) q));
   number = suc (length (volumeAt q v .images));
   taken = w .taken;
   touched = w .touched;
 }
 
-unfoldable pub backup : Plain → ℕ → ℕ → List ℕ → Outcome Backed
+unfoldable pub backup : Plain → ℕ → ℕ → List ℕ → Outcome PlainBacked
 backup q v t list =
     unless (backupNumber q v t list)
     (andThen (runChanges (currentMaps q) v (changes list) (begun q v)) (λ w. accepted (closed q v t (changeCount list) w)))

@@ -10,8 +10,9 @@ use Rattle.book.specs.Book.{Entry}
 use Rattle.book.specs.Layout.{bookOf}
 use Rattle.model.specs.OnBytes.{BackedBytes, CollectedBytes, enrolBytes, backupBytes, collectBytes, readBytes, auditBytes}
 use Rattle.model.specs.Plain
-use Rattle.model.specs.Plain.{Block, free, held, Plain, currentMaps}
+use Rattle.model.specs.Plain.{Block, free, held, Plain, currentMaps, PlainCollected}
 use Rattle.model.specs.PlainBackup
+use Rattle.model.specs.PlainBackup.{PlainBacked}
 use Rattle.model.specs.Calls.{Call, enrol, backup, collect, read, audit, Answer, number, backed, freed, block, sound}
 
 -- what a call answers and where it leaves a side
@@ -70,11 +71,11 @@ unfoldable pub plainEnrolled : Plain → Outcome Plain → Step Plain
 plainEnrolled q (refused k) = record { answer = number k; next = q }
 plainEnrolled q (accepted q′) = record { answer = number 0; next = q′ }
 
-unfoldable pub plainBacked : Plain → Outcome PlainBackup.Backed → Step Plain
+unfoldable pub plainBacked : Plain → Outcome PlainBacked → Step Plain
 plainBacked q (refused k) = record { answer = number k; next = q }
 plainBacked q (accepted d) = record { answer = backed (d .number) (d .taken) (d .touched); next = d .store }
 
-unfoldable pub plainCollected : Plain → Outcome Plain.Collected → Step Plain
+unfoldable pub plainCollected : Plain → Outcome PlainCollected → Step Plain
 plainCollected q (refused k) = record { answer = number k; next = q }
 plainCollected q (accepted d) = record { answer = freed (d .freed); next = d .store }
 

@@ -8,31 +8,35 @@ use native.Mathlib.Omega.{arith}
 use lib.Dec.{ltb, eqb}
 use lib.ListN.{length, getD, set, drop, length-append, drop-of-length-le}
 use lib.Seq.{drop-cons}
+use denote.Ref.{now}
 use borrow.Author.Tests.{lt-ltb}
 use Rattle.words.proofs.Accepted.{unless-accepted}
 use Rattle.words.specs.Blocks.{unmapped}
 use Rattle.words.proofs.ChoiceLaws.{or-l}
+use Rattle.words.specs.Lent.{Lent}
 use Rattle.words.specs.Lists.{all}
 use Rattle.words.specs.Outcome.{refused, accepted}
 use Rattle.words.proofs.Places.{all-getD, all-set}
 use Rattle.words.specs.declared.PBN.{PBN}
-use Rattle.list.specs.Changes.{Change, changeCount, changeAt, changes}
-use Rattle.list.proofs.Laws.{length-changes, getD-changes}
+use Rattle.runs.specs.Changes.{Change, changeCount, changeAt, changes}
+use Rattle.runs.proofs.Laws.{length-changes, getD-changes}
 use Rattle.book.specs.Book.{Sizes, Book, entryAt, cellAt}
 use Rattle.book.specs.Form.{pbnOk}
-use Rattle.book.specs.Layout.{bookOf, Holds}
+use Rattle.book.specs.Layout.{bookOf, told, Holds}
 use Rattle.book.specs.Next.{withEntries, withMaps, withRecord}
 use Rattle.model.proofs.agreement.Moving.{moved-held}
-use Rattle.model.specs.Backup.{Work, Placed, lower, nameBlock, moveNumber, moved, moveTo, changeStep, runChanges}
-use Rattle.index.specs.Indexed.{Indexed}
-use Rattle.mover.proofs.Indexing.{moved-indexed}
+use Rattle.model.specs.Backup.{Work, Placed, place, lower, nameBlock, moveNumber, moved, moveTo, changeStep, runChanges}
+use Rattle.finder.specs.Indexed.{Indexed}
+use Rattle.placer.proofs.Indexing.{moved-indexed}
 use Rattle.mover.proofs.MoveLaws.{at-most-two}
-use Rattle.mover.proofs.PoolLaws.{same-now}
-use Rattle.mover.specs.Stepping.{PlacedBy, MovedBy, SteppedBy, StillIndexed, RanBy, placedNumber}
-use Rattle.mover.specs.Working.{poolNow, workAt, workOf, Standing}
-use Rattle.mover.specs.declared.placing.Tally.{Tally}
-use Rattle.mover.specs.declared.placing.Placed.{Placed as Answer}
-use Rattle.mover.specs.declared.placing.Placed.the-variants.{At, Refused}
+use Rattle.placer.proofs.PlaceLaws.{PlacedAt}
+use Rattle.placer.proofs.PoolLaws.{same-now}
+use Rattle.mover.specs.Stepping.{MovedBy, SteppedBy, StillIndexed, noTally, RanBy}
+use Rattle.placer.specs.Placing.{workFrom, workTo, PlacedBy, placedNumber}
+use Rattle.placer.specs.Working.{poolNow, workAt, workOf, Standing}
+use Rattle.placer.specs.declared.placing.Tally.{Tally}
+use Rattle.placer.specs.declared.placing.Placement.{Placement as Answer}
+use Rattle.placer.specs.declared.placing.Placement.the-variants.{At, Refused}
 use Rattle.mover.specs.declared.moving.Step.{Step}
 use Rattle.mover.specs.declared.moving.Step.the-variants.{Next, Stop}
 
@@ -46,21 +50,23 @@ module _ (v until lbn p : ℕ) (y : Book) where
   unfolding nameBlock withEntries withMaps withRecord
   named-held q = moved-held until (cellAt (y .maps) v lbn) p (y .entries) q
 
-  named-maps : p < y .sizes .n → all (all (pbnOk (y .sizes .n))) (y .maps) ≡ true → all (all (pbnOk (y .sizes .n))) (namedBook v until lbn p y .maps) ≡ true
+  named-maps : p < y .sizes .n → all (all (pbnOk (y .sizes .n))) (y .maps) ≡ true
+      → all (all (pbnOk (y .sizes .n))) (namedBook v until lbn p y .maps) ≡ true
   unfolding nameBlock withEntries withMaps withRecord pbnOk
   named-maps h e =
       let f = pbnOk (y .sizes .n) in
       all-set (all f) (y .maps) v (set (getD (y .maps) v []) lbn p) e
-      (all-set f (getD (y .maps) v []) lbn p (all-getD (all f) (y .maps) [] v e refl) (or-l (ltb p (y .sizes .n)) (eqb p unmapped) (lt-ltb p (y .sizes .n) h)))
+      (all-set f (getD (y .maps) v []) lbn p (all-getD (all f) (y .maps) [] v e refl)
+      (or-l (ltb p (y .sizes .n)) (eqb p unmapped) (lt-ltb p (y .sizes .n) h)))
 
   named-records : length (namedBook v until lbn p y .records) ≡ length (y .records) + 1
   unfolding nameBlock withEntries withMaps withRecord
   named-records = length-append (y .records) _
 
-  named-standing : (x : Book) (by : List ℕ) (t t′ : Tally) (i : ℕ) → p < x .sizes .n → Standing x y by t (i + 1) i
-      → t′ .taken ≡ t .taken → t′ .touched ≤ t .touched + 2 → Standing x (namedBook v until lbn p y) by t′ (i + 1) (i + 1)
+  named-standing : (x : Book) (taker : List ℕ) (t t′ : Tally) (i : ℕ) → p < x .sizes .n → Standing x y taker t (i + 1) i
+      → t′ .taken ≡ t .taken → t′ .touched ≤ t .touched + 2 → Standing x (namedBook v until lbn p y) taker t′ (i + 1) (i + 1)
   unfolding nameBlock withEntries withMaps withRecord
-  named-standing x by t t′ i h s e f =
+  named-standing x taker t t′ i h s e f =
       let n = ap (λ (z : Sizes). z .n) (s .sizes) in
       record {
         sizes = s .sizes;
@@ -90,47 +96,83 @@ module _ (v until lbn : ℕ) (d : Placed) (w : Work) where
       )
 
 -- .. and what it leaves of the index
-pub move-indexed : (v until lbn p : ℕ) (b : List ℕ) (t : Tally) (r : Step) (b′ : List ℕ) {heads nexts : List ℕ} → MovedBy v until lbn p b t r b′
-    → Indexed (bookOf b .entries) heads nexts → StillIndexed r b′ heads nexts
+pub move-indexed : (work heads nexts : Lent (List ℕ)) (v lbn p until : ℕ) (t : Tally) (r : Step) (moved : Lent (List ℕ))
+    → MovedBy moved v lbn p until t r → Indexed (told (moved .entry) .entries) (now (heads .exit)) (now (nexts .exit))
+    → now (work .exit) ≡ now (moved .exit) → StillIndexed work heads nexts r
 unfolding MovedBy StillIndexed nameBlock withEntries withMaps withRecord
-move-indexed v until lbn p b t (Next t′) b′ m i =
-    let g = move-gives v until lbn (record { pbn = p; work = workAt (bookOf b) [] t }) (workAt (bookOf b′) [] t′) (m .0 []) in
+move-indexed work heads nexts v lbn p until t (Next t′) moved m i same =
+    let y = told (moved .entry) in
+    let g = move-gives v until lbn (record { pbn = p; work = workAt y [] t }) (workAt (told (moved .exit)) [] t′) (m .0 []) in
     let e = ap (λ (y : Book). y .entries) (g .0) in
-    rw e (moved-indexed until (cellAt (bookOf b .maps) v lbn) p (bookOf b .entries) i)
-move-indexed v until lbn p b t (Stop k) b′ m i = tt
+    rw (same, e) (moved-indexed until (cellAt (y .maps) v lbn) p (y .entries) i)
+move-indexed work heads nexts v lbn p until t (Stop k) moved m i same = tt
+
+-- ---- what the steps answered, once it is known which answer it is
+
+module _ (book pool work list taker : Lent (List ℕ)) (i : ℕ) (t : Tally) where
+  pub placed-as : {r r′ : Answer} → r ≡ r′ → PlacedBy book pool work list taker i t r → PlacedBy book pool work list taker i t r′
+  placed-as e h = rw e at h
+
+  pub stepped-as : (v until : ℕ) {r r′ : Step} → r ≡ r′ → SteppedBy book pool work list taker v until i t r
+      → SteppedBy book pool work list taker v until i t r′
+  stepped-as v until e h = rw e at h
+
+pub indexed-as : (work heads nexts : Lent (List ℕ)) {r r′ : Step} → r ≡ r′ → StillIndexed work heads nexts r
+    → StillIndexed work heads nexts r′
+indexed-as work heads nexts e h = rw e at h
 
 -- ---- a change
 
-module _ (x : Book) (pool list : List ℕ) (v until i : ℕ) (b by : List ℕ) (t : Tally) where
-  pub change-unplaced : (r : Answer) (k n : ℕ) (b₁ by₁ b′ by′ : List ℕ) → r ≡ Refused k → n ≡ placedNumber r → PlacedBy x pool list i b by t r b₁ by₁
-      → SteppedBy x pool list v until i b by t (Stop n) b′ by′
-  unfolding SteppedBy PlacedBy changeStep
-  change-unplaced (At p u) k n b₁ by₁ b′ by′ e f h = absurd (let z : _≡_ {A = ℕ} 0 1 = cc in omega arith)
-  change-unplaced (Refused m) k n b₁ by₁ b′ by′ e f h = rw (h, f)
+-- a change that isn't placed is refused with the number of that
+pub change-unplaced : (v until : ℕ) (c : Change) (w : Work) (r : Answer) (k n : ℕ) → r ≡ Refused k → n ≡ placedNumber r
+    → place c w ≡ refused k → changeStep v until c w ≡ refused n
+unfolding changeStep
+change-unplaced v until c w (At p u) k n e f h = absurd (let z : _≡_ {A = ℕ} 0 1 = cc in omega arith)
+change-unplaced v until c w (Refused m) k n e f h = let q : n ≡ k = f ∙ cc e in rw (h, q)
 
+module _ (x : Book) (pool list : List ℕ) (v until i : ℕ) (b taker : List ℕ) (t : Tally) where
   -- the model's change, once the block is known
-  change-placed : (p : PBN) (u : Tally) (b₁ by₁ : List ℕ) → PlacedBy x pool list i b by t (At p u) b₁ by₁
-      → changeStep v until (changeAt list i) (workOf x pool list (bookOf b) by t)
-      ≡ moveTo v until (changeAt list i .lbn) (cellAt (bookOf b₁ .maps) v (changeAt list i .lbn)) (record { pbn = p .0; work = workOf x pool list (bookOf b₁) by₁ u })
-  unfolding PlacedBy changeStep
-  change-placed p u b₁ by₁ h =
-      rw (h .0) (ap (λ (ms : List (List ℕ)). moveTo v until (changeAt list i .lbn) (cellAt ms v (changeAt list i .lbn)) (record { pbn = p .0; work = workOf x pool list (bookOf b₁) by₁ u })) (sym (h .1)))
+  change-placed : (p : PBN) (u : Tally) (b₁ taker₁ : List ℕ) → PlacedAt x pool list i b taker t p u b₁ taker₁
+      → changeStep v until (changeAt list i) (workOf x pool list (bookOf b) taker t)
+      ≡ moveTo v until (changeAt list i .lbn) (cellAt (bookOf b₁ .maps) v (changeAt list i .lbn))
+      (record { pbn = p .0; work = workOf x pool list (bookOf b₁) taker₁ u })
+  unfolding changeStep
+  change-placed p u b₁ taker₁ h =
+      rw (h .0) (ap (λ (ms : List (List ℕ)). moveTo v until (changeAt list i .lbn) (cellAt ms v (changeAt list i .lbn))
+      (record { pbn = p .0; work = workOf x pool list (bookOf b₁) taker₁ u })) (sym (h .1)))
 
-  pub change-by : (p : PBN) (u : Tally) (r : Step) (b₁ by₁ b₂ : List ℕ) → PlacedBy x pool list i b by t (At p u) b₁ by₁
-      → MovedBy v until (changeAt list i .lbn) (p .0) b₁ u r b₂ → SteppedBy x pool list v until i b by t r b₂ by₁
-  unfolding SteppedBy MovedBy PlacedBy
-  change-by p u (Next t′) b₁ by₁ b₂ h m =
-      let P = poolNow (x .entries) (bookOf b₁ .entries) by₁ list pool in
-      let d : Placed = record { pbn = p .0; work = workOf x pool list (bookOf b₁) by₁ u } in
-      let g = move-gives v until (changeAt list i .lbn) d (workAt (bookOf b₂) P t′) (m .0 P) in
-      let same : P ≡ poolNow (x .entries) (bookOf b₂ .entries) by₁ list pool =
-      same-now (x .entries) (bookOf b₁ .entries) (bookOf b₂ .entries) by₁ list pool
-      (λ q. ap (λ (y : Book). entryAt (y .entries) q .held) (g .0) ∙ named-held v until (changeAt list i .lbn) (p .0) (bookOf b₁) q) in (
-        change-placed p u b₁ by₁ h ∙ m .0 P ∙ ap (λ (P : List ℕ). accepted (workAt (bookOf b₂) P t′)) same,
+module _ (book pool work list taker : Lent (List ℕ)) (v until i : ℕ) (t : Tally) where
+  abbrev x : Book
+  x = told (book .entry)
+
+  abbrev changed : List ℕ
+  changed = now (list .entry)
+
+  -- a change that is placed goes as its move goes
+  pub change-by : (p : PBN) (u : Tally) (r : Step) (moved : Lent (List ℕ)) → MovedBy moved v (changeAt changed i .lbn) (p .0) until u r
+      → PlacedAt x (now (pool .entry)) changed i (now (work .entry)) (now (taker .entry)) t p u (now (moved .entry)) (now (taker .exit))
+      → now (work .exit) ≡ now (moved .exit) → SteppedBy book pool work list taker v until i t r
+  unfolding SteppedBy MovedBy
+  change-by p u (Next t′) moved m h same =
+      let b₁ = now (moved .entry) in
+      let b₂ = now (moved .exit) in
+      let taker₁ = now (taker .exit) in
+      let P = poolNow (x .entries) (bookOf b₁ .entries) taker₁ changed (now (pool .entry)) in
+      let d : Placed = record { pbn = p .0; work = workOf x (now (pool .entry)) changed (bookOf b₁) taker₁ u } in
+      let g = move-gives v until (changeAt changed i .lbn) d (workAt (bookOf b₂) P t′) (m .0 P) in
+      let kept : P ≡ poolNow (x .entries) (bookOf b₂ .entries) taker₁ changed (now (pool .entry)) =
+      same-now (x .entries) (bookOf b₁ .entries) (bookOf b₂ .entries) taker₁ changed (now (pool .entry))
+      (λ q. ap (λ (y : Book). entryAt (y .entries) q .held) (g .0) ∙ named-held v until (changeAt changed i .lbn) (p .0) (bookOf b₁) q) in
+      rw same (
+        change-placed x (now (pool .entry)) changed v until i (now (work .entry)) (now (taker .entry)) t p u b₁ taker₁ h
+            ∙ m .0 P ∙ ap (λ (P : List ℕ). accepted (workAt (bookOf b₂) P t′)) kept,
         m .1,
-        rw (g .0) (named-standing v until (changeAt list i .lbn) (p .0) (bookOf b₁) x by₁ u t′ i (h .2) (h .4) (g .1) (g .2)),
+        rw (g .0) (named-standing v until (changeAt changed i .lbn) (p .0) (bookOf b₁) x taker₁ u t′ i (h .2) (h .4) (g .1) (g .2)),
       )
-  change-by p u (Stop k) b₁ by₁ b₂ h m = change-placed p u b₁ by₁ h ∙ m (poolNow (x .entries) (bookOf b₁ .entries) by₁ list pool)
+  change-by p u (Stop k) moved m h same =
+      let P = poolNow (x .entries) (told (moved .entry) .entries) (now (taker .exit)) changed (now (pool .entry)) in
+      change-placed x (now (pool .entry)) changed v until i (now (work .entry)) (now (taker .entry)) t p u
+      (now (moved .entry)) (now (taker .exit)) h ∙ m P
 
 -- ---- one change after another
 
@@ -145,25 +187,26 @@ module _ (v until : ℕ) (list : List ℕ) (i : ℕ) (w : Work) where
       → runChanges v until (drop i (changes list)) w ≡ runChanges v until (drop (i + 1) (changes list)) w′
   run-more w′ h e = ap (λ (cs : List Change). runChanges v until cs w) (drop-changes h) ∙ rw e
 
-  run-stop : (k : ℕ) → i < changeCount list → changeStep v until (changeAt list i) w ≡ refused k → runChanges v until (drop i (changes list)) w ≡ refused k
+  run-stop : (k : ℕ) → i < changeCount list → changeStep v until (changeAt list i) w ≡ refused k
+      → runChanges v until (drop i (changes list)) w ≡ refused k
   run-stop k h e = ap (λ (cs : List Change). runChanges v until cs w) (drop-changes h) ∙ rw e
 
   run-end : changeCount list ≤ i → runChanges v until (drop i (changes list)) w ≡ accepted w
   run-end h = rw (drop-of-length-le (changes list) {i = i} (rw length-changes h))
 
--- the whole run stops at change i, or has no change left
-module _ (x : Book) (pool list : List ℕ) (v until : ℕ) (b₀ by₀ : List ℕ) (i : ℕ) (b by : List ℕ) (t : Tally) where
-  pub run-refused : (r : Step) (k : ℕ) (b′ by′ : List ℕ) → i < changeCount list → r ≡ Stop k
-      → runChanges v until (changes list) (workOf x pool list (bookOf b₀) by₀ (record { taken = 0; touched = 0 }))
-      ≡ runChanges v until (drop i (changes list)) (workOf x pool list (bookOf b) by t)
-      → SteppedBy x pool list v until i b by t r b′ by′ → RanBy x pool list v until b₀ by₀ r b′ by′
-  unfolding SteppedBy RanBy
-  run-refused (Next t′) k b′ by′ h e l s = absurd (let z : _≡_ {A = ℕ} 0 1 = cc in omega arith)
-  run-refused (Stop m) k b′ by′ h e l s = l ∙ run-stop v until list i (workOf x pool list (bookOf b) by t) m h s
+module _ (book pool work list taker : Lent (List ℕ)) (v until : ℕ) where
+  -- the whole run stops at change i, or has no change left
+  module _ (i : ℕ) (w : Work)
+      (l : runChanges v until (changes (now (list .entry))) (workFrom book pool work list taker noTally)
+      ≡ runChanges v until (drop i (changes (now (list .entry)))) w) where
+    pub run-refused : (r : Step) (k : ℕ) → i < changeCount (now (list .entry)) → r ≡ Stop k
+        → changeStep v until (changeAt (now (list .entry)) i) w ≡ refused k → RanBy book pool work list taker v until r
+    unfolding RanBy
+    run-refused (Next t′) k h e s = absurd (let z : _≡_ {A = ℕ} 0 1 = cc in omega arith)
+    run-refused (Stop m) k h e s = let q : m ≡ k = cc e in rw q (l ∙ run-stop v until (now (list .entry)) i w k h s)
 
-  pub run-done : i ≡ changeCount list → Holds b → Standing x (bookOf b) by t i i
-      → runChanges v until (changes list) (workOf x pool list (bookOf b₀) by₀ (record { taken = 0; touched = 0 }))
-      ≡ runChanges v until (drop i (changes list)) (workOf x pool list (bookOf b) by t)
-      → RanBy x pool list v until b₀ by₀ (Next t) b by
-  unfolding RanBy
-  run-done e h s l = (l ∙ run-end v until list i (workOf x pool list (bookOf b) by t) (omega arith), h, rw e at s)
+    pub run-done : (t : Tally) → w ≡ workTo book pool work list taker t → i ≡ changeCount (now (list .entry)) → Holds (now (work .exit))
+        → Standing (told (book .entry)) (told (work .exit)) (now (taker .exit)) t i i → RanBy book pool work list taker v until (Next t)
+    unfolding RanBy
+    run-done t same e h s =
+        (l ∙ run-end v until (now (list .entry)) i w (omega arith) ∙ ap (λ (w : Work). accepted w) same, h, rw e at s)

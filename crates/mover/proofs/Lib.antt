@@ -1,7 +1,2 @@
-pub mod SearchLaws
-pub mod Finding
-pub mod Indexing
-pub mod PoolLaws
 pub mod MoveLaws
-pub mod PlaceLaws
 pub mod ChangeLaws

@@ -8,30 +8,26 @@ use native.Mathlib.Numerals.{add-one}
 use native.Mathlib.Omega.{arith}
 use lib.Dec.{eqb}
 use lib.ListN.{length, getD, set}
+use denote.Ref.{now}
 use lib.Seq.{getD-set-same}
 use borrow.Author.Tests.{eq-eqb, ne-eqb, not-true, not-false}
 use Rattle.words.specs.Blocks.{unmapped}
 use Rattle.words.specs.Choice.{if_then_else_}
+use Rattle.words.specs.Lent.{Lent}
 use Rattle.words.specs.Lists.{all}
 use Rattle.words.specs.Outcome.{refused, accepted}
 use Rattle.words.proofs.Places.{all-getD}
 use Rattle.book.specs.Book.{Entry, Book, freeEntry, entryAt, cellAt}
 use Rattle.book.proofs.Conditions.{pbn-cases}
+use Rattle.book.proofs.Holding.{is-then, is-same}
 use Rattle.book.specs.Form.{pbnOk}
 use Rattle.book.specs.Layout.{bookOf, Holds, Is}
 use Rattle.book.specs.Next.{withEntries, withEntry, withCell, withRecord, countAs, expiryAs}
 use Rattle.model.proofs.form.Bounds.{unmapped-ok}
 use Rattle.model.specs.Backup.{lowered, lower, raised, nameBlock, moveNumber, moved, moveTo}
-use Rattle.mover.specs.Working.{workAt}
+use Rattle.placer.specs.Working.{workAt}
 use Rattle.mover.specs.Stepping.{LoweredBy}
-use Rattle.mover.specs.declared.placing.Tally.{Tally}
-
--- one writer after another
-pub is-then : (g : Book → Book) {b₁ b₂ : List ℕ} {x : Book} → Is b₁ x → Is b₂ (g (bookOf b₁)) → Is b₂ (g x)
-is-then g i j = record { holds = j .holds; book = j .book ∙ ap g (i .book) }
-
-pub is-same : {b : List ℕ} {x y : Book} → x ≡ y → Is b x → Is b y
-is-same e i = record { holds = i .holds; book = i .book ∙ e }
+use Rattle.placer.specs.declared.placing.Tally.{Tally}
 
 set-twice : {A : Type 0} (xs : List A) (p : ℕ) (y z : A) → set (set xs p y) p z ≡ set xs p z
 set-twice [] p y z = refl
@@ -40,21 +36,25 @@ set-twice {A} (x ∷ xs) (suc p) y z = ap (λ (r : List A). x ∷ r) (set-twice 
 
 -- ---- step 3
 
-module _ (until before : ℕ) (b : List ℕ) where
-  pub lower-none : before ≡ unmapped → Holds b → LoweredBy until before b true b
+module _ (work : Lent (List ℕ)) (before until : ℕ) where
+  abbrev b : List ℕ
+  b = now (work .entry)
+
+  pub lower-none : now (work .exit) ≡ b → before ≡ unmapped → Holds b → LoweredBy work before until true
   unfolding lower withEntries
-  lower-none e h = record {
+  lower-none same e h = record {
     goes = rw (eq-eqb before unmapped e);
-    book = λ _. record { holds = h; book = rw (eq-eqb before unmapped e) };
+    book = λ _. rw same (record { holds = h; book = rw (eq-eqb before unmapped e) });
   }
 
-  pub lower-zero : (b′ : List ℕ) → (before ≡ unmapped → ⊥) → entryAt (bookOf b .entries) before .count ≡ 0 → LoweredBy until before b false b′
-  lower-zero b′ e z = record {
+  pub lower-zero : (before ≡ unmapped → ⊥) → entryAt (bookOf b .entries) before .count ≡ 0 → LoweredBy work before until false
+  lower-zero e z = record {
     goes = rw (ne-eqb before unmapped e, eq-eqb (entryAt (bookOf b .entries) before .count) 0 z);
     book = λ f. absurd (let z : _≡_ {A = ℕ} 0 1 = cc in omega arith);
   }
 
-  module _ (e : before ≡ unmapped → ⊥) (z : entryAt (bookOf b .entries) before .count ≡ 0 → ⊥) (h : before < length (bookOf b .entries)) (b₁ : List ℕ)
+  module _ (e : before ≡ unmapped → ⊥) (z : entryAt (bookOf b .entries) before .count ≡ 0 → ⊥)
+      (h : before < length (bookOf b .entries)) (b₁ : List ℕ)
       (i : Is b₁ (withEntry (countAs (entryAt (bookOf b .entries) before .count - 1)) before (bookOf b))) where
     abbrev es : List Entry
     es = bookOf b .entries
@@ -69,7 +69,8 @@ module _ (until before : ℕ) (b : List ℕ) where
     goes-on = rw (ne-eqb before unmapped e, ne-eqb (entryAt (bookOf b .entries) before .count) 0 z)
 
     -- the entry between the two writers
-    pub entry-down : entryAt (bookOf b₁ .entries) before ≡ countAs (entryAt (bookOf b .entries) before .count - 1) (entryAt (bookOf b .entries) before)
+    pub entry-down : entryAt (bookOf b₁ .entries) before
+        ≡ countAs (entryAt (bookOf b .entries) before .count - 1) (entryAt (bookOf b .entries) before)
     unfolding withEntries
     entry-down = ap (λ (x : Book). entryAt (x .entries) before) (i .book) ∙ getD-set-same es before down freeEntry h
 
@@ -77,16 +78,19 @@ module _ (until before : ℕ) (b : List ℕ) where
     unfolding countAs
     expiry-down = ap (λ (x : Entry). x .expiry) entry-down
 
-    pub lower-late : until ≤ entryAt (bookOf b₁ .entries) before .expiry → LoweredBy until before b true b₁
+    pub lower-late : now (work .exit) ≡ b₁ → until ≤ entryAt (bookOf b₁ .entries) before .expiry → LoweredBy work before until true
     unfolding lower lowered countAs expiryAs
-    lower-late k = record {
+    lower-late same k = record {
       goes = goes-on;
-      book = λ _. is-same (let m : max (own .expiry) until ≡ own .expiry = omega (arith, expiry-down) in rw (ne-eqb before unmapped e, m)) i;
+      book =
+          λ _. rw same (is-same (let m : max (own .expiry) until ≡ own .expiry = omega (arith, expiry-down)
+          in rw (ne-eqb before unmapped e, m)) i);
     }
 
-    pub lower-early : (b₂ : List ℕ) → entryAt (bookOf b₁ .entries) before .expiry < until → Is b₂ (withEntry (expiryAs until) before (bookOf b₁)) → LoweredBy until before b true b₂
+    pub lower-early : entryAt (bookOf b₁ .entries) before .expiry < until
+        → Is (now (work .exit)) (withEntry (expiryAs until) before (bookOf b₁)) → LoweredBy work before until true
     unfolding lower lowered withEntries
-    lower-early b₂ k j = record {
+    lower-early k j = record {
       goes = goes-on;
       book = λ _.
           is-same (let m : max (own .expiry) until ≡ until = omega (arith, expiry-down) in
@@ -96,7 +100,8 @@ module _ (until before : ℕ) (b : List ℕ) where
 
 -- ---- step 4
 
-pub named : (v lbn p count before : ℕ) (b b₁ b₂ b₃ : List ℕ) → count ≡ entryAt (bookOf b .entries) p .count → before ≡ cellAt (bookOf b .maps) v lbn
+pub named : (v lbn p count before : ℕ) (b b₁ b₂ b₃ : List ℕ) → count ≡ entryAt (bookOf b .entries) p .count
+    → before ≡ cellAt (bookOf b .maps) v lbn
     → Is b₁ (withEntry (countAs (count + 1)) p (bookOf b)) → Is b₂ (withCell v lbn p (bookOf b₁))
     → Is b₃ (withRecord (record { lbn = lbn; before = before; after = p }) (bookOf b₂))
     → Is b₃ (nameBlock v lbn p (bookOf b .entries) (bookOf b))
@@ -116,12 +121,17 @@ module _ (v until lbn p : ℕ) (x : Book) (pool : List ℕ) (t : Tally) where
   unfolding moveTo moveNumber
   move-zero e = rw (not-false (not (eqb before unmapped) && eqb (entryAt (x .entries) before .count) 0) e)
 
-  module _ (e : not (not (eqb (cellAt (x .maps) v lbn) unmapped) && eqb (entryAt (x .entries) (cellAt (x .maps) v lbn) .count) 0) ≡ true) where
+  module _ (e : not (not (eqb (cellAt (x .maps) v lbn) unmapped)
+      && eqb (entryAt (x .entries) (cellAt (x .maps) v lbn) .count) 0) ≡ true) where
     pub move-full : entryAt (lower until (cellAt (x .maps) v lbn) (x .entries)) p .count ≡ 255
         → moveTo v until lbn (cellAt (x .maps) v lbn) (record { pbn = p; work = workAt x pool t }) ≡ refused 14
     unfolding moveTo moveNumber
     move-full f =
-        rw (not-true (not (eqb before unmapped) && eqb (entryAt (x .entries) before .count) 0) e, eq-eqb (entryAt (lower until before (x .entries)) p .count) 255 f)
+        rw (
+          not-true (not (eqb before unmapped) && eqb (entryAt (x .entries) before .count) 0) e,
+          eq-eqb
+              (entryAt (lower until before (x .entries)) p .count) 255 f,
+        )
 
     pub move-goes : (entryAt (lower until (cellAt (x .maps) v lbn) (x .entries)) p .count ≡ 255 → ⊥) → (y : Book) (t′ : Tally)
         → y ≡ nameBlock v lbn p (lower until (cellAt (x .maps) v lbn) (x .entries)) x
@@ -129,10 +139,18 @@ module _ (v until lbn p : ℕ) (x : Book) (pool : List ℕ) (t : Tally) where
         → moveTo v until lbn (cellAt (x .maps) v lbn) (record { pbn = p; work = workAt x pool t }) ≡ accepted (workAt y pool t′)
     unfolding moveTo moveNumber moved
     move-goes f y t′ g k l =
-        rw (not-true (not (eqb before unmapped) && eqb (entryAt (x .entries) before .count) 0) e, ne-eqb (entryAt (lower until before (x .entries)) p .count) 255 f, g, k, l)
+        rw (
+          not-true (not (eqb before unmapped) && eqb (entryAt (x .entries) before .count) 0) e,
+          ne-eqb
+              (entryAt (lower until before (x .entries)) p .count) 255 f,
+          g,
+          k,
+          l,
+        )
 
 -- naming a block in the lowered book
-pub name-lowered : (v lbn p : ℕ) (es : List Entry) (x : Book) → nameBlock v lbn p (withEntries es x .entries) (withEntries es x) ≡ nameBlock v lbn p es x
+pub name-lowered : (v lbn p : ℕ) (es : List Entry) (x : Book)
+    → nameBlock v lbn p (withEntries es x .entries) (withEntries es x) ≡ nameBlock v lbn p es x
 unfolding nameBlock withEntries
 name-lowered v lbn p es x = refl
 

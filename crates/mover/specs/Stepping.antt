@@ -1,78 +1,74 @@
--- What the steps of a change answer and leave, each by the model's step.
-use Prim.Native.Nat.{ℕ, suc, _+_, _<_, _%_}
+-- What steps 3 and 4, a change and all changes answer and leave, by the model's steps.
+use Prim.Native.Nat.{ℕ, _+_}
 use mathlib.Core.Path.{_≡_}
 use mathlib.Core.Bool.{Bool, true, not, _&&_}
 use mathlib.Core.List.{List}
 use lib.Dec.{eqb}
+use denote.Ref.{now}
 use Rattle.words.specs.Blocks.{unmapped}
-use Rattle.words.specs.Outcome.{refused, accepted}
-use Rattle.list.specs.Changes.{changeCount, changeAt, changes}
+use Rattle.words.specs.Lent.{Lent}
+use Rattle.words.specs.Outcome.{Outcome, refused, accepted}
+use Rattle.runs.specs.Changes.{changeCount, changeAt, changes}
 use Rattle.book.specs.Book.{Book, entryAt, cellAt}
-use Rattle.book.specs.Layout.{bookOf, Holds, Is}
-use Rattle.book.specs.Next.{withCursor, withEntries, withEntry, heldAs}
-use Rattle.model.specs.Backup.{place, lower, moveTo, changeStep, runChanges}
-use Rattle.index.specs.Indexed.{Indexed}
-use Rattle.mover.specs.Working.{workAt, workOf, Standing}
-use Rattle.mover.specs.declared.placing.Tally.{Tally}
-use Rattle.mover.specs.declared.placing.Placed.{Placed}
-use Rattle.mover.specs.declared.placing.Placed.the-variants.{At, Refused}
+use Rattle.book.specs.Layout.{told, Holds, Is}
+use Rattle.book.specs.Next.{withEntries}
+use Rattle.model.specs.Backup.{Work, lower, moveTo, changeStep, runChanges}
+use Rattle.finder.specs.Indexed.{Indexed}
+use Rattle.placer.specs.Placing.{workFrom, workTo}
+use Rattle.placer.specs.Working.{workAt, Standing}
+use Rattle.placer.specs.declared.placing.Tally.{Tally}
 use Rattle.mover.specs.declared.moving.Step.{Step}
 use Rattle.mover.specs.declared.moving.Step.the-variants.{Next, Stop}
 
--- the book with block p held with fingerprint f, and the cursor past it
-abbrev pub takenBook : List ℕ → ℕ → Book → Book
-takenBook f p x = withCursor (suc p % x .sizes .n) (withEntry (heldAs f) p x)
+-- step 3 on the working copy: whether it goes, and what it leaves where it does
+pub record LoweredBy (work : Lent (List ℕ)) (before until : ℕ) (r : Bool) : Type 0 where
+  pub goes : r ≡ not (not (eqb before unmapped) && eqb (entryAt (told (work .entry) .entries) before .count) 0)
+  pub book : r ≡ true
+      → Is (now (work .exit)) (withEntries (lower until before (told (work .entry) .entries)) (told (work .entry)))
 
--- steps 1 and 2 of change i: from the working copy b and the marks `by` to b′ and `by′`
-unfoldable pub PlacedBy : Book → List ℕ → List ℕ → ℕ → List ℕ → List ℕ → Tally → Placed → List ℕ → List ℕ → Type 0
-PlacedBy x pool list i b by t (At p t′) b′ by′ =
-    (place (changeAt list i) (workOf x pool list (bookOf b) by t) ≡ accepted (record { pbn = p .0; work = workOf x pool list (bookOf b′) by′ t′ }))
-    × (bookOf b′ .maps ≡ bookOf b .maps)
-    × (p .0 < x .sizes .n)
-    × Holds b′
-    × Standing x (bookOf b′) by′ t′ (i + 1) i
-PlacedBy x pool list i b by t (Refused k) b′ by′ = place (changeAt list i) (workOf x pool list (bookOf b) by t) ≡ refused k
-
--- step 3 on the working copy b: whether it goes, and what it leaves where it does
-pub record LoweredBy (until before : ℕ) (b : List ℕ) (r : Bool) (b′ : List ℕ) : Type 0 where
-  pub goes : r ≡ not (not (eqb before unmapped) && eqb (entryAt (bookOf b .entries) before .count) 0)
-  pub book : r ≡ true → Is b′ (withEntries (lower until before (bookOf b .entries)) (bookOf b))
+-- the model's steps 3 and 4: volume v's cell at an LBN of book x goes to block p
+abbrev pub moveOf : Book → (v lbn p until : ℕ) → List ℕ → Tally → Outcome Work
+moveOf x v lbn p until pool t =
+    moveTo v until lbn (cellAt (x .maps) v lbn) (record { pbn = p; work = workAt x pool t })
 
 -- steps 3 and 4, whatever the pool
-unfoldable pub MovedBy : ℕ → ℕ → ℕ → ℕ → List ℕ → Tally → Step → List ℕ → Type 0
-MovedBy v until lbn p b t (Next t′) b′ =
-    ((pool : List ℕ) → moveTo v until lbn (cellAt (bookOf b .maps) v lbn) (record { pbn = p; work = workAt (bookOf b) pool t }) ≡ accepted (workAt (bookOf b′) pool t′))
-    × Holds b′
-MovedBy v until lbn p b t (Stop k) b′ =
-    (pool : List ℕ) → moveTo v until lbn (cellAt (bookOf b .maps) v lbn) (record { pbn = p; work = workAt (bookOf b) pool t }) ≡ refused k
+unfoldable pub MovedBy : Lent (List ℕ) → (v lbn p until : ℕ) → Tally → Step → Type 0
+MovedBy work v lbn p until t (Next t′) =
+    ((pool : List ℕ) → moveOf (told (work .entry)) v lbn p until pool t ≡ accepted (workAt (told (work .exit)) pool t′))
+    × Holds (now (work .exit))
+MovedBy work v lbn p until t (Stop k) = (pool : List ℕ) → moveOf (told (work .entry)) v lbn p until pool t ≡ refused k
 
 -- change i
-unfoldable pub SteppedBy : Book → List ℕ → List ℕ → ℕ → ℕ → ℕ → List ℕ → List ℕ → Tally → Step → List ℕ → List ℕ → Type 0
-SteppedBy x pool list v until i b by t (Next t′) b′ by′ =
-    (changeStep v until (changeAt list i) (workOf x pool list (bookOf b) by t) ≡ accepted (workOf x pool list (bookOf b′) by′ t′))
-    × Holds b′
-    × Standing x (bookOf b′) by′ t′ (i + 1) (i + 1)
-SteppedBy x pool list v until i b by t (Stop k) b′ by′ = changeStep v until (changeAt list i) (workOf x pool list (bookOf b) by t) ≡ refused k
+unfoldable pub SteppedBy : (book pool work list taker : Lent (List ℕ)) → (v until i : ℕ) → Tally → Step → Type 0
+SteppedBy book pool work list taker v until i t (Next t′) =
+    (changeStep v until (changeAt (now (list .entry)) i) (workFrom book pool work list taker t)
+    ≡ accepted (workTo book pool work list taker t′))
+    × Holds (now (work .exit))
+    × Standing (told (book .entry)) (told (work .exit)) (now (taker .exit)) t′ (i + 1) (i + 1)
+SteppedBy book pool work list taker v until i t (Stop k) =
+    changeStep v until (changeAt (now (list .entry)) i) (workFrom book pool work list taker t) ≡ refused k
 
--- the tables still index the working copy b, unless the change was refused
-unfoldable pub StillIndexed : Step → List ℕ → List ℕ → List ℕ → Type 0
-StillIndexed (Next t) b heads nexts = Indexed (bookOf b .entries) heads nexts
-StillIndexed (Stop k) b heads nexts = Unit {0}
+-- the tables still index the working copy, unless the change was refused
+unfoldable pub StillIndexed : (work heads nexts : Lent (List ℕ)) → Step → Type 0
+StillIndexed work heads nexts (Next t) = Indexed (told (work .exit) .entries) (now (heads .exit)) (now (nexts .exit))
+StillIndexed work heads nexts (Stop k) = Unit {0}
+
+-- nothing is counted yet
+abbrev pub noTally : Tally
+noTally = record { taken = 0; touched = 0 }
 
 -- all changes
-unfoldable pub RanBy : Book → List ℕ → List ℕ → ℕ → ℕ → List ℕ → List ℕ → Step → List ℕ → List ℕ → Type 0
-RanBy x pool list v until b by (Next t′) b′ by′ =
-    (runChanges v until (changes list) (workOf x pool list (bookOf b) by (record { taken = 0; touched = 0 })) ≡ accepted (workOf x pool list (bookOf b′) by′ t′))
-    × Holds b′
-    × Standing x (bookOf b′) by′ t′ (changeCount list) (changeCount list)
-RanBy x pool list v until b by (Stop k) b′ by′ =
-    runChanges v until (changes list) (workOf x pool list (bookOf b) by (record { taken = 0; touched = 0 })) ≡ refused k
+unfoldable pub RanBy : (book pool work list taker : Lent (List ℕ)) → (v until : ℕ) → Step → Type 0
+RanBy book pool work list taker v until (Next t′) =
+    (runChanges v until (changes (now (list .entry))) (workFrom book pool work list taker noTally)
+    ≡ accepted (workTo book pool work list taker t′))
+    × Holds (now (work .exit))
+    × Standing (told (book .entry)) (told (work .exit)) (now (taker .exit)) t′
+    (changeCount (now (list .entry))) (changeCount (now (list .entry)))
+RanBy book pool work list taker v until (Stop k) =
+    runChanges v until (changes (now (list .entry))) (workFrom book pool work list taker noTally) ≡ refused k
 
 -- document 01's number of an answer
-abbrev pub placedNumber : Placed → ℕ
-placedNumber (At p t) = 0
-placedNumber (Refused k) = k
-
 abbrev pub stepNumber : Step → ℕ
 stepNumber (Next t) = 0
 stepNumber (Stop k) = k

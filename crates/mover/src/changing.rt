@@ -1,28 +1,31 @@
 // The changes of a list, one after another, on the working copy of the book.
 ghost use mathlib.Core.Path.{_≡_};
 ghost use Prim.Native.Nat.{_<_};
-ghost use Rattle.list.specs.Changes.{changeAt};
+ghost use Rattle.runs.specs.Changes.{changeAt};
 ghost use Rattle.book.specs.Book.{volumes};
-ghost use Rattle.book.specs.Layout.{bookOf, Holds};
-ghost use Rattle.index.specs.Indexed.{Indexed};
-ghost use Rattle.mover.specs.Working.{Job, Standing};
-ghost use Rattle.mover.specs.Stepping.{placedNumber, SteppedBy, StillIndexed, RanBy};
+ghost use Rattle.book.specs.Layout.{told, Holds};
+ghost use Rattle.finder.specs.Indexed.{Indexed};
+ghost use Rattle.placer.specs.Working.{Job, Standing};
+ghost use Rattle.mover.specs.Stepping.{noTally, SteppedBy, StillIndexed, RanBy};
+ghost use Rattle.placer.specs.Placing.{placedNumber};
 use super::moving::Step;
 use super::moving::move_to;
-use super::placing::Placed;
-use super::placing::Tally;
-use super::placing::place;
 use index::build;
 use list::Shape;
+use placer::placing::Placement;
+use placer::placing::Tally;
+use placer::placing::place;
 use words::LBN;
+use words::limits::MAX_BLOCKS;
+use words::limits::Table;
 
 // The number of a change that isn't placed.
-fn placed_number(placed: Placed) -> u16
+fn placed_number(placed: Placement) -> u16
     ensures { λ r. ⌜ r ≡ placedNumber placed ⌝ }
 {
     match placed {
-        Placed::At(_, _) => 0,
-        Placed::Refused(k) => k,
+        Placement::At(_, _) => 0,
+        Placement::Refused(k) => k,
     }
 }
 
@@ -33,9 +36,9 @@ fn change(
     work: &mut [u8],
     list: &[u8],
     shape: Shape,
-    by: &mut [u16; 4096],
-    heads: &mut [u16; 4096],
-    nexts: &mut [u16; 4096],
+    taker: &mut Table,
+    heads: &mut Table,
+    nexts: &mut Table,
     v: u16,
     until: u16,
     i: usize,
@@ -43,15 +46,15 @@ fn change(
     t: Tally,
 ) -> Step
     requires { ⌜ Holds (now book) × Holds (now work) ⌝ }
-    requires { ⌜ Job (bookOf (now book)) (now pool) (now list) shape × (i < shape .changes) × (v < volumes) ⌝ }
-    requires { ⌜ Standing (bookOf (now book)) (bookOf (now work)) (now by) t i i ⌝ }
+    requires { ⌜ Job (told book) (now pool) (now list) shape × (i < shape .changes) × (v < volumes) ⌝ }
+    requires { ⌜ Standing (told book) (told work) (now taker) t i i ⌝ }
     requires { ⌜ lbn .0 ≡ changeAt (now list) i .lbn ⌝ }
-    requires { ⌜ Indexed (bookOf (now work) .entries) (now heads) (now nexts) ⌝ }
-    ensures { λ r. ⌜ SteppedBy (bookOf (now (book .entry))) (now (pool .entry)) (now (list .entry)) v until i (now (work .entry)) (now (by .entry)) t r (now (work .exit)) (now (by .exit)) ⌝ }
-    ensures { λ r. ⌜ StillIndexed r (now (work .exit)) (now (heads .exit)) (now (nexts .exit)) ⌝ }
+    requires { ⌜ Indexed (told work .entries) (now heads) (now nexts) ⌝ }
+    ensures { λ r. ⌜ SteppedBy book pool work list taker v until i t r ⌝ }
+    ensures { λ r. ⌜ StillIndexed work heads nexts r ⌝ }
 {
-    let placed = place(book, pool, work, list, shape, by, heads, nexts, i, t);
-    let Placed::At(p, u) = placed else {
+    let placed = place(book, pool, work, list, shape, taker, heads, nexts, i, t);
+    let Placement::At(p, u) = placed else {
         return Step::Stop(placed_number(placed));
     };
     move_to(work, v, lbn, p, until, u)
@@ -64,17 +67,17 @@ pub fn run_changes(
     work: &mut [u8],
     list: &[u8],
     shape: Shape,
-    by: &mut [u16; 4096],
+    taker: &mut Table,
     v: u16,
     until: u16,
 ) -> Step
     requires { ⌜ Holds (now book) × Holds (now work) ⌝ }
-    requires { ⌜ Job (bookOf (now book)) (now pool) (now list) shape × (v < volumes) ⌝ }
-    requires { ⌜ Standing (bookOf (now book)) (bookOf (now work)) (now by) (record { taken = 0; touched = 0 }) 0 0 ⌝ }
-    ensures { λ r. ⌜ RanBy (bookOf (now (book .entry))) (now (pool .entry)) (now (list .entry)) v until (now (work .entry)) (now (by .entry)) r (now (work .exit)) (now (by .exit)) ⌝ }
+    requires { ⌜ Job (told book) (now pool) (now list) shape × (v < volumes) ⌝ }
+    requires { ⌜ Standing (told book) (told work) (now taker) noTally 0 0 ⌝ }
+    ensures { λ r. ⌜ RanBy book pool work list taker v until r ⌝ }
 {
-    let mut heads = [0u16; 4096];
-    let mut nexts = [0u16; 4096];
+    let mut heads = [0u16; MAX_BLOCKS];
+    let mut nexts = [0u16; MAX_BLOCKS];
     build(work, &mut heads, &mut nexts);
     let mut t = Tally {
         taken: 0,
@@ -90,7 +93,7 @@ pub fn run_changes(
             work,
             list,
             shape,
-            by,
+            taker,
             &mut heads,
             &mut nexts,
             v,

@@ -10,16 +10,21 @@ ghost use Rattle.words.specs.Choice.{if_then_else_};
 ghost use Rattle.words.specs.Lists.{all};
 ghost use Rattle.book.specs.Book.{volumes, entryAt, cellAt};
 ghost use Rattle.book.specs.Form.{pbnOk};
-ghost use Rattle.book.specs.Layout.{bookOf, Holds, Is};
+ghost use Rattle.book.specs.Layout.{told, Holds, Is};
 ghost use Rattle.model.specs.Backup.{nameBlock};
 ghost use Rattle.mover.specs.Stepping.{LoweredBy, MovedBy};
-use super::placing::Tally;
-use book::entry;
-use book::map;
-use book::record;
+use entries::entry;
+use fields::map;
+use journal::record;
+use placer::placing::Tally;
 use words::LBN;
 use words::PBN;
 use words::UNMAPPED;
+use words::limits::MAX_COUNT;
+use words::refusals;
+
+// A count that can't rise.
+const FULL: u8 = MAX_COUNT as u8;
 
 // What a change answers: what is counted after it, or the number of its refusal.
 pub enum Step {
@@ -37,8 +42,8 @@ fn touches(before: PBN) -> u16
 // The before's count falls by 1, and it is kept until this day at least. Not where its count is 0.
 fn lower(work: &mut [u8], before: PBN, until: u16) -> bool
     requires { ⌜ Holds (now work) ⌝ }
-    requires { ⌜ (before .0 < bookOf (now work) .sizes .n) ⊎ (before .0 ≡ unmapped) ⌝ }
-    ensures { λ r. ⌜ LoweredBy until (before .0) (now (work .entry)) r (now (work .exit)) ⌝ }
+    requires { ⌜ (before .0 < told work .sizes .n) ⊎ (before .0 ≡ unmapped) ⌝ }
+    ensures { λ r. ⌜ LoweredBy work (before .0) until r ⌝ }
 {
     if before.0 == UNMAPPED {
         return true;
@@ -57,10 +62,12 @@ fn lower(work: &mut [u8], before: PBN, until: u16) -> bool
 // The block's count rises by 1, the map names it, a record is added.
 fn name_block(work: &mut [u8], v: u16, lbn: LBN, before: PBN, p: PBN, count: u8)
     requires { ⌜ Holds (now work) ⌝ }
-    requires { ⌜ (v < volumes) × (lbn .0 < bookOf (now work) .sizes .l) × (p .0 < bookOf (now work) .sizes .n) ⌝ }
-    requires { ⌜ (length (bookOf (now work) .records) < bookOf (now work) .sizes .j) × (before .0 ≡ cellAt (bookOf (now work) .maps) v (lbn .0)) ⌝ }
-    requires { ⌜ (count ≡ entryAt (bookOf (now work) .entries) (p .0) .count) × (count < 255) ⌝ }
-    ensures { λ _. ⌜ Is (now (work .exit)) (nameBlock v (lbn .0) (p .0) (bookOf (now (work .entry)) .entries) (bookOf (now (work .entry)))) ⌝ }
+    requires { ⌜ (v < volumes) × (lbn .0 < told work .sizes .l) × (p .0 < told work .sizes .n) ⌝ }
+    requires { ⌜ (length (told work .records) < told work .sizes .j)
+        × (before .0 ≡ cellAt (told work .maps) v (lbn .0)) ⌝ }
+    requires { ⌜ (count ≡ entryAt (told work .entries) (p .0) .count) × (count < 255) ⌝ }
+    ensures { λ _. ⌜ Is (now (work .exit))
+        (nameBlock v (lbn .0) (p .0) (told (work .entry) .entries) (told (work .entry))) ⌝ }
 {
     entry::set_count(work, p, count + 1);
     map::set_cell(work, v, lbn, p);
@@ -70,18 +77,18 @@ fn name_block(work: &mut [u8], v: u16, lbn: LBN, before: PBN, p: PBN, count: u8)
 // Volume v's cell at an LBN goes to block p.
 pub fn move_to(work: &mut [u8], v: u16, lbn: LBN, p: PBN, until: u16, t: Tally) -> Step
     requires { ⌜ Holds (now work) ⌝ }
-    requires { ⌜ (v < volumes) × (lbn .0 < bookOf (now work) .sizes .l) × (p .0 < bookOf (now work) .sizes .n) ⌝ }
-    requires { ⌜ (length (bookOf (now work) .records) < bookOf (now work) .sizes .j) × (t .touched < 65000) ⌝ }
-    requires { ⌜ all (all (pbnOk (bookOf (now work) .sizes .n))) (bookOf (now work) .maps) ≡ true ⌝ }
-    ensures { λ r. ⌜ MovedBy v until (lbn .0) (p .0) (now (work .entry)) t r (now (work .exit)) ⌝ }
+    requires { ⌜ (v < volumes) × (lbn .0 < told work .sizes .l) × (p .0 < told work .sizes .n) ⌝ }
+    requires { ⌜ (length (told work .records) < told work .sizes .j) × (t .touched < 65000) ⌝ }
+    requires { ⌜ all (all (pbnOk (told work .sizes .n))) (told work .maps) ≡ true ⌝ }
+    ensures { λ r. ⌜ MovedBy work v (lbn .0) (p .0) until t r ⌝ }
 {
     let before = map::cell(work, v, lbn);
     if !lower(work, before, until) {
-        return Step::Stop(13);
+        return Step::Stop(refusals::COUNT_ZERO);
     }
     let count = entry::count(work, p);
-    if count == 255 {
-        return Step::Stop(14);
+    if count == FULL {
+        return Step::Stop(refusals::COUNT_FULL);
     }
     name_block(work, v, lbn, before, p, count);
     let taken = t.taken;

@@ -20,7 +20,8 @@ digits-enough (suc j) zero n h g = absurd (omega arith)
 digits-enough (suc j) (suc k) n h g = go (ltb n 10) refl (λ e. digits-enough j k (n / 10) (omega arith) (omega arith))
   where
     go : (t : Bool) → ltb n 10 ≡ t → (10 ≤ n → digits j (n / 10) ≡ digits k (n / 10))
-        → (if t then (48 + n) ∷ [] else digits j (n / 10) ++ (48 + n % 10) ∷ []) ≡ (if t then (48 + n) ∷ [] else digits k (n / 10) ++ (48 + n % 10) ∷ [])
+        → (if t then (48 + n) ∷ [] else digits j (n / 10) ++ (48 + n % 10) ∷ [])
+        ≡ (if t then (48 + n) ∷ [] else digits k (n / 10) ++ (48 + n % 10) ∷ [])
     go true e ih = refl
     go false e ih = ap (λ (l : List ℕ). l ++ (48 + n % 10) ∷ []) (ih (ltb-false n 10 e))
 
@@ -83,5 +84,8 @@ decimal-first =
     by-digits (λ n. (0 < length (decimal n)) × (0 < n → 48 < getD (decimal n) 0 0))
     (λ n h. rw (decimal-one n h) (omega arith, λ p. omega arith))
     (λ n h ih.
-    let l : 0 < length (decimal (n / 10)) = ih .0 in
-    (omega (arith, count-more n h), λ p. rw (decimal-more n h, List·getD-append (decimal (n / 10)) ((48 + n % 10) ∷ []) 0 0 l) (ih .1 (omega arith))))
+    let l : 0 < length (decimal (n / 10)) = ih .0 in (
+      omega (arith, count-more n h),
+      λ p. rw
+          (decimal-more n h, List·getD-append (decimal (n / 10)) ((48 + n % 10) ∷ []) 0 0 l) (ih .1 (omega arith)),
+    ))

@@ -8,7 +8,7 @@ use lib.Seq.{sets}
 use Rattle.words.specs.Laying.{Stored}
 use Rattle.pages.specs.Tally.{decimal, line}
 use Rattle.pages.proofs.Decimal.{decimal-length}
-use Rattle.words.proofs.Stored.{stored-one, stored-append}
+use Rattle.words.proofs.SectionsLaid.{stored-one, stored-append}
 
 pub line-length : (word : List ℕ) (n : ℕ) → length (line word n) ≡ length word + (length (decimal n) + 2)
 unfolding line

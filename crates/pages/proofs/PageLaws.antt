@@ -15,12 +15,14 @@ use Rattle.words.proofs.Runs.{below-or-not}
 use Rattle.book.specs.Layout.{bookOf, Holds}
 use Rattle.book.specs.Form.{formNumber}
 use Rattle.book.proofs.FormNumber.{form-cases}
-use Rattle.book.proofs.InForm.{holds-form}
-use Rattle.pages.specs.Tally.{tallyNumber, blocks, line, blocksWord, heldWord, freeWord, waitingWord, referencesWord, refusedWord, bookPage, tallyPage}
-use Rattle.words.proofs.Stored.{stored-front}
+use Rattle.book.proofs.FormBytes.{holds-form}
+use Rattle.pages.specs.Tally.{tallyNumber, line, blocksWord, heldWord, freeWord, waitingWord, referencesWord, refusedWord}
+use Rattle.counter.specs.Sums.{blocks}
+use Rattle.pages.specs.Tally.{bookPage, tallyPage}
+use Rattle.words.proofs.SectionsLaid.{stored-front}
 use Rattle.pages.proofs.Lines.{line-fits}
-use Rattle.pages.specs.Counts.{countsOf, Few}
-use Rattle.pages.specs.declared.counts.Counts.{Counts}
+use Rattle.counter.specs.Counts.{countsOf, Few}
+use Rattle.counter.specs.declared.counts.Counts.{Counts}
 use Rattle.pages.specs.Pages.{countsPage}
 
 module _ (b : List ℕ) where
@@ -47,7 +49,8 @@ module _ (b : List ℕ) where
   unfolding tallyPage
   refused-page e h = rw (e, ne-eqb (tallyNumber b) 0 (λ z. h (e ∙ z)))
 
-pub counted-page : (b : List ℕ) {n : ℕ} {t : Counts} → tallyNumber b ≡ 0 → n ≡ bookOf b .sizes .n → t ≡ countsOf (bookOf b .entries) → countsPage n t ≡ tallyPage b
+pub counted-page : (b : List ℕ) {n : ℕ} {t : Counts} → tallyNumber b ≡ 0 → n ≡ bookOf b .sizes .n
+    → t ≡ countsOf (bookOf b .entries) → countsPage n t ≡ tallyPage b
 unfolding countsPage countsOf blocks bookPage tallyPage
 counted-page b z e u = rw (e, u, eq-eqb (tallyNumber b) 0 z)
 
@@ -72,7 +75,8 @@ counts-fit n t h f =
 
 -- ---- what tally ensures, from what was stored at the front of 64 bytes
 
-pub written : {out section out′ wanted : List ℕ} {r : ℕ} → length out ≡ 64 → length section ≤ 64 → section ≡ wanted → Stored out 0 section out′ r
+pub written : {out section out′ wanted : List ℕ} {r : ℕ} → length out ≡ 64 → length section ≤ 64 → section ≡ wanted
+    → Stored out 0 section out′ r
     → (take r out′ ≡ wanted) × ((r ≡ length wanted) × (r ≤ 64))
 written {out} {section} n h e s =
     (stored-front {out = out} (omega arith) s ∙ e, (omega (arith, s .place, ap length e), omega (arith, s .place)))

@@ -1,4 +1,2 @@
 pub mod Tally
-pub mod Counts
-pub mod Counted
 pub mod Pages

@@ -3,7 +3,7 @@ use Prim.Native.Nat.{ℕ}
 use mathlib.Core.List.{List, [], _∷_}
 use Rattle.words.specs.Lists.{joined}
 use Rattle.pages.specs.Tally.{line, blocksWord, heldWord, freeWord, waitingWord, referencesWord}
-use Rattle.pages.specs.declared.counts.Counts.{Counts}
+use Rattle.counter.specs.declared.counts.Counts.{Counts}
 
 -- the five lines, one by one and as the page that they are
 abbrev pub countLines : ℕ → Counts → List (List ℕ)

@@ -1,35 +1,18 @@
 -- What the program tally prints (document 01, "the program tally").
 use Prim.Native.Nat.{ℕ, zero, suc, _+_, _/_, _%_}
-use mathlib.Core.Bool.{_&&_}
-use mathlib.Core.List.{List, [], _∷_, _++_, map}
+use mathlib.Core.List.{List, [], _∷_, _++_}
 use lib.Dec.{ltb, eqb}
 use lib.ListN.{length}
 use Rattle.words.specs.Choice.{if_then_else_}
-use Rattle.words.specs.Lists.{countOf, joined, sum}
-use Rattle.book.specs.Book.{Entry, Book, isFree}
+use Rattle.words.specs.Lists.{joined}
+use Rattle.book.specs.Book.{Book}
 use Rattle.book.specs.Layout.{bookOf}
 use Rattle.book.specs.Form.{formNumber}
+use Rattle.counter.specs.Sums.{blocks, held, free, waiting, references}
 
 -- "given a book of at most 65,536 bytes", "`refused 1` (also for longer input) or `refused 2`": 0 where nothing refuses
 unfoldable pub tallyNumber : List ℕ → ℕ
 tallyNumber b = if ltb 65536 (length b) then 1 else formNumber b
-
--- ---- the five numbers: "blocks", "held", "free", "waiting is held with count 0", "references sums the counts"
-
-unfoldable pub blocks : Book → ℕ
-blocks x = x .sizes .n
-
-unfoldable pub held : List Entry → ℕ
-held es = countOf (λ e. e .held) es
-
-unfoldable pub free : List Entry → ℕ
-free es = countOf isFree es
-
-unfoldable pub waiting : List Entry → ℕ
-waiting es = countOf (λ e. e .held && eqb (e .count) 0) es
-
-unfoldable pub references : List Entry → ℕ
-references es = sum (map (λ e. e .count) es)
 
 -- ---- numbers and lines, in ASCII
 

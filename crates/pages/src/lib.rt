@@ -1,6 +1,4 @@
 // Pages that are written from a book.
-pub mod count;
-mod counts;
 mod line;
 
 ghost use mathlib.Core.Path.{_≡_};
@@ -9,10 +7,11 @@ ghost use lib.ListN.{length, take};
 ghost use Rattle.words.specs.Laying.{Stored};
 ghost use Rattle.pages.specs.Tally.{tallyNumber, tallyPage};
 ghost use Rattle.pages.specs.Pages.{countsPage};
-use counts::Counts;
-use counts::count_entries;
+use counter::counts::Counts;
+use counter::counts::count_entries;
 use form::form_number;
 use line::put_line;
+use words::refusals;
 
 const LONGEST: usize = 65536;
 
@@ -21,7 +20,7 @@ fn refusal(input: &[u8]) -> u32
     ensures { λ r. ⌜ r ≡ tallyNumber (now (input .entry)) ⌝ }
 {
     if input.len() > LONGEST {
-        return 1;
+        return refusals::BAD_LAYOUT as u32;
     }
     form_number(input) as u32
 }
@@ -48,6 +47,6 @@ pub fn tally(input: &[u8], page: &mut [u8; 64]) -> usize
     if number != 0 {
         return put_line(page, 0, b"refused", number);
     }
-    let n = book::header::blocks(input);
+    let n = fields::header::blocks(input);
     put_counts(page, n, count_entries(input))
 }

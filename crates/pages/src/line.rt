@@ -1,4 +1,4 @@
-// Numbers in decimal, and lines of a word and a number. As every writer of a section they answer the place past it.
+// Numbers in decimal, and lines of a word and a number. As every writer of a section they answer the offset past it.
 ghost use Prim.Native.Nat.{_+_, _≤_};
 ghost use lib.ListN.{length};
 ghost use Rattle.words.specs.Laying.{Stored};

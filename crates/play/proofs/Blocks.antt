@@ -5,17 +5,18 @@ use mathlib.Core.Bool.{Bool, true}
 use mathlib.Core.List.{List, [], _∷_}
 use mathlib.Core.Logic.{⊎-elim}
 use native.Mathlib.Omega.{arith}
-use lib.Dec.{eqb}
 use lib.ListN.{length}
+use denote.Ref.{now}
 use borrow.Author.Tests.{eq-eqb}
 use Rattle.words.specs.Blocks.{blockSize}
 use Rattle.words.proofs.ChoiceLaws.{true-and}
+use Rattle.words.specs.Lent.{Lent}
 use Rattle.words.specs.Lists.{all}
 use Rattle.words.specs.Outcome.{Outcome, refused, accepted, unless}
 use Rattle.words.proofs.Parts.{length-part}
 use Rattle.book.specs.Form.{formNumber}
-use Rattle.book.proofs.FormParts.{book-parts}
-use Rattle.book.proofs.InForm.{book-form}
+use Rattle.book.proofs.Clauses.{book-parts}
+use Rattle.book.proofs.FormBytes.{book-form}
 use Rattle.book.specs.Layout.{bookOf}
 use Rattle.model.specs.Calls.{Call, enrol, backup, collect, read, audit}
 use Rattle.model.specs.OnBytes.{BackedBytes, CollectedBytes, numberOf, after, poolNumber, enrolBytes, backupBytes, collectBytes}
@@ -53,19 +54,6 @@ module _ (b pool : List ℕ) (v k lbn : ℕ) where
       let mapped = number-mapped (bookOf b) v k lbn (r .there) in
       ⊎-elim (λ l. omega arith) (λ n. absurd (mapped n)) (image-in (bookOf b) (book-parts (bookOf b) (book-form b (r .form) .1)) v k lbn)
 
-  module _ (p p′ n : ℕ) (e : Located b pool v k lbn p n p′) (z : n ≡ 0) where
-    pub located-readable : Readable b pool v k lbn
-    unfolding readNumberBytes
-    located-readable = readable (sym (e .number) ∙ z)
-
-    pub located-place : p′ ≡ image (bookOf b) v k lbn * 512
-    unfolding readPlaceBytes
-    located-place =
-        e .answer ∙ ap (λ (j : ℕ). after (λ q. q) (unless j (accepted (image (bookOf b) v k lbn * blockSize))) p) (sym (e .number) ∙ z)
-
-    pub located-inside : p′ + 512 ≤ length pool
-    located-inside = let at = located-place in omega (arith, block-inside located-readable)
-
   pub read-is : Readable b pool v k lbn → readBytes b pool v k lbn ≡ accepted (blockAt pool (image (bookOf b) v k lbn))
   unfolding readBytes Read.read
   read-is r = rw (r .form, r .pooled, r .there)
@@ -81,6 +69,25 @@ module _ (b pool : List ℕ) (v k lbn : ℕ) where
       go zero zero (suc n) x y w = refl
       go zero (suc p) n x y w = refl
       go (suc f) p n x y w = refl
+
+-- an accepted read's answer
+module _ (book pool : Lent (List ℕ)) (v k lbn : ℕ) (p : Lent ℕ) (n : ℕ) (e : Located book pool v k lbn p n) (z : n ≡ 0) where
+  abbrev b : List ℕ
+  b = now (book .entry)
+
+  pub located-readable : Readable b (now (pool .entry)) v k lbn
+  unfolding readNumberBytes
+  located-readable = readable b (now (pool .entry)) v k lbn (sym (e .number) ∙ z)
+
+  pub located-offset : now (p .exit) ≡ image (bookOf b) v k lbn * 512
+  unfolding readPlaceBytes
+  located-offset =
+      e .answer
+      ∙ ap (λ (j : ℕ). after (λ q. q) (unless j (accepted (image (bookOf b) v k lbn * blockSize))) (now (p .entry)))
+      (sym (e .number) ∙ z)
+
+  pub located-inside : now (p .exit) + 512 ≤ length (now (pool .entry))
+  located-inside = let at = located-offset in omega (arith, block-inside b (now (pool .entry)) v k lbn located-readable)
 
 -- ---- so every block among the answers is whole
 

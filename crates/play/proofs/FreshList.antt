@@ -3,6 +3,8 @@ use Prim.Native.Nat.{ℕ, zero, suc, _≤_}
 use mathlib.Core.Path.{_≡_, refl, sym, ap, _∙_}
 use mathlib.Core.List.{List}
 use lib.ListN.{length}
+use denote.Ref.{now}
+use Rattle.words.specs.Lent.{Lent}
 use Rattle.words.proofs.Accepted.{refused-not, unless-refused}
 use Rattle.words.specs.Outcome.{accepted, unless}
 use Rattle.book.specs.Book.{Sizes}
@@ -17,7 +19,13 @@ use Rattle.calls.specs.Chain.{freshPlayable, PlayedFresh}
 use Rattle.calls.specs.Contracts.{roomOf, playable, Played}
 use Rattle.engine.specs.Contracts.{Formatted}
 
-module _ (b pool spare calls out : List ℕ) (n l s j : ℕ) {k : ℕ} {b₁ : List ℕ} (f : Formatted b n l s j k b₁) where
+module _ (book : Lent (List ℕ)) (pool spare calls out : List ℕ) (n l s j : ℕ) {k : ℕ} (f : Formatted book n l s j k) where
+  abbrev b : List ℕ
+  b = now (book .entry)
+
+  abbrev b₁ : List ℕ
+  b₁ = now (book .exit)
+
   abbrev z : Sizes
   z = record { n = n; l = l; s = s; j = j }
 

@@ -1,4 +1,4 @@
 pub mod Blocks
-pub mod Storing
+pub mod AnswersLaid
 pub mod Doing
 pub mod FreshList

@@ -1,11 +1,11 @@
-// Each call through its exported function, and its answer in bytes to `to`. Each answers the place past it.
-ghost use Prim.Native.Nat.{ℕ, _+_, _≤_};
-ghost use mathlib.Core.List.{List, _∷_};
+// Each call through its exported function, and its answer in bytes to `to`. Each answers the offset past it.
+ghost use Prim.Native.Nat.{_+_, _≤_};
+ghost use mathlib.Core.List.{_∷_};
 ghost use lib.ListN.{length};
 ghost use Rattle.words.specs.Numbers.{two};
 ghost use Rattle.words.specs.Laying.{Stored};
 ghost use Rattle.model.specs.Calls.{enrol, backup, collect, read, audit};
-ghost use Rattle.calls.specs.Contracts.{Did};
+ghost use Rattle.calls.specs.Doing.{DidLent, DidAnySpare, DidAnyPool};
 use engine::audit::aspen_audit;
 use engine::backup::aspen_backup;
 use engine::collect::aspen_collect;
@@ -38,7 +38,7 @@ fn tell(answers: &mut [u8], to: usize, tag: u8, v: u16) -> usize
 
 pub fn answer_enrol(book: &mut [u8], v: u16, retention: u16, answers: &mut [u8], to: usize) -> usize
     requires { ⌜ to + 3 ≤ length (now answers) ⌝ }
-    ensures { λ r. ⌜ ((spare : ℕ) (pool : List ℕ) → Did spare (now (book .entry)) pool (enrol v retention) (now (answers .entry)) to (now (book .exit)) pool (now (answers .exit)) r) ⌝ }
+    ensures { λ r. ⌜ DidAnyPool book (enrol v retention) answers to r ⌝ }
 {
     let refusal = aspen_enrol(book, v, retention);
     tell(answers, to, NUMBER, refusal)
@@ -46,7 +46,7 @@ pub fn answer_enrol(book: &mut [u8], v: u16, retention: u16, answers: &mut [u8],
 
 pub fn answer_collect(book: &mut [u8], day: u16, answers: &mut [u8], to: usize) -> usize
     requires { ⌜ to + 3 ≤ length (now answers) ⌝ }
-    ensures { λ r. ⌜ ((spare : ℕ) (pool : List ℕ) → Did spare (now (book .entry)) pool (collect day) (now (answers .entry)) to (now (book .exit)) pool (now (answers .exit)) r) ⌝ }
+    ensures { λ r. ⌜ DidAnyPool book (collect day) answers to r ⌝ }
 {
     let mut freed = 0u16;
     let refusal = aspen_collect(book, day, &mut freed);
@@ -66,7 +66,7 @@ pub fn answer_read(
     to: usize,
 ) -> usize
     requires { ⌜ to + 513 ≤ length (now answers) ⌝ }
-    ensures { λ r. ⌜ ((spare : ℕ) → Did spare (now (book .entry)) (now (pool .entry)) (read v number lbn) (now (answers .entry)) to (now (book .entry)) (now (pool .entry)) (now (answers .exit)) r) ⌝ }
+    ensures { λ r. ⌜ DidAnySpare book pool (read v number lbn) answers to r ⌝ }
 {
     let mut at = 0u32;
     let refusal = aspen_read(book, pool, v, number, lbn, &mut at);
@@ -81,7 +81,7 @@ pub fn answer_read(
 
 pub fn answer_audit(book: &[u8], answers: &mut [u8], to: usize) -> usize
     requires { ⌜ to + 3 ≤ length (now answers) ⌝ }
-    ensures { λ r. ⌜ ((spare : ℕ) (pool : List ℕ) → Did spare (now (book .entry)) pool audit (now (answers .entry)) to (now (book .entry)) pool (now (answers .exit)) r) ⌝ }
+    ensures { λ r. ⌜ DidAnyPool book audit answers to r ⌝ }
 {
     let mut sound = 0u16;
     let refusal = aspen_audit(book, &mut sound);
@@ -102,7 +102,7 @@ pub fn answer_backup(
     to: usize,
 ) -> usize
     requires { ⌜ to + 7 ≤ length (now answers) ⌝ }
-    ensures { λ r. ⌜ Did (length (now (spare .entry))) (now (book .entry)) (now (pool .entry)) (backup v day (now (list .entry))) (now (answers .entry)) to (now (book .exit)) (now (pool .exit)) (now (answers .exit)) r ⌝ }
+    ensures { λ r. ⌜ DidLent book pool spare (backup v day (now (list .entry))) answers to r ⌝ }
 {
     let mut number = 0u16;
     let mut taken = 0u16;

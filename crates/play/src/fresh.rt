@@ -1,6 +1,5 @@
 // A list of calls on a fresh book.
-ghost use Rattle.calls.specs.Chain.{PlayedFresh};
-ghost use Rattle.book.specs.Book.{Sizes};
+ghost use Rattle.calls.specs.Lending.{PlayedFreshLent};
 use super::playing::aspen_play;
 use engine::format::aspen_format;
 
@@ -17,7 +16,7 @@ pub fn play_fresh(
     answers: &mut [u8],
     written: &mut u32,
 ) -> u16
-    ensures { λ r. ⌜ PlayedFresh (now (book .entry)) (now (pool .entry)) (now (spare .entry)) (record { n = n; l = l; s = s; j = j }) (now (calls .entry)) (now (answers .entry)) r (now (book .exit)) (now (pool .exit)) (now (answers .exit)) (now (written .exit)) ⌝ }
+    ensures { λ r. ⌜ PlayedFreshLent book pool spare (record { n = n; l = l; s = s; j = j }) calls answers written r ⌝ }
 {
     let refusal = aspen_format(book, n, l, s, j);
     if refusal != 0 {

@@ -1,6 +1,5 @@
-// Lists of calls in bytes (docs/FORMAT.md), checked as a whole and then played through the exported functions; their answers are written in bytes.
+// Lists of calls in bytes (docs/FORMAT.md), checked as a whole and then played through the exported functions; their
+// answers are written in bytes.
 mod answering;
-mod checking;
 pub mod fresh;
-mod heads;
 pub mod playing;

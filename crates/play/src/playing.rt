@@ -3,27 +3,25 @@ ghost use mathlib.Core.Path.{_≡_};
 ghost use mathlib.Core.Bool.{true};
 ghost use Prim.Native.Nat.{_+_, _≤_};
 ghost use lib.ListN.{length};
-ghost use Rattle.words.specs.Numbers.{num};
-ghost use Rattle.words.specs.Sections.{part};
-ghost use Rattle.model.specs.Calls.{backup};
-ghost use Rattle.calls.specs.Coding.{headSize, dataSize, isCall, callAt};
+ghost use Rattle.calls.specs.Coding.{isCall, callAt};
 ghost use Rattle.calls.specs.Answers.{longest, mostOf};
-ghost use Rattle.calls.specs.Contracts.{Did, DidAll, Played};
-ghost use Rattle.calls.specs.Reading.{restOf, Good};
+ghost use Rattle.calls.specs.Lending.{PlayedLent};
+ghost use Rattle.calls.specs.Doing.{DidLent, DidAllLent};
+ghost use Rattle.calls.specs.Reading.{restOf, Good, backupCall};
 use super::answering::answer_audit;
 use super::answering::answer_backup;
 use super::answering::answer_collect;
 use super::answering::answer_enrol;
 use super::answering::answer_read;
-use super::checking::check;
-use super::checking::room_of;
-use super::heads::BACKUP;
-use super::heads::COLLECT;
-use super::heads::ENROL;
-use super::heads::HEAD_SIZE;
-use super::heads::READ;
-use super::heads::call_end;
-use super::heads::data_size;
+use heads::checking::check;
+use heads::checking::room_of;
+use heads::head::BACKUP;
+use heads::head::COLLECT;
+use heads::head::ENROL;
+use heads::head::HEAD_SIZE;
+use heads::head::READ;
+use heads::head::call_end;
+use heads::head::data_size;
 use words::u16_at;
 
 // The backup at `at`, whose change list is its data.
@@ -37,7 +35,7 @@ fn play_backup(
     to: usize,
 ) -> usize
     requires { ⌜ (isCall (now calls) at ≡ true) × (to + 7 ≤ length (now answers)) ⌝ }
-    ensures { λ r. ⌜ Did (length (now (spare .entry))) (now (book .entry)) (now (pool .entry)) (backup (num (now (calls .entry)) (at + 2)) (num (now (calls .entry)) (at + 4)) (part (now (calls .entry)) (at + headSize) (dataSize (now (calls .entry)) at))) (now (answers .entry)) to (now (book .exit)) (now (pool .exit)) (now (answers .exit)) r ⌝ }
+    ensures { λ r. ⌜ DidLent book pool spare (backupCall (now (calls .entry)) at) answers to r ⌝ }
 {
     let from = at + HEAD_SIZE;
     let end = from + data_size(calls, at);
@@ -55,7 +53,7 @@ fn play_backup(
     )
 }
 
-// The call at `at`, and its answer to `to`. It answers the place past that.
+// The call at `at`, and its answer to `to`. It answers the offset past that.
 fn play_call(
     book: &mut [u8],
     pool: &mut [u8],
@@ -66,7 +64,7 @@ fn play_call(
     to: usize,
 ) -> usize
     requires { ⌜ (isCall (now calls) at ≡ true) × (to + longest (callAt (now calls) at) ≤ length (now answers)) ⌝ }
-    ensures { λ r. ⌜ Did (length (now (spare .entry))) (now (book .entry)) (now (pool .entry)) (callAt (now (calls .entry)) at) (now (answers .entry)) to (now (book .exit)) (now (pool .exit)) (now (answers .exit)) r ⌝ }
+    ensures { λ r. ⌜ DidLent book pool spare (callAt (now (calls .entry)) at) answers to r ⌝ }
 {
     let kind = calls[at];
     let a = u16_at(calls, at + 2);
@@ -96,7 +94,7 @@ fn play_list(
     answers: &mut [u8],
 ) -> usize
     requires { ⌜ Good (now calls) 0 × (mostOf (restOf (now calls) 0) ≤ length (now answers)) ⌝ }
-    ensures { λ r. ⌜ DidAll (length (now (spare .entry))) (now (book .entry)) (now (pool .entry)) (restOf (now (calls .entry)) 0) (now (answers .entry)) (now (book .exit)) (now (pool .exit)) (now (answers .exit)) r ⌝ }
+    ensures { λ r. ⌜ DidAllLent book pool spare (restOf (now (calls .entry)) 0) answers r ⌝ }
 {
     let mut at = 0;
     let mut to = 0;
@@ -117,7 +115,7 @@ pub extern "C" fn aspen_play(
     answers: &mut [u8],
     written: &mut u32,
 ) -> u16
-    ensures { λ r. ⌜ Played (length (now (spare .entry))) (now (book .entry)) (now (pool .entry)) (now (calls .entry)) (now (answers .entry)) (now (written .entry)) r (now (book .exit)) (now (pool .exit)) (now (answers .exit)) (now (written .exit)) ⌝ }
+    ensures { λ r. ⌜ PlayedLent book pool spare calls answers written r ⌝ }
 {
     let number = check(calls, room_of(answers.len()));
     if number != 0 {

@@ -1,9 +1,9 @@
-// Reads N, L, S, J and a list of calls from standard input (docs/FORMAT.md), plays the list on a fresh book and prints the answers, a line for each
-// call.
+// Reads N, L, S, J and a list of calls from standard input (docs/FORMAT.md), plays the list on a fresh book and prints
+// the answers, a line for each call.
 mod printing;
 
-use book::sizes::size;
-use book::sizes::sizes_ok;
+use fields::sizes::size;
+use fields::sizes::sizes_ok;
 use libc::STDIN_FILENO;
 use play::fresh::play_fresh;
 use printing::answers_of;

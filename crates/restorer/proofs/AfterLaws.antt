@@ -12,8 +12,8 @@ use lib.Seq.{drop-nil}
 use borrow.Author.Tests.{le-leb, lt-leb}
 use Rattle.words.proofs.Runs.{below-or-not}
 use Rattle.book.specs.Book.{Book, slotAt}
-use Rattle.book.specs.Struct.{SlotIs}
-use Rattle.book.specs.declared.slot.Slot.{Slot}
+use Rattle.journal.specs.Struct.{SlotIs}
+use Rattle.journal.specs.declared.slot.Slot.{Slot}
 use Rattle.model.specs.Days.{keptBefore, kept}
 use Rattle.model.specs.Journal.{Backup, backups, days}
 use Rattle.model.specs.JournalAt.{backupAt, backupsFrom}
@@ -38,19 +38,22 @@ module _ (x : Book) (v k : ℕ) where
       record { number = rw (e, length-map (backups x v) (λ b. b .day)) (omega arith); rest = rw e }
 
   module _ (q left : ℕ) (p : Skipped x v k q left) where
-    pub skipped-own : (t : Slot) → SlotIs (slotAt (x .slots) q) t → q < length (x .slots) → t .volume ≡ v → 0 < left → Skipped x v k (q + 1) (left - 1)
+    pub skipped-own : (t : Slot) → SlotIs (slotAt (x .slots) q) t → q < length (x .slots) → t .volume ≡ v → 0 < left
+        → Skipped x v k (q + 1) (left - 1)
     skipped-own t s h e l =
         let own = from-own x v q h (sym (s .volume) ∙ e) in
         let n = rw own at (p .number) in
         record { number = omega arith; rest = p .rest ∙ rw own (drop-suc left (backupAt x q) (backupsFrom x v (q + 1)) l) }
 
-    pub skipped-other : (t : Slot) → SlotIs (slotAt (x .slots) q) t → q < length (x .slots) → (t .volume ≡ v → ⊥) → Skipped x v k (q + 1) left
+    pub skipped-other : (t : Slot) → SlotIs (slotAt (x .slots) q) t → q < length (x .slots) → (t .volume ≡ v → ⊥)
+        → Skipped x v k (q + 1) left
     skipped-other t s h n =
         let other = from-other x v q h (λ e. n (s .volume ∙ e)) in
         record { number = p .number ∙ rw other; rest = p .rest ∙ rw other }
 
     -- the volume's next backup, and no backup more
-    pub skipped-stop : (t : Slot) → SlotIs (slotAt (x .slots) q) t → t .volume ≡ v → left ≡ 0 → AfterIs x v k (record { missing = left; at = q })
+    pub skipped-stop : (t : Slot) → SlotIs (slotAt (x .slots) q) t → t .volume ≡ v → left ≡ 0
+        → AfterIs x v k (record { missing = left; at = q })
     skipped-stop t s e z =
         let n = p .number in
         record {

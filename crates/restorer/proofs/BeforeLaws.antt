@@ -17,8 +17,8 @@ use Rattle.words.specs.Lists.{joined}
 use Rattle.words.specs.declared.PBN.{PBN}
 use Rattle.book.specs.Book.{Rec, Book, noRec, slotAt, recAt, cellAt}
 use Rattle.book.specs.Form.{pairsOk}
-use Rattle.book.specs.Struct.{SlotIs}
-use Rattle.book.specs.declared.slot.Slot.{Slot}
+use Rattle.journal.specs.Struct.{SlotIs}
+use Rattle.journal.specs.declared.slot.Slot.{Slot}
 use Rattle.model.specs.Journal.{Backup}
 use Rattle.model.specs.Read.{recordsOf, beforeOr}
 use Rattle.model.specs.JournalAt.{backupAt, backupsFrom, ownAt}
@@ -32,7 +32,8 @@ use Rattle.restorer.specs.Befores.{firstOf, beforeOf, beforeIn, beforeFr
 unfoldable pub beforeSpan : ℕ → List Rec → ℕ → ℕ → Before
 beforeSpan lbn rs q end = beforeIn lbn (take (end - q) (drop q rs))
 
-pub span-whole : (lbn first number : ℕ) (rs : List Rec) → beforeSpan lbn rs first (first + number) ≡ beforeIn lbn (take number (drop first rs))
+pub span-whole : (lbn first number : ℕ) (rs : List Rec)
+    → beforeSpan lbn rs first (first + number) ≡ beforeIn lbn (take number (drop first rs))
 unfolding beforeSpan
 span-whole lbn first number rs = let e : first + number - first ≡ number = omega arith in rw e
 
@@ -74,7 +75,8 @@ unfolding beforeIn
 before-append lbn [] qs e = refl
 before-append lbn (r ∷ rs) qs e = go (eqb (r .lbn) lbn) e (before-append lbn rs qs)
   where
-    go : (t : Bool) → beforeOf (if t then some r else firstOf lbn rs) ≡ Nothing → (beforeIn lbn rs ≡ Nothing → beforeIn lbn (rs ++ qs) ≡ beforeIn lbn qs)
+    go : (t : Bool) → beforeOf (if t then some r else firstOf lbn rs) ≡ Nothing
+        → (beforeIn lbn rs ≡ Nothing → beforeIn lbn (rs ++ qs) ≡ beforeIn lbn qs)
         → beforeOf (if t then some r else firstOf lbn (rs ++ qs)) ≡ beforeIn lbn qs
     go true f ih = absurd (let z : _≡_ {A = ℕ} 0 1 = cc in omega arith)
     go false f ih = ih f
@@ -91,7 +93,8 @@ append-before lbn p (r ∷ rs) qs e = go (eqb (r .lbn) lbn) e (append-before lbn
 
 recordsOf-append : (bs cs : List Backup) → recordsOf (bs ++ cs) ≡ recordsOf bs ++ recordsOf cs
 recordsOf-append bs cs =
-    ap joined (map-append (λ (b : Backup). b .records) bs cs) ∙ joined-append (map (λ (b : Backup). b .records) bs) (map (λ (b : Backup). b .records) cs)
+    ap joined (map-append (λ (b : Backup). b .records) bs cs)
+    ∙ joined-append (map (λ (b : Backup). b .records) bs) (map (λ (b : Backup). b .records) cs)
 
 module _ (x : Book) (v q lbn : ℕ) where
   pub later-here : (p : PBN) → q < length (x .slots) → beforeIn lbn (recordsOf (ownAt x v q)) ≡ At p → beforeFrom x v q lbn ≡ At p
@@ -100,7 +103,8 @@ module _ (x : Book) (v q lbn : ℕ) where
       rw (from-split x v q h, recordsOf-append (ownAt x v q) (backupsFrom x v (q + 1)))
       (append-before lbn p (recordsOf (ownAt x v q)) (recordsOf (backupsFrom x v (q + 1))) e)
 
-  pub later-next : q < length (x .slots) → beforeIn lbn (recordsOf (ownAt x v q)) ≡ Nothing → beforeFrom x v q lbn ≡ beforeFrom x v (q + 1) lbn
+  pub later-next : q < length (x .slots) → beforeIn lbn (recordsOf (ownAt x v q)) ≡ Nothing
+      → beforeFrom x v q lbn ≡ beforeFrom x v (q + 1) lbn
   unfolding beforeFrom
   later-next h e =
       rw (from-split x v q h, recordsOf-append (ownAt x v q) (backupsFrom x v (q + 1)))

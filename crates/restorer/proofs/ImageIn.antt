@@ -16,7 +16,7 @@ use Rattle.words.proofs.Places.{all-take, all-drop, all-those, all-weaker}
 use Rattle.book.specs.Book.{Sizes, Slot, Rec, Book, cellAt}
 use Rattle.book.proofs.Conditions.{pbn-cases, cell-in}
 use Rattle.book.specs.Form.{pbnOk, recOk}
-use Rattle.book.specs.Formed.{BookParts}
+use Rattle.book.specs.FormFacts.{BookParts}
 use Rattle.model.specs.Journal.{Backup, journalOf, journal, backups}
 use Rattle.model.specs.Read.{recordsOf, beforeOr, image}
 
@@ -50,7 +50,8 @@ module _ (g : Rec → Bool) where
 before-ok : (z : Sizes) (r : Rec) → recOk z r ≡ true → pbnOk (z .n) (r .before) ≡ true
 unfolding recOk
 before-ok z r e =
-    and-true (ltb (r .lbn) (z .l)) (pbnOk (z .n) (r .before)) (and-true (ltb (r .lbn) (z .l) && pbnOk (z .n) (r .before)) (ltb (r .after) (z .n)) e .0) .1
+    and-true (ltb (r .lbn) (z .l)) (pbnOk (z .n) (r .before))
+    (and-true (ltb (r .lbn) (z .l) && pbnOk (z .n) (r .before)) (ltb (r .after) (z .n)) e .0) .1
 
 abbrev beforeOk : Book → Rec → Bool
 beforeOk x r = pbnOk (x .sizes .n) (r .before)
@@ -61,7 +62,8 @@ all-ok x h v k =
     all-records (beforeOk x) (drop k (backups x v))
     (all-drop (allOf (beforeOk x)) k (backups x v)
     (all-those (allOf (beforeOk x)) (λ b. eqb (b .volume) v) (journal x)
-    (all-journal (beforeOk x) (x .slots) (x .records) (all-weaker (recOk (x .sizes)) (beforeOk x) (x .records) (before-ok (x .sizes)) (h .records)))))
+    (all-journal (beforeOk x) (x .slots) (x .records)
+    (all-weaker (recOk (x .sizes)) (beforeOk x) (x .records) (before-ok (x .sizes)) (h .records)))))
 
 pub image-in : (x : Book) → BookParts x → (v k lbn : ℕ) → (image x v k lbn < x .sizes .n) ⊎ (image x v k lbn ≡ unmapped)
 unfolding image
@@ -73,4 +75,6 @@ image-in x h v k lbn = go (firstThat has (recordsOf (drop k (backups x v)))) ref
     go : (o : Option Rec) → firstThat has (recordsOf (drop k (backups x v))) ≡ o
         → (beforeOr (cellAt (x .maps) v lbn) o < x .sizes .n) ⊎ (beforeOr (cellAt (x .maps) v lbn) o ≡ unmapped)
     go none e = cell-in x h v lbn
-    go (some r) e = pbn-cases (x .sizes .n) (r .before) (first-passes (beforeOk x) has (recordsOf (drop k (backups x v))) r (all-ok x h v k) e)
+    go (some r) e =
+        pbn-cases (x .sizes .n) (r .before)
+        (first-passes (beforeOk x) has (recordsOf (drop k (backups x v))) r (all-ok x h v k) e)

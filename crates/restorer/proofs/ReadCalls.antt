@@ -5,14 +5,16 @@ use mathlib.Core.Logic.{⊎-elim}
 use mathlib.Core.List.{List, []}
 use native.Mathlib.Omega.{arith}
 use lib.ListN.{length}
+use denote.Ref.{now}
+use Rattle.words.specs.Lent.{Lent}
 use Rattle.words.proofs.Accepted.{unless-accepted}
 use Rattle.words.specs.Blocks.{blockSize}
 use Rattle.words.specs.Outcome.{Outcome, refused, accepted, andThen, unless}
 use Rattle.words.specs.declared.PBN.{PBN}
 use Rattle.book.specs.Layout.{bookOf}
 use Rattle.book.specs.Form.{formNumber}
-use Rattle.book.proofs.FormParts.{book-parts}
-use Rattle.book.proofs.InForm.{book-form}
+use Rattle.book.proofs.Clauses.{book-parts}
+use Rattle.book.proofs.FormBytes.{book-form}
 use Rattle.model.specs.OnBytes.{numberOf, poolNumber, readBytes, readNumberBytes, readPlaceBytes, blockAfter}
 use Rattle.model.specs.Pool.{blockAt}
 use Rattle.model.specs.Read.{image, readNumber, read}
@@ -56,9 +58,11 @@ module _ (b pool : List ℕ) (v k lbn : ℕ) where
   unfolding readBytes soughtBytes read soughtIn
   read-sought = simp then-unless
 
-  place-sought : readPlaceBytes b pool v k lbn ≡ andThen (soughtBytes b pool v k lbn) (λ p. accepted (p * blockSize))
+  offset-sought : readPlaceBytes b pool v k lbn ≡ andThen (soughtBytes b pool v k lbn) (λ p. accepted (p * blockSize))
   unfolding readPlaceBytes readNumberBytes soughtBytes soughtIn
-  place-sought = rw read-sought (same-numbers (formNumber b) (poolNumber b pool) (readNumber (bookOf b) v k lbn) (image (bookOf b) v k lbn) (blockAt pool) (λ p. p * blockSize))
+  offset-sought =
+      rw read-sought (same-numbers (formNumber b) (poolNumber b pool) (readNumber (bookOf b) v k lbn)
+      (image (bookOf b) v k lbn) (blockAt pool) (λ p. p * blockSize))
 
   -- ---- what each call makes of the search's answer
 
@@ -70,12 +74,6 @@ module _ (b pool : List ℕ) (v k lbn : ℕ) where
         go : (s : Sought) → soughtNumber s ≡ numberOf (andThen (soughtOf s) (λ p. accepted (blockAt pool p)))
         go (At p) = refl
         go (Refused n) = refl
-
-    pub located-refused : (at n : ℕ) → s ≡ Refused n → Located b pool v k lbn at (soughtNumber s) at
-    located-refused at n h = record { number = number-is; answer = rw (place-sought, ← e, h) }
-
-    pub located-at : (at : ℕ) (p : PBN) → s ≡ At p → Located b pool v k lbn at 0 (p .0 * blockSize)
-    located-at at p h = record { number = ap soughtNumber (sym h) ∙ number-is; answer = rw (place-sought, ← e, h) }
 
     pub block-refused : (n : ℕ) → s ≡ Refused n → [] ≡ blockAfter (readBytes b pool v k lbn)
     block-refused n h = rw (read-sought, ← e, h)
@@ -94,3 +92,26 @@ module _ (b pool : List ℕ) (v k lbn : ℕ) where
         let size = pool-size b pool (u .0) in
         let mapped = number-mapped (bookOf b) v k lbn (t .0) in
         ⊎-elim (λ l. omega arith) (λ n. absurd (mapped n)) (image-in (bookOf b) (book-parts (bookOf b) (book-form b (w .0) .1)) v k lbn)
+
+-- ---- the call that gives an offset
+
+module _ (book pool : Lent (List ℕ)) (v k lbn : ℕ) (at : Lent ℕ) (s : Sought)
+    (e : soughtOf s ≡ soughtBytes (now (book .entry)) (now (pool .entry)) v k lbn) where
+  abbrev b : List ℕ
+  b = now (book .entry)
+
+  abbrev p : List ℕ
+  p = now (pool .entry)
+
+  pub located-refused : {r : ℕ} (n : ℕ) → s ≡ Refused n → r ≡ soughtNumber s → now (at .exit) ≡ now (at .entry)
+      → Located book pool v k lbn at r
+  located-refused n h q same = record {
+    number = q ∙ number-is b p v k lbn s e;
+    answer = rw (offset-sought b p v k lbn, ← e, h) same;
+  }
+
+  pub located-at : (q : PBN) → s ≡ At q → now (at .exit) ≡ q .0 * blockSize → Located book pool v k lbn at 0
+  located-at q h offset = record {
+    number = ap soughtNumber (sym h) ∙ number-is b p v k lbn s e;
+    answer = rw (offset-sought b p v k lbn, ← e, h) offset;
+  }

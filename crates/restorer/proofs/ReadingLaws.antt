@@ -76,7 +76,9 @@ module _ (x : Book) (v k : ℕ) where
 -- the volume of a backup that is there
 pub kept-volume : (x : Book) (v k : ℕ) → keptNumber x v k ≡ 0 → v < volumes
 unfolding keptNumber
-kept-volume x v k e = volume-inside x v (go (noVolume x v) (eqb k 0 || ltb (length (days x v)) k) (kept (days x v) (retentionOf x v) (x .day) k) e)
+kept-volume x v k e =
+    volume-inside x v (go (noVolume x v) (eqb k 0 || ltb (length (days x v)) k)
+    (kept (days x v) (retentionOf x v) (x .day) k) e)
   where
     go : (a b c : Bool) → numbers a b c 0 ≡ 0 → a ≡ false
     go true b c f = absurd (omega arith)
@@ -107,9 +109,13 @@ numbers-then false true c d o = refl
 numbers-then false false false d o = refl
 numbers-then false false true d o = refl
 
-sought-order : (x : Book) (v k lbn : ℕ) → soughtIn x v k lbn ≡ unless (keptNumber x v k) (unless (mappedNumber x lbn (image x v k lbn)) (accepted (image x v k lbn)))
+sought-order : (x : Book) (v k lbn : ℕ)
+    → soughtIn x v k lbn ≡ unless (keptNumber x v k)
+    (unless (mappedNumber x lbn (image x v k lbn)) (accepted (image x v k lbn)))
 unfolding soughtIn readNumber keptNumber mappedNumber
-sought-order x v k lbn = numbers-then (noVolume x v) (eqb k 0 || ltb (length (days x v)) k) (kept (days x v) (retentionOf x v) (x .day) k) _ (accepted (image x v k lbn))
+sought-order x v k lbn =
+    numbers-then (noVolume x v) (eqb k 0 || ltb (length (days x v)) k) (kept (days x v) (retentionOf x v) (x .day) k) _
+    (accepted (image x v k lbn))
 
 pub sought-refused : (x : Book) (v k lbn n : ℕ) → KeptIs x v k (kept-is.Refused n) → soughtIn x v k lbn ≡ refused n
 sought-refused x v k lbn n h = sought-order x v k lbn ∙ rw (h .0) (go n (h .1))
@@ -127,7 +133,8 @@ pub number-mapped : (x : Book) (v k lbn : ℕ) → readNumber x v k lbn ≡ 0 �
 unfolding readNumber
 number-mapped x v k lbn e =
     eqb-false (image x v k lbn) unmapped
-    (go (noVolume x v) (eqb k 0 || ltb (length (days x v)) k) (kept (days x v) (retentionOf x v) (x .day) k) (leb (x .sizes .l) lbn) (eqb (image x v k lbn) unmapped) e)
+    (go (noVolume x v) (eqb k 0 || ltb (length (days x v)) k) (kept (days x v) (retentionOf x v) (x .day) k)
+    (leb (x .sizes .l) lbn) (eqb (image x v k lbn) unmapped) e)
   where
     go : (a b c d u : Bool) → numbers a b c (if d then 17 else if u then 18 else 0) ≡ 0 → u ≡ false
     go a b c d false f = refl

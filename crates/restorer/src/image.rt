@@ -3,16 +3,16 @@ ghost use mathlib.Core.Path.{_≡_};
 ghost use Prim.Native.Nat.{_+_, _≤_, _<_};
 ghost use lib.ListN.{length, take, drop};
 ghost use Rattle.book.specs.Book.{volumes};
-ghost use Rattle.book.specs.Layout.{bookOf, Holds};
-ghost use Rattle.book.specs.Formed.{Formed};
+ghost use Rattle.book.specs.Layout.{told, Holds};
+ghost use Rattle.book.specs.FormFacts.{FormFacts};
 ghost use Rattle.model.specs.Read.{recordsOf};
 ghost use Rattle.model.specs.JournalAt.{ownAt};
 ghost use Rattle.restorer.specs.After.{AfterIs, keptFrom};
 ghost use Rattle.restorer.specs.Befores.{beforeIn, beforeFrom, imageFrom};
-use book::header;
-use book::map;
-use book::record;
-use book::slot;
+use fields::header;
+use fields::map;
+use journal::record;
+use journal::slot;
 use words::LBN;
 use words::PBN;
 
@@ -22,8 +22,8 @@ pub enum Before {
     Nothing,
 }
 
-// A volume's backups after number k. Slot `at` holds the first of them; where there is none, `at` is past the used slots. The
-// volume lacks `missing` backups to have a number k.
+// A volume's backups after number k. Slot `at` holds the first of them; where there is none, `at` is past the used
+// slots. The volume lacks `missing` backups to have a number k.
 pub struct After {
     pub missing: u16,
     pub at: u16,
@@ -31,7 +31,7 @@ pub struct After {
 
 pub fn backups_after(book: &[u8], v: u16, k: u16) -> After
     requires { ⌜ Holds (now book) ⌝ }
-    ensures { λ r. ⌜ AfterIs (bookOf (now (book .entry))) v k r ⌝ }
+    ensures { λ r. ⌜ AfterIs (told (book .entry)) v k r ⌝ }
 {
     let used = header::used_slots(book);
     let mut missing = k;
@@ -49,10 +49,11 @@ pub fn backups_after(book: &[u8], v: u16, k: u16) -> After
     After { missing, at: used }
 }
 
-// Whether a backup is kept: slot `at` holds the one that replaced it, if any, and the volume keeps it for `days` days after that.
+// Whether a backup is kept: slot `at` holds the one that replaced it, if any, and the volume keeps it for `days` days
+// after that.
 pub fn is_kept(book: &[u8], at: u16, days: u16) -> bool
     requires { ⌜ Holds (now book) ⌝ }
-    ensures { λ r. ⌜ r ≡ keptFrom (bookOf (now (book .entry))) at days ⌝ }
+    ensures { λ r. ⌜ r ≡ keptFrom (told (book .entry)) at days ⌝ }
 {
     if header::used_slots(book) <= at {
         return true;
@@ -64,8 +65,8 @@ pub fn is_kept(book: &[u8], at: u16, days: u16) -> bool
 // The before of the LBN's first record, among `number` records from `first` on. It may be unmapped.
 fn first_before(book: &[u8], first: u16, number: u16, lbn: LBN) -> Before
     requires { ⌜ Holds (now book) ⌝ }
-    requires { ⌜ first + number ≤ length (bookOf (now book) .records) ⌝ }
-    ensures { λ r. ⌜ r ≡ beforeIn (lbn .0) (take number (drop first (bookOf (now (book .entry)) .records))) ⌝ }
+    requires { ⌜ first + number ≤ length (told book .records) ⌝ }
+    ensures { λ r. ⌜ r ≡ beforeIn (lbn .0) (take number (drop first (told (book .entry) .records))) ⌝ }
 {
     let end = first + number;
     let mut q = first;
@@ -82,9 +83,9 @@ fn first_before(book: &[u8], first: u16, number: u16, lbn: LBN) -> Before
 
 // The same among the records of slot q, where it is the volume's.
 fn slot_before(book: &[u8], q: u16, v: u16, lbn: LBN) -> Before
-    requires { ⌜ Formed (now book) ⌝ }
-    requires { ⌜ q < length (bookOf (now book) .slots) ⌝ }
-    ensures { λ r. ⌜ r ≡ beforeIn (lbn .0) (recordsOf (ownAt (bookOf (now (book .entry))) v q)) ⌝ }
+    requires { ⌜ FormFacts (now book) ⌝ }
+    requires { ⌜ q < length (told book .slots) ⌝ }
+    ensures { λ r. ⌜ r ≡ beforeIn (lbn .0) (recordsOf (ownAt (told (book .entry)) v q)) ⌝ }
 {
     let slot = slot::slot_at(book, q);
     if slot.volume != v {
@@ -95,8 +96,8 @@ fn slot_before(book: &[u8], q: u16, v: u16, lbn: LBN) -> Before
 
 // The same among the records of the volume's backups in the slots from `at` on.
 fn later_before(book: &[u8], v: u16, at: u16, lbn: LBN) -> Before
-    requires { ⌜ Formed (now book) ⌝ }
-    ensures { λ r. ⌜ r ≡ beforeFrom (bookOf (now (book .entry))) v at (lbn .0) ⌝ }
+    requires { ⌜ FormFacts (now book) ⌝ }
+    ensures { λ r. ⌜ r ≡ beforeFrom (told (book .entry)) v at (lbn .0) ⌝ }
 {
     let used = header::used_slots(book);
     let mut q = at;
@@ -110,11 +111,12 @@ fn later_before(book: &[u8], v: u16, at: u16, lbn: LBN) -> Before
     Before::Nothing
 }
 
-// The block at an LBN before the volume's backups in the slots from `at` on: the first before among them, else the current map.
+// The block at an LBN before the volume's backups in the slots from `at` on: the first before among them, else the
+// current map.
 pub fn image_at(book: &[u8], v: u16, at: u16, lbn: LBN) -> PBN
-    requires { ⌜ Formed (now book) ⌝ }
-    requires { ⌜ (v < volumes) × (lbn .0 < bookOf (now book) .sizes .l) ⌝ }
-    ensures { λ r. ⌜ r .0 ≡ imageFrom (bookOf (now (book .entry))) v at (lbn .0) ⌝ }
+    requires { ⌜ FormFacts (now book) ⌝ }
+    requires { ⌜ (v < volumes) × (lbn .0 < told book .sizes .l) ⌝ }
+    ensures { λ r. ⌜ r .0 ≡ imageFrom (told (book .entry)) v at (lbn .0) ⌝ }
 {
     let found = later_before(book, v, at, lbn);
     let Before::At(before) = found else {

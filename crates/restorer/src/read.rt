@@ -3,22 +3,25 @@ ghost use mathlib.Core.Path.{_≡_};
 ghost use Prim.Native.Nat.{_*_, _<_};
 ghost use Rattle.words.specs.Blocks.{blockSize};
 ghost use Rattle.book.specs.Book.{volumes};
-ghost use Rattle.book.specs.Layout.{bookOf, Holds};
-ghost use Rattle.book.specs.Formed.{Formed};
+ghost use Rattle.book.specs.Layout.{told, Holds};
+ghost use Rattle.book.specs.FormFacts.{FormFacts};
 ghost use Rattle.model.specs.OnBytes.{readBytes, readNumberBytes, blockAfter};
 ghost use Rattle.restorer.specs.Contracts.{Located};
 ghost use Rattle.restorer.specs.Reading.{KeptIs, soughtOf, soughtNumber, soughtFrom, soughtBytes};
 use super::image::backups_after;
 use super::image::image_at;
 use super::image::is_kept;
-use book::header;
 use buffers::buffers_number;
+use fields::header;
 use words::BLOCK_SIZE;
 use words::LBN;
 use words::PBN;
 use words::UNMAPPED;
+use words::limits::LAST_VOLUME;
+use words::refusals;
 
-// A backup that is there and kept: its volume's later backups are in the slots from this one on. Else the number of the refusal.
+// A backup that is there and kept: its volume's later backups are in the slots from this one on. Else the number of the
+// refusal.
 enum Kept {
     Before(u16),
     Refused(u16),
@@ -33,41 +36,41 @@ enum Sought {
 // Numbers 5, 15 and 16.
 fn kept_backup(book: &[u8], v: u16, k: u16) -> Kept
     requires { ⌜ Holds (now book) ⌝ }
-    ensures { λ r. ⌜ KeptIs (bookOf (now (book .entry))) v k r ⌝ }
+    ensures { λ r. ⌜ KeptIs (told (book .entry)) v k r ⌝ }
 {
-    if v > 7 {
-        return Kept::Refused(5);
+    if v > LAST_VOLUME {
+        return Kept::Refused(refusals::BAD_VOLUME);
     }
     let days = header::retention(book, v);
     if days == 0 {
-        return Kept::Refused(5);
+        return Kept::Refused(refusals::BAD_VOLUME);
     }
     if k == 0 {
-        return Kept::Refused(15);
+        return Kept::Refused(refusals::NO_BACKUP);
     }
     let after = backups_after(book, v, k);
     if after.missing != 0 {
-        return Kept::Refused(15);
+        return Kept::Refused(refusals::NO_BACKUP);
     }
     let at = after.at;
     if !is_kept(book, at, days) {
-        return Kept::Refused(16);
+        return Kept::Refused(refusals::NOT_KEPT);
     }
     Kept::Before(at)
 }
 
 // Numbers 17 and 18.
 fn block_before(book: &[u8], v: u16, at: u16, lbn: LBN) -> Sought
-    requires { ⌜ Formed (now book) ⌝ }
+    requires { ⌜ FormFacts (now book) ⌝ }
     requires { ⌜ v < volumes ⌝ }
-    ensures { λ r. ⌜ soughtOf r ≡ soughtFrom (bookOf (now (book .entry))) v at (lbn .0) ⌝ }
+    ensures { λ r. ⌜ soughtOf r ≡ soughtFrom (told (book .entry)) v at (lbn .0) ⌝ }
 {
     if lbn.0 >= header::cells(book) {
-        return Sought::Refused(17);
+        return Sought::Refused(refusals::BAD_LBN);
     }
     let p = image_at(book, v, at, lbn);
     if p.0 == UNMAPPED {
-        return Sought::Refused(18);
+        return Sought::Refused(refusals::NOT_MAPPED);
     }
     Sought::At(p)
 }
@@ -96,21 +99,28 @@ fn sought_number(sought: Sought) -> u16
 }
 
 // Where block p starts in the pool.
-fn block_place(p: PBN) -> usize
+fn block_offset(p: PBN) -> usize
     ensures { λ r. ⌜ r ≡ p .0 * blockSize ⌝ }
 {
     (p.0 as usize) * BLOCK_SIZE
 }
 
 // The block of an accepted read is 512 bytes of the pool from `at` on.
-pub fn read_place(book: &[u8], pool: &[u8], volume: u16, number: u16, lbn: LBN, at: &mut u32) -> u16
-    ensures { λ r. ⌜ Located (now (book .entry)) (now (pool .entry)) volume number (lbn .0) (now (at .entry)) r (now (at .exit)) ⌝ }
+pub fn read_offset(
+    book: &[u8],
+    pool: &[u8],
+    volume: u16,
+    number: u16,
+    lbn: LBN,
+    at: &mut u32,
+) -> u16
+    ensures { λ r. ⌜ Located book pool volume number (lbn .0) at r ⌝ }
 {
     let sought = locate(book, pool, volume, number, lbn);
     let Sought::At(p) = sought else {
         return sought_number(sought);
     };
-    *at = block_place(p) as u32;
+    *at = block_offset(p) as u32;
     0
 }
 
@@ -122,7 +132,7 @@ pub fn read<'a>(book: &[u8], pool: &'a [u8], volume: u16, number: u16, lbn: LBN)
     let Sought::At(p) = sought else {
         return &pool[..0];
     };
-    let at = block_place(p);
+    let at = block_offset(p);
     &pool[at..at + BLOCK_SIZE]
 }
 

@@ -5,15 +5,16 @@ ghost use lib.ListN.{length};
 ghost use lib.Seq.{sets};
 ghost use Rattle.words.specs.Laying.{Stored};
 ghost use Rattle.book.specs.Book.{entryAt};
-ghost use Rattle.book.specs.Layout.{bookOf, Holds};
-ghost use Rattle.model.specs.Views.{blockRow, blocksOf, blocksBytes};
-ghost use Rattle.model.specs.Written.{Written};
-use book::entry;
-use book::header;
+ghost use Rattle.book.specs.Layout.{told, Holds};
+ghost use Rattle.model.specs.Views.{blockRow, blocksOf};
+ghost use Rattle.rows.specs.Contracts.{BlocksTold};
+use entries::entry;
+use fields::header;
 use form::form_number;
 use words::PBN;
 use words::put_bytes;
 use words::put_three;
+use words::refusals;
 use words::wide;
 
 const ROW_SIZE: usize = 22;
@@ -21,11 +22,12 @@ const ROW_SIZE: usize = 22;
 // Where the fingerprint stands within a row.
 const PRINT: usize = 6;
 
-// One row at `at`. It answers the place past it.
+// One row at `at`. It answers the offset past it.
 fn put_block(book: &[u8], p: PBN, out: &mut [u8], at: usize) -> usize
     requires { ⌜ Holds (now book) ⌝ }
-    requires { ⌜ (p .0 < bookOf (now book) .sizes .n) × (at + 22 ≤ length (now out)) ⌝ }
-    ensures { λ r. ⌜ Stored (now (out .entry)) at (blockRow (entryAt (bookOf (now (book .entry)) .entries) (p .0))) (now (out .exit)) r ⌝ }
+    requires { ⌜ (p .0 < told book .sizes .n) × (at + 22 ≤ length (now out)) ⌝ }
+    ensures { λ r. ⌜ Stored (now (out .entry)) at (blockRow (entryAt (told (book .entry) .entries) (p .0)))
+        (now (out .exit)) r ⌝ }
 {
     let held = entry::is_held(book, p) as u16;
     let count = wide(entry::count(book, p));
@@ -38,8 +40,8 @@ fn put_block(book: &[u8], p: PBN, out: &mut [u8], at: usize) -> usize
 
 fn put_blocks(book: &[u8], out: &mut [u8])
     requires { ⌜ Holds (now book) ⌝ }
-    requires { ⌜ length (blocksOf (bookOf (now book))) ≤ length (now out) ⌝ }
-    ensures { λ _. ⌜ now (out .exit) ≡ sets (now (out .entry)) 0 (blocksOf (bookOf (now (book .entry)))) ⌝ }
+    requires { ⌜ length (blocksOf (told book)) ≤ length (now out) ⌝ }
+    ensures { λ _. ⌜ now (out .exit) ≡ sets (now (out .entry)) 0 (blocksOf (told (book .entry))) ⌝ }
 {
     let n = header::blocks(book);
     let mut at: usize = 0;
@@ -51,14 +53,14 @@ fn put_blocks(book: &[u8], out: &mut [u8])
 }
 
 pub fn blocks(book: &[u8], out: &mut [u8]) -> u16
-    ensures { λ r. ⌜ Written (blocksBytes (now (book .entry)) (length (now (out .entry)))) (now (out .entry)) r (now (out .exit)) ⌝ }
+    ensures { λ r. ⌜ BlocksTold book out r ⌝ }
 {
     let refusal = form_number(book);
     if refusal != 0 {
         return refusal;
     }
     if out.len() < header::blocks(book) as usize * ROW_SIZE {
-        return 20;
+        return refusals::SHORT_OUTPUT;
     }
     put_blocks(book, out);
     0

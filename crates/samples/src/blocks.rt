@@ -1,10 +1,12 @@
-// Sample blocks and fingerprints. Each is made from a tag of one byte, so that what is read can be compared with what was sent.
+// Sample blocks and fingerprints. Each is made from a tag of one byte, so that what is read can be compared with what
+// was sent.
 use words::BLOCK_SIZE;
 use words::wide;
 
-// The byte at a place of the bytes that are made from a tag: with slope 0 the tag everywhere, else another byte at each place.
-fn byte_at(tag: u8, slope: u8, place: usize) -> u8 {
-    ((wide(tag) + (place % 256) as u16 * wide(slope)) % 256) as u8
+// The byte at an offset of the bytes that are made from a tag: with slope 0 the tag everywhere, else another byte at
+// each offset.
+fn byte_at(tag: u8, slope: u8, offset: usize) -> u8 {
+    ((wide(tag) + (offset % 256) as u16 * wide(slope)) % 256) as u8
 }
 
 pub fn paint(bytes: &mut [u8], tag: u8, slope: u8) {

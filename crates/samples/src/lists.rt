@@ -49,8 +49,8 @@ fn paint_each(bytes: &mut [u8], size: usize, tags: &[u8], slope: u8) {
     }
 }
 
-// The list of a volume whose LBNs change to blocks of these tags, each under the fingerprint of its other tag. It answers the list's length,
-// 0 where there is no list.
+// The list of a volume whose LBNs change to blocks of these tags, each under the fingerprint of its other tag. It
+// answers the list's length, 0 where there is no list.
 pub fn write_list(list: &mut [u8], prints: &[u8], blocks: &[u8], slope: u8) -> usize
     ensures { λ r. ⌜ r ≤ length (now (list .exit)) ⌝ }
 {

@@ -1,4 +1,5 @@
-// The changes of a backup, drawn by a small generator that gives the same season in each run. The upper bits of a seed are the better ones.
+// The changes of a backup, drawn by a small generator that gives the same season in each run. The upper bits of a seed
+// are the better ones.
 use crate::sizes::LBNS;
 
 // A linear congruential step.

@@ -13,6 +13,7 @@ use crate::sizes::SLOPE;
 use engine::read::read;
 use engine::read::read_number;
 use words::LBN;
+use words::refusals;
 
 // Backup k is the volume's newest, or the days since the next one aren't over.
 fn is_kept(sent: &[u16; SENT], v: u16, k: u16, today: u16) -> bool {
@@ -23,10 +24,10 @@ fn is_kept(sent: &[u16; SENT], v: u16, k: u16, today: u16) -> bool {
 // The number that a read should give.
 fn expected(kept: bool, tag: u8) -> u16 {
     if !kept {
-        return 16;
+        return refusals::NOT_KEPT;
     }
     if tag == sent::UNMAPPED {
-        return 18;
+        return refusals::NOT_MAPPED;
     }
     0
 }

@@ -10,8 +10,9 @@ use crate::sizes::BOOK_SIZE;
 use crate::sizes::LBNS;
 use crate::sizes::POOL_SIZE;
 use samples::UNCHANGED;
+use words::refusals;
 
-// Now and then a second backup on the same day, which is refused by 7.
+// Now and then a second backup on the same day, which its day refuses.
 fn again(
     book: &mut [u8; BOOK_SIZE],
     pool: &mut [u8; POOL_SIZE],
@@ -24,7 +25,7 @@ fn again(
     }
     let changes = [UNCHANGED; LBNS];
     let answer = calls::backup(book, pool, counts, turn, &changes, &changes);
-    counts::expect(counts, answer.refusal, 7);
+    counts::expect(counts, answer.refusal, refusals::BAD_DAY);
 }
 
 // A backup of what changed. It answers the next seed.
@@ -47,7 +48,8 @@ fn backup(
     next
 }
 
-// Other bytes under the fingerprint of a block that the volume holds are refused by 11, or by 9 or 10 once slots or journal are full.
+// Other bytes under the fingerprint of a block that the volume holds are refused by 11, or by 9 or 10 once slots or
+// journal are full.
 fn forge(
     book: &mut [u8; BOOK_SIZE],
     pool: &mut [u8; POOL_SIZE],
@@ -68,7 +70,8 @@ fn forge(
     }
 }
 
-// A volume sends a backup about every third day, and now and then a list with a forged fingerprint. It answers the next seed.
+// A volume sends a backup about every third day, and now and then a list with a forged fingerprint. It answers the next
+// seed.
 pub fn send(
     book: &mut [u8; BOOK_SIZE],
     pool: &mut [u8; POOL_SIZE],

@@ -1,10 +1,10 @@
-// What each volume held at each of its backups: a row of 17 numbers, the day and the tag of each LBN. Row k of a volume is its backup k, and row 0
-// what it holds now.
+// What each volume held at each of its backups: a row of 17 numbers, the day and the tag of each LBN. Row k of a volume
+// is its backup k, and row 0 what it holds now.
 ghost use Prim.Native.Nat.{_<_};
 use crate::calls::Turn;
 use crate::sizes::CELLS;
 use crate::sizes::LBNS;
-use book::place::VOLUMES;
+use fields::offsets::VOLUMES;
 use samples::UNCHANGED;
 
 // The rows of a volume: more than its backups in a season.
@@ -19,8 +19,8 @@ pub const SENT: usize = ALL_ROWS as usize * ROW as usize;
 // The tag of an LBN that was never sent.
 pub const UNMAPPED: u8 = 0;
 
-// A place below SENT: a number of a volume's row.
-fn place(v: u16, k: u16, field: u16) -> usize
+// The index, below SENT, of a number of a volume's row.
+fn index(v: u16, k: u16, field: u16) -> usize
     ensures { λ r. ⌜ r < 8704 ⌝ }
 {
     let row = v as usize % VOLUMES * ROWS as usize + (k % ROWS) as usize;
@@ -29,15 +29,15 @@ fn place(v: u16, k: u16, field: u16) -> usize
 
 // The day of backup k, 0 where there is none: the season starts on day 1.
 pub fn day(sent: &[u16; SENT], v: u16, k: u16) -> u16 {
-    sent[place(v, k, 0)]
+    sent[index(v, k, 0)]
 }
 
 pub fn tag(sent: &[u16; SENT], v: u16, k: u16, lbn: u16) -> u8 {
-    (sent[place(v, k, 1 + lbn % CELLS)] % 256) as u8
+    (sent[index(v, k, 1 + lbn % CELLS)] % 256) as u8
 }
 
 fn set(sent: &mut [u16; SENT], v: u16, k: u16, field: u16, value: u16) {
-    let at = place(v, k, field);
+    let at = index(v, k, field);
     sent[at] = value;
 }
 

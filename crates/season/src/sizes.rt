@@ -1,9 +1,9 @@
 // The sizes of the season's book, small enough that pool, journal and slots fill up.
-use book::place::ENTRIES_FROM;
-use book::place::ENTRY_SIZE;
-use book::place::REC_SIZE;
-use book::place::SLOT_SIZE;
-use book::place::VOLUMES;
+use fields::offsets::ENTRIES_FROM;
+use fields::offsets::ENTRY_SIZE;
+use fields::offsets::REC_SIZE;
+use fields::offsets::SLOT_SIZE;
+use fields::offsets::VOLUMES;
 use words::BLOCK_SIZE;
 
 // N, L, S and J.

@@ -31,7 +31,8 @@ module _ {A : Type 0} (f : A → Bool) where
   countOf-append (x ∷ xs) ys = go (f x) (countOf-append xs ys)
     where
       go : (t : Bool) → countOf f (xs ++ ys) ≡ countOf f xs + countOf f ys
-          → (if t then suc (countOf f (xs ++ ys)) else countOf f (xs ++ ys)) ≡ (if t then suc (countOf f xs) else countOf f xs) + countOf f ys
+          → (if t then suc (countOf f (xs ++ ys)) else countOf f (xs ++ ys))
+          ≡ (if t then suc (countOf f xs) else countOf f xs) + countOf f ys
       go true ih = omega arith
       go false ih = ih
 

@@ -30,7 +30,8 @@ all-up f (suc m) i e k h g =
 up-all : (f : ℕ → Bool) (m i : ℕ) → ((k : ℕ) → i ≤ k → k < i + m → f k ≡ true) → all f (upFrom i m) ≡ true
 up-all f zero i h = refl
 up-all f (suc m) i h =
-    true-and (f i) (all f (upFrom (suc i) m)) (h i (omega arith) (omega arith)) (up-all f m (suc i) (λ k a b. h k (omega arith) (omega arith)))
+    true-and (f i) (all f (upFrom (suc i) m)) (h i (omega arith) (omega arith))
+    (up-all f m (suc i) (λ k a b. h k (omega arith) (omega arith)))
 
 pub each-at : (f : ℕ → Bool) (i n : ℕ) → each f i n ≡ true → (k : ℕ) → i ≤ k → k < n → f k ≡ true
 unfolding each
@@ -59,8 +60,10 @@ module _ (f : ℕ → Bool) (i n : ℕ) where
   pub each-last : i ≤ n → each f i (n + 1) ≡ (each f i n && f n)
   each-last h =
       same-test (each f i (n + 1)) (each f i n && f n)
-      (λ e. true-and (each f i n) (f n) (at-each f i n (λ k a b. each-at f i (n + 1) e k a (omega arith))) (each-at f i (n + 1) e n h (omega arith)))
-      (λ e. let t = and-true (each f i n) (f n) e in at-each f i (n + 1) (λ k a b. go (t .1) k (λ l. each-at f i n (t .0) k a l) b (decLt k n)))
+      (λ e. true-and (each f i n) (f n) (at-each f i n (λ k a b. each-at f i (n + 1) e k a (omega arith)))
+      (each-at f i (n + 1) e n h (omega arith)))
+      (λ e. let t = and-true (each f i n) (f n) e
+      in at-each f i (n + 1) (λ k a b. go (t .1) k (λ l. each-at f i n (t .0) k a l) b (decLt k n)))
     where
       go : f n ≡ true → (k : ℕ) → (k < n → f k ≡ true) → k < n + 1 → Dec (k < n) → f k ≡ true
       go e k r h (yes l) = r l
@@ -75,7 +78,8 @@ each-grow f i n h e d = rw (e, d) (sym (each-last f i n h))
 pub each-and : (f g : ℕ → Bool) (i n : ℕ) → each (λ k. f k && g k) i n ≡ (each f i n && each g i n)
 each-and f g i n =
     same-test (each (λ k. f k && g k) i n) (each f i n && each g i n)
-    (λ e. let t : (k : ℕ) → i ≤ k → k < n → (f k ≡ true) × (g k ≡ true) = λ k a b. and-true (f k) (g k) (each-at (λ k. f k && g k) i n e k a b) in
+    (λ e. let t : (k : ℕ) → i ≤ k → k < n
+    → (f k ≡ true) × (g k ≡ true) = λ k a b. and-true (f k) (g k) (each-at (λ k. f k && g k) i n e k a b) in
     true-and (each f i n) (each g i n) (at-each f i n (λ k a b. t k a b .0)) (at-each g i n (λ k a b. t k a b .1)))
     (λ e. let t = and-true (each f i n) (each g i n) e in
     at-each (λ k. f k && g k) i n (λ k a b. true-and (f k) (g k) (each-at f i n (t .0) k a b) (each-at g i n (t .1) k a b)))
@@ -105,7 +109,9 @@ tab-each {A = A} g n f =
 
     to : (n : ℕ) (f : ℕ → A) → ((k : ℕ) → k < n → g (f k) ≡ true) → all g (tab n f) ≡ true
     to zero f h = refl
-    to (suc n) f h = true-and (g (f 0)) (all g (tab n (λ k. f (suc k)))) (h 0 (omega arith)) (to n (λ k. f (suc k)) (λ k b. h (suc k) (omega arith)))
+    to (suc n) f h =
+        true-and (g (f 0)) (all g (tab n (λ k. f (suc k)))) (h 0 (omega arith))
+        (to n (λ k. f (suc k)) (λ k b. h (suc k) (omega arith)))
 
 -- m bytes from o are zero
 pub zeros-each : (b : List ℕ) (m o : ℕ) → o + m ≤ length b → allZero (part b o m) ≡ each (λ k. eqb (getD b k 0) 0) o (o + m)
@@ -120,7 +126,8 @@ pub rows-each : (g : ℕ → Bool) (k m : ℕ) → each (λ v. each (λ l. g (v 
 rows-each g k m =
     same-test (each row 0 m) (each g 0 (m * k))
     (λ e. at-each g 0 (m * k) (λ c a b. whole e c b (decLt 0 k)))
-    (λ e. at-each row 0 m (λ v a b. at-each (λ l. g (v * k + l)) 0 k (λ l x y. each-at g 0 (m * k) e (v * k + l) (omega arith) (inside v l m k b y))))
+    (λ e. at-each row 0 m (λ v a b. at-each (λ l. g (v * k + l)) 0 k
+    (λ l x y. each-at g 0 (m * k) e (v * k + l) (omega arith) (inside v l m k b y))))
   where
     row : ℕ → Bool
     row v = each (λ l. g (v * k + l)) 0 k

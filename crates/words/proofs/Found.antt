@@ -21,7 +21,8 @@ module _ {A : Type 0} (f : A → Bool) (d : A) where
   place-found i [] p e = absurd (let z : _≡_ {A = ℕ} 0 1 = cc in omega arith)
   place-found i (x ∷ xs) p e = go (f x) refl e (place-found (suc i) xs p)
     where
-      go : (t : Bool) → f x ≡ t → (if t then some i else placeFrom (suc i) f xs) ≡ some p → (placeFrom (suc i) f xs ≡ some p → Found (suc i) xs p)
+      go : (t : Bool) → f x ≡ t → (if t then some i else placeFrom (suc i) f xs) ≡ some p
+          → (placeFrom (suc i) f xs ≡ some p → Found (suc i) xs p)
           → Found i (x ∷ xs) p
       go true h e′ next = let q : i ≡ p = cc in record { index = 0; place = omega arith; inside = omega arith; passes = h }
       go false h e′ next =

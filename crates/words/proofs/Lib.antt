@@ -10,7 +10,7 @@ pub mod Parts
 pub mod Pieces
 pub mod Counting
 pub mod Found
-pub mod Stores
+pub mod SetLaws
 pub mod Sums
 pub mod Tests
 pub mod Accepted
@@ -21,5 +21,5 @@ pub mod LayingLaws
 pub mod Turns
 pub mod Flat
 pub mod Prefixes
-pub mod Stored
+pub mod SectionsLaid
 pub mod Lending

@@ -37,7 +37,8 @@ module _ {A : Type 0} (k : ℕ) (enc : A → List ℕ) where
   part-sized (x ∷ xs) r (suc p) d h b =
       let t = and-true (eqb (length (enc x)) k) (sized xs) h in
       rw (suc-mul, add-comm (p * k) k, append-assoc)
-      (part-past (enc x) (flat enc xs ++ r) k (p * k) k (eqb-true (length (enc x)) k (t .0)) ∙ part-sized xs r p d (t .1) (le-of-suc-le-suc b))
+      (part-past (enc x) (flat enc xs ++ r) k (p * k) k (eqb-true (length (enc x)) k (t .0))
+      ∙ part-sized xs r p d (t .1) (le-of-suc-le-suc b))
 
 -- pieces cut from a list one after the other are that stretch of it; all of them are the list
 pub joined-pieces : (k : ℕ) (b : List ℕ) (n i : ℕ) → joined (map (λ l. part b (l * k) k) (upFrom i n)) ≡ part b (i * k) (n * k)

@@ -99,11 +99,13 @@ module _ {A : Type 0} where
 pub all-upFrom : (f : ℕ → Bool) (i m : ℕ) → ((j : ℕ) → i ≤ j → j < i + m → f j ≡ true) → all f (upFrom i m) ≡ true
 all-upFrom f i zero h = refl
 all-upFrom f i (suc m) h =
-    true-and (f i) (all f (upFrom (suc i) m)) (h i (omega arith) (omega arith)) (all-upFrom f (suc i) m (λ j a b. h j (omega arith) (omega arith)))
+    true-and (f i) (all f (upFrom (suc i) m)) (h i (omega arith) (omega arith))
+    (all-upFrom f (suc i) m (λ j a b. h j (omega arith) (omega arith)))
 
 pub upFrom-all : (f : ℕ → Bool) (i m : ℕ) → all f (upFrom i m) ≡ true → (k : ℕ) → i ≤ k → k < i + m → f k ≡ true
 upFrom-all f i zero e k h g = absurd (omega arith)
-upFrom-all f i (suc m) e k h g = let w = and-true (f i) (all f (upFrom (suc i) m)) e in go (eqb i k) refl (w .0) (upFrom-all f (suc i) m (w .1) k)
+upFrom-all f i (suc m) e k h g =
+    let w = and-true (f i) (all f (upFrom (suc i) m)) e in go (eqb i k) refl (w .0) (upFrom-all f (suc i) m (w .1) k)
   where
     go : (t : Bool) → eqb i k ≡ t → f i ≡ true → (suc i ≤ k → k < suc i + m → f k ≡ true) → f k ≡ true
     go true q w ih = rw (eqb-true i k q) at w
@@ -116,7 +118,8 @@ module _ {A : Type 0} (f : A → Bool) where
   countOf-none [] = refl
   countOf-none (x ∷ xs) = go (f x) (countOf-none xs)
     where
-      go : (t : Bool) → eqb (countOf f xs) 0 ≡ not (someOf f xs) → eqb (if t then suc (countOf f xs) else countOf f xs) 0 ≡ not (t || someOf f xs)
+      go : (t : Bool) → eqb (countOf f xs) 0 ≡ not (someOf f xs)
+          → eqb (if t then suc (countOf f xs) else countOf f xs) 0 ≡ not (t || someOf f xs)
       go true ih = eqb·suc-zero (countOf f xs)
       go false ih = ih
 

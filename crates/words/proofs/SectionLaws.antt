@@ -4,10 +4,12 @@
 use mathlib.Core.Path.{_≡_, refl, sym, ap, _∙_}
 use mathlib.Core.List.{List, [], _∷_, _++_, map}
 use Prim.Native.Nat.{ℕ, zero, suc, _+_, _*_, _≤_, _<_, suc-le-suc}
-use native.Mathlib.Nat.{zero-add, add-zero, suc-add, add-suc, add-assoc, suc-mul, zero-mul, not-suc-le-zero, le-of-suc-le-suc, suc-inj, suc-ne-zero, zero-lt-suc, le-refl, lt-of-lt-of-le, mul-le-mul-right, add-comm}
+use native.Mathlib.Nat.{zero-add, add-zero, suc-add, add-suc, add-assoc, suc-mul, zero-mul, not-suc-le-zero, le-of-suc-le-suc, suc-inj}
+use native.Mathlib.Nat.{suc-ne-zero, zero-lt-suc, le-refl, lt-of-lt-of-le, mul-le-mul-right, add-comm}
 use native.Mathlib.Numerals.{add-one}
 use native.Mathlib.Omega.{arith}
-use lib.ListN.{length, getD, set, take, drop, length-append, length-set, length-drop, drop-of-length-le, take-append-drop, List·getD-append, List·getD-eq-default, length-map}
+use lib.ListN.{length, getD, set, take, drop, length-append, length-set, length-drop, drop-of-length-le, take-append-drop, List·getD-append}
+use lib.ListN.{List·getD-eq-default, length-map}
 use Rattle.words.specs.Lists.{joined, sum}
 use lib.Seq.{sets, getD-append-add, set-append-left, take-add, drop-drop, drop-cons, getD-take, getD-drop, length-take-le, take-suc}
 use Rattle.words.specs.Sections.{flat, fit, tab, part}
@@ -171,7 +173,8 @@ pub part-cons : (b : List ℕ) (o m : ℕ) → o < length b → part b o (suc m)
 part-cons b o m h = ap (λ (r : List ℕ). take (suc m) r) (drop-cons b o 0 h)
 
 -- a part, element by element
-pub part-tab : (m : ℕ) (b : List ℕ) (o : ℕ) (f : ℕ → ℕ) → o + m ≤ length b → ((i : ℕ) → i < m → f i ≡ getD b (o + i) 0) → tab m f ≡ part b o m
+pub part-tab : (m : ℕ) (b : List ℕ) (o : ℕ) (f : ℕ → ℕ) → o + m ≤ length b → ((i : ℕ) → i < m → f i ≡ getD b (o + i) 0)
+    → tab m f ≡ part b o m
 part-tab m b o f h g =
     tab-list m f (part b o m) 0 (length-take-le m (drop o b) (rw length-drop (omega arith)))
     (λ i hi. g i hi ∙ sym (getD-take m (drop o b) i 0 hi ∙ getD-drop o b i 0))
@@ -200,7 +203,8 @@ module _ {A : Type 0} where
   fit-tab d zero n f h g = fit-nil d n f (λ q b. g q (omega arith) b)
   fit-tab d (suc u) zero f h g = absurd (not-suc-le-zero h)
   fit-tab d (suc u) (suc n) f h g =
-      ap (λ (r : List A). f zero ∷ r) (fit-tab d u n (λ k. f (suc k)) (le-of-suc-le-suc h) (λ q a b. g (suc q) (suc-le-suc a) (suc-le-suc b)))
+      ap (λ (r : List A). f zero ∷ r)
+      (fit-tab d u n (λ k. f (suc k)) (le-of-suc-le-suc h) (λ q a b. g (suc q) (suc-le-suc a) (suc-le-suc b)))
 
 -- ---- parts one after the other, to the end
 abbrev pub partsOf : List ℕ → ℕ → List ℕ → List (List ℕ)
@@ -232,4 +236,5 @@ pub sets-more : (s d : List ℕ) (at i : ℕ) → i < length s → set (sets d a
 sets-more s d at i h =
     let n : length (take i s) ≡ i = length-take-le i s (omega arith) in
     let e : take (i + 1) s ≡ take i s ++ (getD s i 0 ∷ []) = rw add-one (take-suc s i 0 h) in
-    sym (ap (λ (vs : List ℕ). sets d at vs) e ∙ sets-snoc (take i s) d at (getD s i 0) ∙ ap (λ (k : ℕ). set (sets d at (take i s)) (at + k) (getD s i 0)) n)
+    sym (ap (λ (vs : List ℕ). sets d at vs) e ∙ sets-snoc (take i s) d at (getD s i 0)
+    ∙ ap (λ (k : ℕ). set (sets d at (take i s)) (at + k) (getD s i 0)) n)

@@ -25,7 +25,8 @@ surely-not true h = absurd (h refl)
 surely-not false h = refl
 
 -- where no element passes either of two tests
-pub some-neither : {A : Type 0} (f g : A → Bool) (xs : List A) → someOf (λ x. f x || g x) xs ≡ false → (someOf f xs ≡ false) × (someOf g xs ≡ false)
+pub some-neither : {A : Type 0} (f g : A → Bool) (xs : List A) → someOf (λ x. f x || g x) xs ≡ false
+    → (someOf f xs ≡ false) × (someOf g xs ≡ false)
 some-neither f g [] e = (refl, refl)
 some-neither f g (x ∷ xs) e =
     let a = or-neither (f x || g x) (someOf (λ y. f y || g y) xs) e in

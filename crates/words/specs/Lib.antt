@@ -5,3 +5,4 @@ pub mod Numbers
 pub mod Sections
 pub mod Outcome
 pub mod Laying
+pub mod Lent

@@ -8,6 +8,9 @@ ghost use Rattle.words.specs.Numbers.{two, num, put};
 ghost use Rattle.words.specs.Sections.{flat};
 ghost use Rattle.words.specs.Lists.{same};
 
+pub mod limits;
+pub mod refusals;
+
 // A block of an aid's volume. Never taken for a PBN.
 pub struct LBN(pub u16);
 

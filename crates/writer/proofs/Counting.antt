@@ -10,7 +10,7 @@ use borrow.Author.Tests.{ne-eqb}
 use lib.ListN.{length, getD, drop, drop-of-length-le, length-append}
 use lib.Seq.{drop-cons}
 use Rattle.words.specs.Choice.{if_then_else_}
-use Rattle.writer.specs.Writer.{runBefore, runs, markedFrom}
+use Rattle.runs.specs.Writer.{runBefore, runs, markedFrom}
 use Rattle.writer.specs.Passes.{endedRun, rowAfter, counted, Counted}
 use Rattle.writer.specs.declared.Tally.{Tally}
 use Rattle.writer.proofs.Marks.{runs-more, runs-end}
@@ -57,7 +57,9 @@ module _ (ms : List ℕ) (t r : Tally) (i : ℕ) where
   unfolding counted
   counting-more h c g =
       let m = getD ms i 0 in
-      let e = ap length (runs-more ms i (t .row) h) ∙ length-append (endedRun i (t .row) m) (runs (i + 1) (rowAfter (t .row) m) (drop (i + 1) ms)) in
+      let e =
+      ap length (runs-more ms i (t .row) h)
+      ∙ length-append (endedRun i (t .row) m) (runs (i + 1) (rowAfter (t .row) m) (drop (i + 1) ms)) in
       subst (λ (x : Tally). Counting ms x (i + 1)) (sym c)
       (record {
         marked = omega (arith, g .marked, marked-more ms i h);

@@ -13,9 +13,9 @@ use Rattle.words.specs.Sections.{flat}
 use Rattle.words.proofs.SectionLaws.{length-flat}
 use Rattle.words.proofs.Flat.{flat-map}
 use Rattle.words.proofs.Parts.{length-part}
-use Rattle.list.specs.Changes.{Change, pairSize}
+use Rattle.runs.specs.Changes.{Change, pairSize}
 use Rattle.words.specs.Blocks.{blockSize, printSize}
-use Rattle.writer.specs.Writer.{runs, markedFrom, imageChange, markedChanges, pairBytes, listBytes, markedList}
+use Rattle.runs.specs.Writer.{runs, markedFrom, imageChange, markedChanges, pairBytes, listBytes, markedList}
 use Rattle.writer.specs.Passes.{pairsFrom, element, markedElements}
 
 pub length-pairs : (i k : ℕ) (ms : List ℕ) → length (pairsFrom i k ms) ≡ length (runs i k ms) * pairSize
@@ -44,7 +44,8 @@ length-elements size b (m ∷ ms) i h =
 -- the changes' sections are those of the marked fingerprints and blocks
 module _ (prints image : List ℕ) where
   pub list-sections : (marks : List ℕ) → markedList marks prints image
-      ≡ two (length (runs 0 0 marks)) ++ (pairsFrom 0 0 marks ++ (markedElements printSize prints 0 marks ++ markedElements blockSize image 0 marks))
+      ≡ two (length (runs 0 0 marks))
+      ++ (pairsFrom 0 0 marks ++ (markedElements printSize prints 0 marks ++ markedElements blockSize image 0 marks))
   unfolding markedList listBytes markedChanges imageChange pairsFrom element markedElements
   list-sections marks =
       ap₂ (λ (p q : List ℕ). two (length (runs 0 0 marks)) ++ (pairsFrom 0 0 marks ++ (p ++ q)))

@@ -3,8 +3,3 @@ pub mod Counting
 pub mod Writing
 pub mod Whole
 pub mod Lengths
-pub mod ListBytes
-pub mod RunLaws
-pub mod Marked
-pub mod RoundTripLaws
-pub mod Example

@@ -15,7 +15,7 @@ use Rattle.words.specs.Numbers.{two, put}
 use Rattle.words.proofs.Filling.{put-sets}
 use Rattle.words.specs.Laying.{Stored}
 use Rattle.words.proofs.LayingLaws.{sets-next}
-use Rattle.writer.specs.Writer.{runBefore, runs, pairBytes}
+use Rattle.runs.specs.Writer.{runBefore, runs, pairBytes}
 use Rattle.writer.specs.Passes.{endedRun, rowAfter, ifMarked, counted, pairOf}
 use Rattle.writer.specs.declared.Tally.{Tally}
 
@@ -90,7 +90,8 @@ module _ (out : List ℕ) (at i k m : ℕ) where
   unfolding pairOf pairBytes
   pair-room n e h = rw (ended-run i k m n e) at h
 
-  pub pair-put : {o : List ℕ} → (m ≡ 1 → ⊥) → (k ≡ 0 → ⊥) → o ≡ put (put out at (i - k)) (at + 2) k → Stored out at (pairOf i k m) o (at + 4)
+  pub pair-put : {o : List ℕ} → (m ≡ 1 → ⊥) → (k ≡ 0 → ⊥) → o ≡ put (put out at (i - k)) (at + 2) k
+      → Stored out at (pairOf i k m) o (at + 4)
   unfolding pairOf pairBytes
   pair-put n e s = rw (ended-run i k m n e) (record {
     list = s ∙ rw (put-sets out at (i - k), put-sets) (sets-next (two (i - k)) (two k) out at (at + 2) refl);

@@ -1,21 +1,23 @@
 -- The whole call: what an accepted input gives, and the sections that make the list.
 use Prim.Native.Nat.{ℕ, _+_, _*_, _≤_, _<_}
-use mathlib.Core.Path.{_≡_, refl, sym, ap, _∙_}
-use mathlib.Core.Bool.{true, false, _&&_}
+use mathlib.Core.Path.{_≡_, refl, ap, _∙_}
+use mathlib.Core.Bool.{Bool, true, false, _&&_}
 use mathlib.Core.List.{List, _++_}
 use native.Mathlib.Omega.{arith}
 use lib.Dec.{leb, eqb}
 use lib.ListN.{length}
 use lib.Seq.{sets}
+use denote.Ref.{now}
 use borrow.Author.Tests.{leb-true, eqb-true, lt-ltb, le-ltb}
 use Rattle.words.proofs.ChoiceLaws.{and-true}
+use Rattle.words.specs.Lent.{Lent}
 use Rattle.words.specs.Lists.{all}
 use Rattle.words.specs.Numbers.{two, put}
 use Rattle.words.proofs.Filling.{put-sets}
 use Rattle.words.specs.Laying.{Stored}
 use Rattle.words.proofs.LayingLaws.{Left, left-all, left-room, left-more, sets-front}
 use Rattle.words.specs.Blocks.{blockSize, printSize}
-use Rattle.writer.specs.Writer.{runs, markedList, inputOk, writeNumber, answerAfter, outputAfter, Wrote}
+use Rattle.runs.specs.Writer.{runs, markedList, inputOk, writeNumber, answerAfter, outputAfter, listOf, Wrote}
 use Rattle.writer.specs.Passes.{pairsFrom, markedElements, Room}
 use Rattle.writer.proofs.Lengths.{list-sections}
 
@@ -66,7 +68,8 @@ module _ {out : List ℕ} {E : ℕ} {marks prints image : List ℕ} (r : Room ou
 
   pub number-room : 2 ≤ length out
   number-room =
-      left-room all-left (two (length (runs 0 0 marks))) (pairsFrom 0 0 marks ++ changeSections marks prints image) (list-sections prints image marks)
+      left-room all-left (two (length (runs 0 0 marks))) (pairsFrom 0 0 marks ++ changeSections marks prints image)
+      (list-sections prints image marks)
 
   pub number-stored : {o : List ℕ} → o ≡ put out 0 E → AfterNumber marks prints image out o 2
   number-stored e =
@@ -91,24 +94,32 @@ module _ {out : List ℕ} {E : ℕ} {marks prints image : List ℕ} (r : Room ou
 
 -- ---- the three ways out of a call
 
-module _ (L : ℕ) (marks prints image out : List ℕ) (answer : ℕ) where
-  pub wrote-none : inputOk L marks prints image ≡ false → Wrote L marks prints image out answer 19 out answer
-  unfolding writeNumber answerAfter outputAfter
-  wrote-none e =
-      let n : writeNumber L marks prints image out ≡ 19 = rw e in
-      record { number = sym n; answered = rw n; output = rw n }
+module _ (L : ℕ) (marks prints image out : Lent (List ℕ)) (answer : Lent ℕ) where
+  abbrev before : List ℕ
+  before = now (out .entry)
 
-  pub wrote-short : inputOk L marks prints image ≡ true → length out < length (markedList marks prints image)
-      → Wrote L marks prints image out answer 20 out answer
-  unfolding writeNumber answerAfter outputAfter
-  wrote-short e h =
-      let n : writeNumber L marks prints image out ≡ 20 = rw (e, lt-ltb (length out) (length (markedList marks prints image)) h) in
-      record { number = sym n; answered = rw n; output = rw n }
+  abbrev list : List ℕ
+  list = listOf marks prints image
 
-  pub wrote-list : {out′ : List ℕ} {answer′ : ℕ} → inputOk L marks prints image ≡ true → length (markedList marks prints image) ≤ length out
-      → out′ ≡ sets out 0 (markedList marks prints image) → answer′ ≡ length (markedList marks prints image)
-      → Wrote L marks prints image out answer 0 out′ answer′
+  abbrev ok : Bool
+  ok = inputOk L (now (marks .entry)) (now (prints .entry)) (now (image .entry))
+
+  module _ (same : now (out .exit) ≡ before) (unanswered : now (answer .exit) ≡ now (answer .entry)) where
+    pub wrote-none : ok ≡ false → Wrote L marks prints image out answer 19
+    unfolding writeNumber answerAfter outputAfter
+    wrote-none e = record { number = rw e; answered = unanswered; output = same }
+
+    pub wrote-short : ok ≡ true → length before < length list → Wrote L marks prints image out answer 20
+    unfolding writeNumber answerAfter outputAfter
+    wrote-short e h =
+        record { number = rw (e, lt-ltb (length before) (length list) h); answered = unanswered; output = same }
+
+  pub wrote-list : ok ≡ true → length list ≤ length before → now (out .exit) ≡ sets before 0 list
+      → now (answer .exit) ≡ length list
+      → Wrote L marks prints image out answer 0
   unfolding writeNumber answerAfter outputAfter
-  wrote-list e h s a =
-      let n : writeNumber L marks prints image out ≡ 0 = rw (e, le-ltb (length out) (length (markedList marks prints image)) h) in
-      record { number = sym n; answered = rw n a; output = rw n (s ∙ sets-front (markedList marks prints image) out h) }
+  wrote-list e h s a = record {
+    number = rw (e, le-ltb (length before) (length list) h);
+    answered = a;
+    output = s ∙ sets-front list before h;
+  }

@@ -14,10 +14,10 @@ use Rattle.words.specs.Sections.{flat}
 use Rattle.words.proofs.Flat.{flat-append}
 use Rattle.words.specs.Laying.{Stored}
 use Rattle.words.proofs.LayingLaws.{Left, left-room, left-more, left-last, left-none}
-use Rattle.list.specs.Changes.{Pair}
-use Rattle.writer.specs.Writer.{runs, markedFrom, pairBytes}
+use Rattle.runs.specs.Changes.{Pair}
+use Rattle.runs.specs.Writer.{runs, markedFrom, pairBytes}
 use Rattle.writer.specs.Passes.{endedRun, rowAfter, pairOf, pairsFrom, ifMarked, element, markedElements, Passed}
-use Rattle.writer.specs.declared.Place.{Place}
+use Rattle.writer.specs.declared.Progress.{Progress}
 use Rattle.writer.proofs.Marks.{runs-more, runs-end}
 
 -- ---- pairs
@@ -34,7 +34,7 @@ module _ (ms : List ℕ) (i k : ℕ) where
   unfolding pairOf pairsFrom
   pairs-end m h n = ap (λ (ps : List Pair). flat pairBytes ps) (runs-end ms i k m h n)
 
-module _ (ms : List ℕ) (p : Place) (i : ℕ) {old section out : List ℕ} {start : ℕ}
+module _ (ms : List ℕ) (p : Progress) (i : ℕ) {old section out : List ℕ} {start : ℕ}
     (l : Left old start section out (p .at) (pairsFrom i (p .row) (drop i ms))) where
   pub next-room : i < length ms → p .at + length (pairOf i (p .row) (getD ms i 0)) ≤ length out
   next-room h =
@@ -44,19 +44,19 @@ module _ (ms : List ℕ) (p : Place) (i : ℕ) {old section out : List ℕ} {sta
   pub last-room : (m : ℕ) → length ms ≤ i → (m ≡ 1 → ⊥) → p .at + length (pairOf i (p .row) m) ≤ length out
   last-room m h n = rw (pairs-end ms i (p .row) m h n) at (l .room)
 
-  pub next-stored : {out′ : List ℕ} {r : Place} → i < length ms → Passed out p i (getD ms i 0) out′ r
+  pub next-stored : {out′ : List ℕ} {r : Progress} → i < length ms → Passed out p i (getD ms i 0) out′ r
       → Left old start section out′ (r .at) (pairsFrom (i + 1) (r .row) (drop (i + 1) ms))
   next-stored {out′} {r} h s =
       let m = getD ms i 0 in
       subst (λ (k : ℕ). Left old start section out′ (r .at) (pairsFrom (i + 1) k (drop (i + 1) ms))) (sym (s .row))
       (left-more l (pairOf i (p .row) m) (pairsFrom (i + 1) (rowAfter (p .row) m) (drop (i + 1) ms)) (pairs-more ms i (p .row) h) (s .pair))
 
-  pub last-stored : {m : ℕ} {out′ : List ℕ} {r : Place} → length ms ≤ i → (m ≡ 1 → ⊥) → Passed out p i m out′ r
+  pub last-stored : {m : ℕ} {out′ : List ℕ} {r : Progress} → length ms ≤ i → (m ≡ 1 → ⊥) → Passed out p i m out′ r
       → Stored old start section out′ (r .at)
   last-stored {m} {out′} {r} h n s =
       left-last l (subst (λ (b : List ℕ). Stored out (p .at) b out′ (r .at)) (sym (pairs-end ms i (p .row) m h n)) (s .pair))
 
-pub row-room : {out out′ : List ℕ} {p r : Place} {i m : ℕ} → Passed out p i m out′ r → p .row ≤ i → r .row ≤ i + 1
+pub row-room : {out out′ : List ℕ} {p r : Progress} {i m : ℕ} → Passed out p i m out′ r → p .row ≤ i → r .row ≤ i + 1
 unfolding rowAfter
 row-room {p = p} {i = i} {m = m} s h = rw (s .row) (go (eqb m 1))
   where
@@ -67,7 +67,8 @@ row-room {p = p} {i = i} {m = m} s h = rw (s .row) (go (eqb m 1))
 -- ---- fingerprints and blocks
 
 module _ (size : ℕ) (b : List ℕ) where
-  elements-cons : (i m : ℕ) (ms : List ℕ) → markedElements size b i (m ∷ ms) ≡ ifMarked m (element size b i) ++ markedElements size b (suc i) ms
+  elements-cons : (i m : ℕ) (ms : List ℕ)
+      → markedElements size b i (m ∷ ms) ≡ ifMarked m (element size b i) ++ markedElements size b (suc i) ms
   unfolding markedElements ifMarked
   elements-cons i m ms = go (eqb m 1)
     where
@@ -104,13 +105,15 @@ module _ (size : ℕ) (b ms : List ℕ) (next from i : ℕ) {old section out : L
   pub part-room : i < length ms → next + length (ifMarked (getD ms i 0) (take (from + size - from) (drop from b))) ≤ length out
   part-room h =
       rw (taken size b from i f)
-      (left-room l (ifMarked (getD ms i 0) (element size b i)) (markedElements size b (i + 1) (drop (i + 1) ms)) (elements-more size b ms i h))
+      (left-room l (ifMarked (getD ms i 0) (element size b i)) (markedElements size b (i + 1) (drop (i + 1) ms))
+      (elements-more size b ms i h))
 
   pub part-stored : {out′ : List ℕ} {next′ : ℕ} → i < length ms
       → Stored out next (ifMarked (getD ms i 0) (take (from + size - from) (drop from b))) out′ next′
       → Left old start section out′ next′ (markedElements size b (i + 1) (drop (i + 1) ms))
   part-stored {out′} {next′} h s =
-      left-more l (ifMarked (getD ms i 0) (element size b i)) (markedElements size b (i + 1) (drop (i + 1) ms)) (elements-more size b ms i h)
+      left-more l (ifMarked (getD ms i 0) (element size b i)) (markedElements size b (i + 1) (drop (i + 1) ms))
+      (elements-more size b ms i h)
       (subst (λ (x : List ℕ). Stored out next (ifMarked (getD ms i 0) x) out′ next′) (taken size b from i f) s)
 
   pub all-stored : length ms ≤ i → Stored old start section out next

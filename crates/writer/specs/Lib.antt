@@ -1,4 +1,1 @@
-pub mod Writer
 pub mod Passes
-pub mod Runs
-pub mod RoundTrip

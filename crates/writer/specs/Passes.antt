@@ -7,11 +7,11 @@ use lib.ListN.{length}
 use Rattle.words.specs.Choice.{if_then_else_}
 use Rattle.words.specs.Sections.{flat, part}
 use Rattle.words.specs.Laying.{Stored}
-use Rattle.list.specs.Changes.{Pair}
+use Rattle.runs.specs.Changes.{Pair}
 use Rattle.words.specs.Blocks.{blockSize, printSize}
-use Rattle.writer.specs.Writer.{runBefore, runs, markedFrom, pairBytes, markedList}
+use Rattle.runs.specs.Writer.{runBefore, runs, markedFrom, pairBytes, markedList}
 use Rattle.writer.specs.declared.Tally.{Tally}
-use Rattle.writer.specs.declared.Place.{Place}
+use Rattle.writer.specs.declared.Progress.{Progress}
 
 -- the run that ends before LBN i, where k blocks in a row are marked before i and i's mark is m: none if i is marked too
 unfoldable pub endedRun : ℕ → ℕ → ℕ → List Pair
@@ -53,7 +53,7 @@ pub record Counted (marks : List ℕ) (t : Tally) : Type 0 where
   pub changes : t .changes ≡ length (markedFrom 0 marks)
 
 -- the mark m of LBN i was passed
-pub record Passed (out : List ℕ) (p : Place) (i m : ℕ) (out′ : List ℕ) (r : Place) : Type 0 where
+pub record Passed (out : List ℕ) (p : Progress) (i m : ℕ) (out′ : List ℕ) (r : Progress) : Type 0 where
   pub pair : Stored out (p .at) (pairOf i (p .row) m) out′ (r .at)
   pub row : r .row ≡ rowAfter (p .row) m
 

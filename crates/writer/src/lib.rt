@@ -6,10 +6,13 @@ ghost use lib.Dec.{leb};
 ghost use lib.Seq.{sets};
 ghost use Rattle.words.specs.Lists.{all};
 ghost use Rattle.words.specs.Laying.{Stored};
-ghost use Rattle.writer.specs.Passes.{rowAfter, pairOf, pairsFrom, ifMarked, markedElements, counted, Counted, Passed, Room};
-ghost use Rattle.writer.specs.Writer.{Wrote, markedList, inputOk};
+ghost use Rattle.writer.specs.Passes.{rowAfter, pairOf, pairsFrom, ifMarked, markedElements};
+ghost use Rattle.writer.specs.Passes.{counted, Counted, Passed, Room};
+ghost use Rattle.runs.specs.Writer.{Wrote, listOf, inputOk};
 use words::BLOCK_SIZE;
 use words::PRINT_SIZE;
+use words::limits::MAX_LBNS;
+use words::refusals;
 
 // What a pass over the marks counts: runs that ended, marked blocks, and marked blocks in a row up to here.
 struct Tally {
@@ -19,7 +22,7 @@ struct Tally {
 }
 
 // Where a pass that writes the pairs stands: the next byte, and the marked blocks in a row up to here.
-struct Place {
+struct Progress {
     at: usize,
     row: u16,
 }
@@ -44,7 +47,7 @@ fn input_ok(l: u16, marks: &[u8], prints: &[u8], image: &[u8]) -> bool
     if l < 1 {
         return false;
     }
-    if l > 1024 {
+    if l > MAX_LBNS as u16 {
         return false;
     }
     let n = l as usize;
@@ -110,29 +113,29 @@ fn count_marks(marks: &[u8]) -> Tally
 }
 
 // One mark more, that of the block lbn: the run goes on, or there was none, or it ends and its pair is written.
-fn put_mark(list: &mut [u8], p: Place, lbn: u16, mark: u8) -> Place
+fn put_mark(list: &mut [u8], p: Progress, lbn: u16, mark: u8) -> Progress
     requires { ⌜ (p .row ≤ lbn) × (lbn < 65535) × (p .at + length (pairOf lbn (p .row) mark) ≤ length (now list)) ⌝ }
     ensures { λ r. ⌜ Passed (now (list .entry)) p lbn mark (now (list .exit)) r ⌝ }
 {
     let at = p.at;
     let row = row_after(p.row, mark);
     if p.row < row {
-        return Place { at, row };
+        return Progress { at, row };
     }
     if p.row == 0 {
         return p;
     }
     words::put_u16(list, at, lbn - p.row);
     words::put_u16(list, at + 2, p.row);
-    Place { at: at + 4, row }
+    Progress { at: at + 4, row }
 }
 
-// The pairs of the longest runs, ended as in the count. As every writer of a section it answers the place past it.
+// The pairs of the longest runs, ended as in the count. As every writer of a section it answers the offset past it.
 fn put_runs(list: &mut [u8], at: usize, marks: &[u8]) -> usize
     requires { ⌜ (length (now marks) ≤ 1024) × (at + length (pairsFrom 0 0 (now marks)) ≤ length (now list)) ⌝ }
     ensures { λ r. ⌜ Stored (now (list .entry)) at (pairsFrom 0 0 (now (marks .entry))) (now (list .exit)) r ⌝ }
 {
-    let mut p = Place { at, row: 0 };
+    let mut p = Progress { at, row: 0 };
     let mut lbn = 0;
     while lbn < marks.len() {
         p = put_mark(list, p, lbn as u16, marks[lbn]);
@@ -156,8 +159,10 @@ fn put_if(list: &mut [u8], at: usize, mark: u8, bytes: &[u8]) -> usize
 
 // The marked ones of the elements, which are `size` bytes each: fingerprints or blocks.
 fn put_marked(list: &mut [u8], at: usize, marks: &[u8], elements: &[u8], size: usize) -> usize
-    requires { ⌜ (length (now elements) ≡ length (now marks) * size) × (at + length (markedElements size (now elements) 0 (now marks)) ≤ length (now list)) ⌝ }
-    ensures { λ r. ⌜ Stored (now (list .entry)) at (markedElements size (now (elements .entry)) 0 (now (marks .entry))) (now (list .exit)) r ⌝ }
+    requires { ⌜ length (now elements) ≡ length (now marks) * size ⌝ }
+    requires { ⌜ at + length (markedElements size (now elements) 0 (now marks)) ≤ length (now list) ⌝ }
+    ensures { λ r. ⌜ Stored (now (list .entry)) at (markedElements size (now (elements .entry)) 0 (now (marks .entry)))
+        (now (list .exit)) r ⌝ }
 {
     let mut next = at;
     let mut from = 0;
@@ -181,7 +186,7 @@ fn list_len(t: Tally) -> usize
 // The list, to the front of an output that has room for it.
 fn put_list(list: &mut [u8], runs: u16, marks: &[u8], prints: &[u8], image: &[u8])
     requires { ⌜ Room (now list) runs (now marks) (now prints) (now image) ⌝ }
-    ensures { λ _. ⌜ now (list .exit) ≡ sets (now (list .entry)) 0 (markedList (now (marks .entry)) (now (prints .entry)) (now (image .entry))) ⌝ }
+    ensures { λ _. ⌜ now (list .exit) ≡ sets (now (list .entry)) 0 (listOf marks prints image) ⌝ }
 {
     words::put_u16(list, 0, runs);
     let prints_from = put_runs(list, 2, marks);
@@ -199,15 +204,15 @@ pub extern "C" fn aspen_write_list(
     list: &mut [u8],
     written: &mut u32,
 ) -> u16
-    ensures { λ r. ⌜ Wrote l (now (marks .entry)) (now (prints .entry)) (now (image .entry)) (now (list .entry)) (now (written .entry)) r (now (list .exit)) (now (written .exit)) ⌝ }
+    ensures { λ r. ⌜ Wrote l marks prints image list written r ⌝ }
 {
     if !input_ok(l, marks, prints, image) {
-        return 19;
+        return refusals::BAD_INPUT;
     }
     let t = count_marks(marks);
     let size = list_len(t);
     if list.len() < size {
-        return 20;
+        return refusals::SHORT_OUTPUT;
     }
     put_list(list, t.runs, marks, prints, image);
     *written = size as u32;

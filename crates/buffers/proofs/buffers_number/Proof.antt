@@ -5,16 +5,20 @@ use native.Mathlib.Omega.{arith}
 use borrow.Author.Needs.{needs}
 use Rattle.words.specs.Blocks.{blockSize}
 use Rattle.book.specs.Form.{formNumber}
-use Rattle.book.proofs.InForm.{holds-form}
+use Rattle.book.proofs.FormBytes.{holds-form}
 use Rattle.book.specs.Layout.{bookOf}
 use Rattle.buffers.proofs.BuffersLaws.{buffers-form, buffers-pool, buffers-good}
 use Rattle.buffers.proofs.buffers_number.Statement.{statement}
 use Rattle.buffers.proofs.buffers_number.Tie as tie
 
-in-form : (c : tie.Else1) → formNumber (c .before .before .before .before .args .book .now) ≡ 0
+abbrev start : tie.Else1 → tie.Start
+start c = c .before .before .before .before
+
+in-form : (c : tie.Else1) → formNumber (start c .args .book .now) ≡ 0
 in-form c = sym (c .before .form-number .ensures) ∙ c .if1 .left
 
-size : (c : tie.After-blocks2) → c .blocks2 .result * blockSize ≡ bookOf (c .before .before .before .before .before .args .book .now) .sizes .n * blockSize
+size : (c : tie.After-blocks2)
+    → c .blocks2 .result * blockSize ≡ bookOf (start (c .before) .args .book .now) .sizes .n * blockSize
 size c = ap (λ (n : ℕ). n * blockSize) (c .blocks2 .ensures)
 
 returns : tie.Need-returns

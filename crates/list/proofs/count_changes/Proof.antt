@@ -5,9 +5,9 @@ use native.Mathlib.Omega.{arith}
 use lib.ListN.{drop}
 use Rattle.words.proofs.ChoiceLaws.{failed, passed}
 use Rattle.words.specs.Lists.{sum}
-use Rattle.list.specs.Changes.{pairAt, pairs, lengths, changeCount, pairsFit}
+use Rattle.runs.specs.Changes.{pairAt, pairs, lengths, changeCount, pairsFit}
 use Rattle.list.specs.declared.Counted.the-variants.{Fit}
-use Rattle.list.proofs.Pairs.{pair-fits}
+use Rattle.runs.proofs.Pairs.{pair-fits}
 use Rattle.list.proofs.Reading.{fit-more, fit-stop, count-more, pairs-end, counted-fit, counted-unfit}
 use Rattle.list.proofs.count_changes.Statement.{statement}
 use Rattle.list.proofs.count_changes.Tie as tie
@@ -27,21 +27,27 @@ loop-holds : tie.Need-loop-holds Inv-loop μ-loop
 unfolding changeCount
 loop-holds c = (omega arith, omega arith, omega arith, refl, omega arith)
 
+-- before a pair is read
+abbrev turn : tie.After-pair-fits Inv-loop μ-loop → tie.At-loop Inv-loop μ-loop
+turn c = c .before .before .before .before
+
 returns : tie.Need-returns Inv-loop μ-loop
 unfolding pairAt
 returns c =
-    let s = c .before .before .before .before .before .before .before in
-    let l = c .before .before .before .before .before .loop in
+    let s = turn (c .before) .before .before in
+    let l = turn (c .before) .loop in
     let b = s .args .list .now in
-    sym (counted-unfit (s .args .l) b
-    (l .inv .3 ∙ fit-stop b (l .i) (c .before .before .before .u16-at .result) (c .before .before .u16-at2 .result) (omega arith) (omega arith) (omega arith) (s .args .l) (l .end)
-    (failed (c .before .pair-fits .ensures) (c .if1 .taken))))
+    let first = c .before .before .before .u16-at .result in
+    let many = c .before .before .u16-at2 .result in
+    let f = failed (c .before .pair-fits .ensures) (c .if1 .taken) in
+    let stop = fit-stop b (l .i) first many (omega arith) (omega arith) (omega arith) (s .args .l) (l .end) f in
+    sym (counted-unfit (s .args .l) b (l .inv .3 ∙ stop))
 
 loop-again : tie.Need-loop-again Inv-loop μ-loop
 unfolding pairAt
 loop-again c =
-    let s = c .before .before .before .before .before .before .before in
-    let l = c .before .before .before .before .before .loop in
+    let s = turn (c .before) .before .before in
+    let l = turn (c .before) .loop in
     let b = s .args .list .now in
     let first = c .before .before .before .u16-at .result in
     let many = c .before .before .u16-at2 .result in

@@ -1,7 +1,7 @@
 -- `list::lbn_at`: the cursor stands in a pair, and its LBN lies as far from the pair's first.
 use native.Mathlib.Omega.{arith}
 use borrow.Author.Needs.{needs}
-use Rattle.list.specs.Changes.{pairAt}
+use Rattle.runs.specs.Changes.{pairAt}
 use Rattle.list.proofs.Cursors.{in-pair, lbn-there}
 use Rattle.list.proofs.lbn_at.Statement.{statement}
 use Rattle.list.proofs.lbn_at.Tie as tie

@@ -1,7 +1,7 @@
 -- `list::print_of`: the bounds of the part are those of the fingerprint.
 use native.Mathlib.Nat.{add-sub-cancel-left}
 use borrow.Author.Needs.{needs}
-use Rattle.list.specs.Changes.{printsFrom, changeAt}
+use Rattle.runs.specs.Changes.{printsFrom, changeAt}
 use Rattle.list.proofs.print_of.Statement.{statement}
 use Rattle.list.proofs.print_of.Tie as tie
 

@@ -1,7 +1,7 @@
 -- `list::prints`: the bounds of the part are those of the fingerprints.
 use native.Mathlib.Nat.{add-sub-cancel-left}
 use borrow.Author.Needs.{needs}
-use Rattle.list.specs.Changes.{printsFrom}
+use Rattle.runs.specs.Changes.{printsFrom}
 use Rattle.list.proofs.prints.Statement.{statement}
 use Rattle.list.proofs.prints.Tie as tie
 

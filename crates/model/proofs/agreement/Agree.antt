@@ -24,7 +24,9 @@ pub record Fit (x : Book) : Type 0 where
 -- the plain store's images of a volume's backups, from the map before them
 abbrev pub imagesOf : List ℕ → List Backup → List Image
 imagesOf m [] = []
-imagesOf m (b ∷ bs) = record { day = b .day; cells = applied m (b .records); changes = length (b .records) } ∷ imagesOf (applied m (b .records)) bs
+imagesOf m (b ∷ bs) =
+    record { day = b .day; cells = applied m (b .records); changed = length (b .records) }
+    ∷ imagesOf (applied m (b .records)) bs
 
 -- how many cells of the current maps name block p
 unfoldable pub named : Book → ℕ → ℕ

@@ -69,7 +69,7 @@ module _ {x : Book} {pool : List ℕ} {q : Plain} (g : Agree x pool q) where
       ext-getD [] (map (current (q .sizes)) (q .volumes)) (x .maps) (n ∙ sym (g .fit .sized .maps)) (λ v h. at v (omega arith))
     where
       at : (v : ℕ) → v < volumes → getD (map (current (q .sizes)) (q .volumes)) v [] ≡ getD (x .maps) v []
-      at v h = getD-map (current (q .sizes)) (q .volumes) v Plain.noVolume [] (rw (g .volumeCount) h) ∙ current-agree v h
+      at v h = getD-map (current (q .sizes)) (q .volumes) v Plain.unenrolled [] (rw (g .volumeCount) h) ∙ current-agree v h
 
   -- ---- days and numbers
 

@@ -13,22 +13,23 @@ use Rattle.words.specs.Blocks.{unmapped}
 use Rattle.words.specs.Choice.{if_then_else_}
 use Rattle.words.proofs.ChoiceLaws.{and-false, or-no}
 use Rattle.words.specs.Lists.{joined, countOf}
-use Rattle.words.proofs.Stores.{getD-set-kept}
-use Rattle.list.specs.Changes.{Change, changeCount, changes}
-use Rattle.list.proofs.Laws.{length-changes, changes-rise}
+use Rattle.words.proofs.SetLaws.{getD-set-kept}
+use Rattle.runs.specs.Changes.{Change, changeCount, changes}
+use Rattle.runs.proofs.Laws.{length-changes, changes-rise}
 use Rattle.book.specs.Book.{volumes, Sizes, Slot, Rec, Book, entryAt, retentionOf}
 use Rattle.book.specs.Next.{withDay, withSlot}
-use Rattle.book.proofs.FormParts.{book-parts}
+use Rattle.book.proofs.Clauses.{book-parts}
 use Rattle.model.specs.Journal.{Backup, journalOf, journal, backupsIn}
 use Rattle.model.specs.Audit.{applied, replayed, noMaps, untilIn, printsSound}
 use Rattle.model.specs.Backup.{Work, closed}
 use Rattle.model.specs.Plain
 use Rattle.model.specs.Plain.{Image, Volume, Plain, volumeAt, noMap, withBlocks, withVolume}
 use Rattle.model.specs.PlainBackup
-use Rattle.model.specs.PlainBackup.{withImage}
+use Rattle.model.specs.PlainBackup.{withImage, PlainWork}
 use Rattle.model.proofs.kept.Sound.{SoundAll, Days, Rising, AllRise}
 use Rattle.model.proofs.agreement.Agree.{Fit, Agree, imagesOf, named, reaches}
-use Rattle.model.proofs.kept.JournalLaws.{journalOf-append, backupsIn-append, replayed-append, soundAll-append, days-append, allRise-append, untilIn-append, untilIn-book, reaches-append}
+use Rattle.model.proofs.kept.JournalLaws.{journalOf-append, backupsIn-append, replayed-append, soundAll-append, days-append}
+use Rattle.model.proofs.kept.JournalLaws.{allRise-append, untilIn-append, untilIn-book, reaches-append}
 use Rattle.model.proofs.kept.Replays.{mapAfter, imagesOf-append}
 use Rattle.model.proofs.agreement.AgreeLaws.{map-after}
 use Rattle.model.proofs.kept.Reaches.{reached-earlier}
@@ -44,11 +45,13 @@ unfolding Rising
 rising-from a [] low up = tt
 rising-from a (r ∷ rs) low up = (
   low 0 (omega arith),
-  rising-from (suc (r .lbn)) rs (λ i h. up 0 (suc i) (omega arith) (omega arith)) (λ i j h k. up (suc i) (suc j) (omega arith) (omega arith)),
+  rising-from (suc (r .lbn)) rs (λ i h. up 0 (suc i) (omega arith) (omega arith))
+      (λ i j h k. up (suc i) (suc j) (omega arith) (omega arith)),
 )
 
-module _ {x : Book} {pool : List ℕ} {q : Plain} (g : Agree x pool q) (v t : ℕ) (list : List ℕ) (ok : Allowed x v t list) (inside : v < volumes)
-    (w : Work) (u : PlainBackup.Work) (a : Level x v w u) (r : Trail x v (t + retentionOf x v) (changes list) w u) where
+module _ {x : Book} {pool : List ℕ} {q : Plain} (g : Agree x pool q) (v t : ℕ) (list : List ℕ) (ok : Allowed x v t list)
+    (inside : v < volumes)
+    (w : Work) (u : PlainWork) (a : Level x v w u) (r : Trail x v (t + retentionOf x v) (changes list) w u) where
   -- our book and the store after
   abbrev pub y : Book
   y = closed x v t (changeCount list) w .book
@@ -62,14 +65,17 @@ module _ {x : Book} {pool : List ℕ} {q : Plain} (g : Agree x pool q) (v t : �
 
   length-new : length (r .new) ≡ changeCount list
   length-new =
-      sym (length-map (r .new) (λ (r : Rec). r .lbn)) ∙ ap length (r .lbns) ∙ length-map (changes list) (λ (c : Change). c .lbn) ∙ length-changes list
+      sym (length-map (r .new) (λ (r : Rec). r .lbn)) ∙ ap length (r .lbns)
+      ∙ length-map (changes list) (λ (c : Change). c .lbn) ∙ length-changes list
 
   pub journal-after : journal y ≡ journal x ++ (b ∷ [])
   unfolding journal closed withDay withSlot
   journal-after =
-      ap₂ (λ (ts : List Slot) (rs : List Rec). journalOf (ts ++ (record { volume = v; day = t; first = length (x .records); number = changeCount list } ∷ [])) rs)
+      ap₂ (λ (ts : List Slot) (rs : List Rec). journalOf
+      (ts ++ (record { volume = v; day = t; first = length (x .records); number = changeCount list } ∷ [])) rs)
       (a .slots) (r .records)
-      ∙ journalOf-append (x .slots) (x .records) (record { volume = v; day = t; first = length (x .records); number = changeCount list }) (r .new) 0
+      ∙ journalOf-append (x .slots) (x .records)
+      (record { volume = v; day = t; first = length (x .records); number = changeCount list }) (r .new) 0
       (rw zero-add (book-parts x (g .fit .form) .pairs)) length-new
 
   pub rising-new : Rising 0 (r .new)
@@ -84,18 +90,19 @@ module _ {x : Book} {pool : List ℕ} {q : Plain} (g : Agree x pool q) (v t : �
 
   -- volume v with its image
   abbrev added : Volume
-  added = withImage (record { day = t; cells = u .copy; changes = changeCount list }) (volumeAt q v)
+  added = withImage (record { day = t; cells = u .copy; changed = changeCount list }) (volumeAt q v)
 
   retentions-after : (z : ℕ) → z < volumes → volumeAt q′ z .retention ≡ retentionOf y z
-  unfolding closed withDay withSlot PlainBackup.closed Plain.withDay withBlocks withVolume withImage
+  unfolding closed withDay withSlot PlainBackup.closed Plain.atDay withBlocks withVolume withImage
   retentions-after z h =
-      getD-set-kept (λ (u : Volume). u .retention) (q .volumes) v added Plain.noVolume refl z
+      getD-set-kept (λ (u : Volume). u .retention) (q .volumes) v added Plain.unenrolled refl z
       ∙ g .retentions z h ∙ ap (λ (l : List ℕ). getD l z 0) (sym (a .retentions))
 
   -- the image that is added is the backup's
-  image-added : imagesOf (mapAfter (noMap (x .sizes)) (backupsIn v (journal x))) (b ∷ []) ≡ record { day = t; cells = u .copy; changes = changeCount list } ∷ []
+  image-added : imagesOf (mapAfter (noMap (x .sizes)) (backupsIn v (journal x))) (b ∷ [])
+      ≡ record { day = t; cells = u .copy; changed = changeCount list } ∷ []
   image-added =
-      ap₂ (λ (m : List ℕ) (k : ℕ). record { day = t; cells = m; changes = k } ∷ [])
+      ap₂ (λ (m : List ℕ) (k : ℕ). record { day = t; cells = m; changed = k } ∷ [])
       (ap (λ (m : List ℕ). applied m (r .new)) (sym (map-after g v inside)) ∙ sym (r .copy)) length-new
 
   images-split : (z : ℕ) → z < volumes → imagesOf (noMap (y .sizes)) (backupsIn z (journal y))
@@ -108,21 +115,21 @@ module _ {x : Book} {pool : List ℕ} {q : Plain} (g : Agree x pool q) (v t : �
       ∙ ap (λ (is : List Image). is ++ imagesOf (mapAfter (noMap (x .sizes)) (backupsIn z (journal x))) (if eqb v z then b ∷ [] else []))
       (sym (g .images z h))
 
-  volume-after : (z : ℕ) (s : Bool) → eqb v z ≡ s → getD (set (q .volumes) v added) z Plain.noVolume .images
+  volume-after : (z : ℕ) (s : Bool) → eqb v z ≡ s → getD (set (q .volumes) v added) z Plain.unenrolled .images
       ≡ volumeAt q z .images ++ imagesOf (mapAfter (noMap (x .sizes)) (backupsIn z (journal x))) (if s then b ∷ [] else [])
   unfolding withImage
   volume-after z true e =
       let k : v < length (q .volumes) = omega (arith, g .volumeCount) in
-      subst (λ (z : ℕ). getD (set (q .volumes) v added) z Plain.noVolume .images
+      subst (λ (z : ℕ). getD (set (q .volumes) v added) z Plain.unenrolled .images
       ≡ volumeAt q z .images ++ imagesOf (mapAfter (noMap (x .sizes)) (backupsIn z (journal x))) (b ∷ [])) (eqb-true v z e)
-      (ap (λ (u : Volume). u .images) (getD-set-same (q .volumes) v added Plain.noVolume k)
+      (ap (λ (u : Volume). u .images) (getD-set-same (q .volumes) v added Plain.unenrolled k)
       ∙ ap (λ (is : List Image). volumeAt q v .images ++ is) (sym image-added))
   volume-after z false e =
-      ap (λ (u : Volume). u .images) (getD-set-other (q .volumes) v z added Plain.noVolume (λ d. eqb-false v z e (sym d)))
+      ap (λ (u : Volume). u .images) (getD-set-other (q .volumes) v z added Plain.unenrolled (λ d. eqb-false v z e (sym d)))
       ∙ sym (append-nil (volumeAt q z .images))
 
   images-after : (z : ℕ) → z < volumes → volumeAt q′ z .images ≡ imagesOf (noMap (y .sizes)) (backupsIn z (journal y))
-  unfolding PlainBackup.closed Plain.withDay withBlocks withVolume
+  unfolding PlainBackup.closed Plain.atDay withBlocks withVolume
   images-after z h = volume-after z (eqb v z) refl ∙ sym (images-split z h)
 
   -- ---- maps and journal
@@ -197,7 +204,7 @@ module _ {x : Book} {pool : List ℕ} {q : Plain} (g : Agree x pool q) (v t : �
   -- ---- all of it
 
   pub agree-after : Fit y → Agree y (w .pool) q′
-  unfolding closed withDay withSlot PlainBackup.closed Plain.withDay withBlocks withVolume printsSound
+  unfolding closed withDay withSlot PlainBackup.closed Plain.atDay withBlocks withVolume printsSound
   agree-after fit =
       let n : w .book .sizes .n ≡ x .sizes .n = ap (λ s. s .n) (a .sizes) in
       record {

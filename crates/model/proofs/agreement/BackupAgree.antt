@@ -1,5 +1,5 @@
--- A backup on both sides, from where they agree: refused by the same number, which is never 1 to 4 or 13, or accepted with the same answer, and
--- then both agree again. Entries that the changes don't name stay.
+-- A backup on both sides, from where they agree: refused by the same number, which is never 1 to 4 or 13, or accepted with the same
+-- answer, and then both agree again. Entries that the changes don't name stay.
 use Prim.Native.Nat.{ℕ, zero, suc, _+_, _<_}
 use mathlib.Core.Path.{_≡_, refl, sym, ap, subst, _∙_}
 use mathlib.Core.Bool.{false, _&&_}
@@ -7,12 +7,13 @@ use mathlib.Core.List.{List}
 use native.Mathlib.Omega.{arith}
 use Rattle.words.specs.Lists.{someOf}
 use Rattle.words.specs.Outcome.{Outcome, refused, accepted, andThen, unless}
-use Rattle.list.specs.Changes.{changes, changeCount, lbns}
+use Rattle.runs.specs.Changes.{changes, changeCount, lbns}
 use Rattle.book.specs.Book.{volumes, Book, entryAt, retentionOf}
 use Rattle.book.proofs.SizesIn.{sizes-facts}
 use Rattle.model.specs.Backup.{Work, Backed, begun, closed, runChanges, backupNumber, backup}
 use Rattle.model.specs.Plain.{Plain, currentMaps}
 use Rattle.model.specs.PlainBackup
+use Rattle.model.specs.PlainBackup.{PlainWork, PlainBacked}
 use Rattle.model.specs.Calls.{isBacked}
 use Rattle.model.specs.Runs.{plain, plainBacked}
 use Rattle.model.specs.Claims.{isOldOrNew, changesName, isDamage}
@@ -27,7 +28,7 @@ use Rattle.model.proofs.agreement.BackupAfter.{agree-after}
 use Rattle.model.proofs.agreement.BackupTouching.{touching}
 
 -- an accepted backup from the book x and the store q, as both sides have it
-pub record BackedAlike (x : Book) (q : Plain) (v : ℕ) (list : List ℕ) (d : Backed) (e : PlainBackup.Backed) : Type 0 where
+pub record BackedAlike (x : Book) (q : Plain) (v : ℕ) (list : List ℕ) (d : Backed) (e : PlainBacked) : Type 0 where
   pub number : e .number ≡ d .number
   pub taken : e .taken ≡ d .taken
   pub touched : e .touched ≡ d .touched
@@ -35,13 +36,13 @@ pub record BackedAlike (x : Book) (q : Plain) (v : ℕ) (list : List ℕ) (d : B
   pub touching : (p : ℕ) → p < x .sizes .n → someOf (isOldOrNew q (e .store) v p) (lbns list) ≡ false
       → entryAt (d .book .entries) p ≡ entryAt (x .entries) p
 
-pub data BothBacked (x : Book) (q : Plain) (v : ℕ) (list : List ℕ) : Outcome Backed → Outcome PlainBackup.Backed → Type 0 where
+pub data BothBacked (x : Book) (q : Plain) (v : ℕ) (list : List ℕ) : Outcome Backed → Outcome PlainBacked → Type 0 where
   stopped : (k : ℕ) → isDamage k ≡ false → BothBacked x q v list (refused k) (refused k)
-  backed : (d : Backed) (e : PlainBackup.Backed) → BackedAlike x q v list d e → BothBacked x q v list (accepted d) (accepted e)
+  backed : (d : Backed) (e : PlainBacked) → BackedAlike x q v list d e → BothBacked x q v list (accepted d) (accepted e)
 
 module _ {x : Book} {pool : List ℕ} {q : Plain} (g : Agree x pool q) (v t : ℕ) (list : List ℕ) where
   -- the changes are made, and the slot is added
-  close-both : Allowed x v t list → v < volumes → (o : Outcome Work) (o′ : Outcome PlainBackup.Work)
+  close-both : Allowed x v t list → v < volumes → (o : Outcome Work) (o′ : Outcome PlainWork)
       → BothMoved x v (t + retentionOf x v) (changes list) o o′
       → BothBacked x q v list (andThen o (λ w. accepted (closed x v t (changeCount list) w)))
       (andThen o′ (λ u. accepted (PlainBackup.closed q v t (changeCount list) u)))
@@ -73,8 +74,10 @@ module _ {x : Book} {pool : List ℕ} {q : Plain} (g : Agree x pool q) (v t : �
       ours : Outcome Backed
       ours = andThen (runChanges v (t + retentionOf x v) (changes list) (begun x pool)) (λ w. accepted (closed x v t (changeCount list) w))
 
-      theirs : Outcome PlainBackup.Backed
-      theirs = andThen (PlainBackup.runChanges (currentMaps q) v (changes list) (PlainBackup.begun q v)) (λ u. accepted (PlainBackup.closed q v t (changeCount list) u))
+      theirs : Outcome PlainBacked
+      theirs =
+          andThen (PlainBackup.runChanges (currentMaps q) v (changes list) (PlainBackup.begun q v))
+          (λ u. accepted (PlainBackup.closed q v t (changeCount list) u))
 
       go : (k : ℕ) → backupNumber x v t list ≡ k → BothBacked x q v list (unless k ours) (unless k theirs)
       go zero e = run-agree (number-zero x v t list e)
@@ -88,7 +91,7 @@ module _ {x : Book} {pool : List ℕ} {q : Plain} (g : Agree x pool q) (v t : �
   unfolding changesName plain plainBacked
   backup-touching d e p h n = go (backup x pool v t list) (PlainBackup.backup q v t list) backup-agree e n
     where
-      go : (o : Outcome Backed) (o′ : Outcome PlainBackup.Backed) → BothBacked x q v list o o′ → o ≡ accepted d
+      go : (o : Outcome Backed) (o′ : Outcome PlainBacked) → BothBacked x q v list o o′ → o ≡ accepted d
           → (isBacked (plainBacked q o′ .answer) && someOf (isOldOrNew q (plainBacked q o′ .next) v p) (lbns list)) ≡ false
           → entryAt (d .book .entries) p ≡ entryAt (x .entries) p
       go o o′ (stopped k z) f m = absurd (let z : _≡_ {A = ℕ} 0 1 = cc in omega arith)
@@ -100,6 +103,6 @@ module _ {x : Book} {pool : List ℕ} {q : Plain} (g : Agree x pool q) (v t : �
   pub backup-undamaged : (k : ℕ) → backup x pool v t list ≡ refused k → isDamage k ≡ false
   backup-undamaged k e = go (backup x pool v t list) (PlainBackup.backup q v t list) backup-agree e
     where
-      go : (o : Outcome Backed) (o′ : Outcome PlainBackup.Backed) → BothBacked x q v list o o′ → o ≡ refused k → isDamage k ≡ false
+      go : (o : Outcome Backed) (o′ : Outcome PlainBacked) → BothBacked x q v list o o′ → o ≡ refused k → isDamage k ≡ false
       go o o′ (stopped j z) f = let same : j ≡ k = cc in sym (ap isDamage same) ∙ z
       go o o′ (backed d′ e′ a) f = absurd (let z : _≡_ {A = ℕ} 0 1 = cc in omega arith)

@@ -5,7 +5,7 @@ use mathlib.Core.Bool.{Bool, true, false, not, _||_}
 use mathlib.Core.List.{List}
 use lib.Dec.{leb, ltb, eqb}
 use lib.ListN.{length}
-use Rattle.list.specs.Changes.{changeCount, listNumber}
+use Rattle.runs.specs.Changes.{changeCount, listNumber}
 use Rattle.book.specs.Book.{Book}
 use Rattle.model.specs.Days.{badDay, notAfter}
 use Rattle.model.specs.Journal.{days, noVolume}

@@ -14,10 +14,10 @@ use Rattle.words.proofs.ChoiceLaws.{or-cases, or-no}
 use Rattle.words.specs.Lists.{all, joined, countOf}
 use Rattle.words.proofs.Places.{all-place}
 use Rattle.words.proofs.Runs.{below-or-not}
-use Rattle.list.specs.Changes.{Change}
+use Rattle.runs.specs.Changes.{Change}
 use Rattle.book.specs.Book.{volumes, Book}
 use Rattle.book.specs.Form.{pbnOk}
-use Rattle.book.proofs.FormParts.{book-parts}
+use Rattle.book.proofs.Clauses.{book-parts}
 use Rattle.book.proofs.SizesIn.{sizes-facts}
 use Rattle.model.specs.Backup.{begun, runChanges}
 use Rattle.model.specs.Plain.{Plain, volumeAt, current, currentMaps}
@@ -101,4 +101,5 @@ module _ {x : Book} {pool : List ℕ} {q : Plain} (g : Agree x pool q) (v : ℕ)
   changes-both until cs f =
       let small = sizes-facts (x .sizes) (g .fit .sizes) in
       rw (maps-agree g)
-      (run-both x v until (omega (arith, g .fit .sized .maps)) (omega arith) [] cs f (begun x pool) (PlainBackup.begun q v) start-level (start-trail until))
+      (run-both x v until (omega (arith, g .fit .sized .maps)) (omega arith) [] cs f (begun x pool)
+      (PlainBackup.begun q v) start-level (start-trail until))

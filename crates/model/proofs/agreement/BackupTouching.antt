@@ -10,8 +10,8 @@ use lib.Seq.{getD-set-same}
 use Rattle.words.proofs.Appends.{map-append, lastOf-append}
 use Rattle.words.specs.Blocks.{unmapped}
 use Rattle.words.specs.Lists.{someOf, lastOf}
-use Rattle.list.specs.Changes.{changes, changeCount, lbns}
-use Rattle.list.proofs.Laws.{changes-lbns}
+use Rattle.runs.specs.Changes.{changes, changeCount, lbns}
+use Rattle.runs.proofs.Laws.{changes-lbns}
 use Rattle.book.specs.Book.{volumes, Rec, Book, entryAt, retentionOf}
 use Rattle.book.specs.Next.{withDay, withSlot}
 use Rattle.model.specs.Audit.{applied}
@@ -19,7 +19,7 @@ use Rattle.model.specs.Backup.{Work, closed}
 use Rattle.model.specs.Plain
 use Rattle.model.specs.Plain.{Image, Plain, volumeAt, noMap, mapsOf, current, withBlocks, withVolume}
 use Rattle.model.specs.PlainBackup
-use Rattle.model.specs.PlainBackup.{withImage}
+use Rattle.model.specs.PlainBackup.{withImage, PlainWork}
 use Rattle.model.specs.Claims.{isOldOrNew}
 use Rattle.model.proofs.agreement.Agree.{Agree}
 use Rattle.model.proofs.agreement.AgreeLaws.{current-agree}
@@ -29,17 +29,20 @@ use Rattle.model.proofs.agreement.Trail.{Trail}
 use Rattle.model.proofs.agreement.Touching.{unnamed}
 use Rattle.model.proofs.agreement.BackupAfter.{rising-new}
 
-module _ {x : Book} {pool : List ℕ} {q : Plain} (g : Agree x pool q) (v t : ℕ) (list : List ℕ) (ok : Allowed x v t list) (inside : v < volumes)
-    (w : Work) (u : PlainBackup.Work) (a : Level x v w u) (r : Trail x v (t + retentionOf x v) (changes list) w u) where
+module _ {x : Book} {pool : List ℕ} {q : Plain} (g : Agree x pool q) (v t : ℕ) (list : List ℕ) (ok : Allowed x v t list)
+    (inside : v < volumes)
+    (w : Work) (u : PlainWork) (a : Level x v w u) (r : Trail x v (t + retentionOf x v) (changes list) w u) where
   -- the image that is added
   abbrev image : Image
-  image = record { day = t; cells = u .copy; changes = changeCount list }
+  image = record { day = t; cells = u .copy; changed = changeCount list }
 
   -- the current map after is the copy
-  current-after : current (q .sizes) (getD (set (q .volumes) v (withImage image (volumeAt q v))) v Plain.noVolume) ≡ applied (getD (x .maps) v []) (r .new)
+  current-after : current (q .sizes) (getD (set (q .volumes) v (withImage image (volumeAt q v))) v Plain.unenrolled)
+      ≡ applied (getD (x .maps) v []) (r .new)
   unfolding withImage
   current-after =
-      ap (current (q .sizes)) (getD-set-same (q .volumes) v (withImage image (volumeAt q v)) Plain.noVolume (omega (arith, g .volumeCount)))
+      ap (current (q .sizes)) (getD-set-same (q .volumes) v (withImage image (volumeAt q v)) Plain.unenrolled
+      (omega (arith, g .volumeCount)))
       ∙ ap (λ (ms : List (List ℕ)). lastOf (noMap (q .sizes)) ms) (map-append (λ (i : Image). i .cells) (volumeAt q v .images) (image ∷ []))
       ∙ lastOf-append (noMap (q .sizes)) (mapsOf (volumeAt q v .images)) (u .copy ∷ [])
       ∙ r .copy
@@ -48,17 +51,22 @@ module _ {x : Book} {pool : List ℕ} {q : Plain} (g : Agree x pool q) (v t : �
   abbrev inNone : ℕ → List ℕ → List ℕ → List ℕ → Type 0
   inNone p old new ls = someOf (λ l. eqb p (getD old l unmapped) || eqb p (getD new l unmapped)) ls ≡ false
 
-  pub touching : (p : ℕ) → p < x .sizes .n → someOf (isOldOrNew q (PlainBackup.closed q v t (changeCount list) u .store) v p) (lbns list) ≡ false
+  pub touching : (p : ℕ) → p < x .sizes .n
+      → someOf (isOldOrNew q (PlainBackup.closed q v t (changeCount list) u .store) v p) (lbns list) ≡ false
       → entryAt (closed x v t (changeCount list) w .book .entries) p ≡ entryAt (x .entries) p
-  unfolding closed withDay withSlot PlainBackup.closed Plain.withDay withBlocks withVolume
+  unfolding closed withDay withSlot PlainBackup.closed Plain.atDay withBlocks withVolume
   touching p h e =
       let n = unnamed p (getD (x .maps) v []) (r .new) (r .sound) (rising-new g v t list ok inside w u a r) (renamed e) in
       r .kept p h (n .0) (n .1)
     where
-      renamed : inNone p (current (q .sizes) (volumeAt q v)) (current (q .sizes) (getD (set (q .volumes) v (withImage image (volumeAt q v))) v Plain.noVolume)) (lbns list)
+      renamed : inNone p (current (q .sizes) (volumeAt q v))
+          (current (q .sizes) (getD (set (q .volumes) v (withImage image (volumeAt q v))) v Plain.unenrolled))
+          (lbns list)
           → inNone p (getD (x .maps) v []) (applied (getD (x .maps) v []) (r .new)) (map (λ (r : Rec). r .lbn) (r .new))
       renamed n =
           subst (inNone p (getD (x .maps) v []) (applied (getD (x .maps) v []) (r .new))) (sym (changes-lbns list) ∙ sym (r .lbns))
           (subst (λ (m : List ℕ). inNone p (getD (x .maps) v []) m (lbns list)) current-after
-          (subst (λ (m : List ℕ). inNone p m (current (q .sizes) (getD (set (q .volumes) v (withImage image (volumeAt q v))) v Plain.noVolume)) (lbns list))
+          (subst (λ (m : List ℕ). inNone p m
+          (current (q .sizes) (getD (set (q .volumes) v (withImage image (volumeAt q v))) v Plain.unenrolled))
+          (lbns list))
           (current-agree g v inside) n))

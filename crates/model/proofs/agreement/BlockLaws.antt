@@ -77,7 +77,8 @@ module _ (pool c : List ℕ) (p : ℕ) (h : blockSize ≤ length pool) where
   drop-with : drop blockSize (withBlock pool (suc p) c) ≡ withBlock (drop blockSize pool) p c
   drop-with = rw (with-split pool c p) (drop-at (take blockSize pool) _ blockSize (length-take-le blockSize pool h))
 
-pub length-with : (pool c : List ℕ) (p n : ℕ) → length c ≡ blockSize → p < n → length pool ≡ poolSize n → length (withBlock pool p c) ≡ poolSize n
+pub length-with : (pool c : List ℕ) (p n : ℕ) → length c ≡ blockSize → p < n → length pool ≡ poolSize n
+    → length (withBlock pool p c) ≡ poolSize n
 length-with pool c p n l h k = simp (length-append, length-take, length-drop) (omega arith)
 
 pub taken-same : (es : List Entry) (pool f c : List ℕ) (p : ℕ) → p < length es → length pool ≡ poolSize (length es) → length c ≡ blockSize

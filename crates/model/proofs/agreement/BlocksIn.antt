@@ -18,7 +18,8 @@ use Rattle.model.specs.Runs.{blocksIn}
 abbrev pub blockOf : Entry → List ℕ → Block
 blockOf e c = if e .held then held (e .print) c else free
 
-pub blocksIn-at : (es : List Entry) (pool : List ℕ) (p : ℕ) → p < length es → getD (blocksIn es pool) p free ≡ blockOf (entryAt es p) (blockAt pool p)
+pub blocksIn-at : (es : List Entry) (pool : List ℕ) (p : ℕ) → p < length es
+    → getD (blocksIn es pool) p free ≡ blockOf (entryAt es p) (blockAt pool p)
 blocksIn-at [] pool p h = absurd (omega arith)
 blocksIn-at (e ∷ es) pool zero h = refl
 blocksIn-at (e ∷ es) pool (suc p) h =

@@ -14,7 +14,7 @@ use Rattle.book.specs.Book.{Book, Entry, freeEntry, entryAt, isFree}
 use Rattle.book.specs.Next.{withDay, withEntries}
 use Rattle.model.specs.Journal.{journal}
 use Rattle.model.specs.Audit.{noMaps, untilIn, printsSound}
-use Rattle.model.specs.Collect.{collectNumber, isOver, entryAfter, collected}
+use Rattle.model.specs.Collect.{collectNumber, isOver, sweptEntry, collected}
 use Rattle.model.proofs.claims.CollectLaws.{collect-days, over-was-held}
 use Rattle.model.specs.Plain
 use Rattle.model.specs.Plain.{Plain, marked, swept, sweptCount}
@@ -30,7 +30,8 @@ module _ {x : Book} {pool : List ℕ} {q : Plain} (g : Agree x pool q) where
   collect-number t = rw (g .day)
 
   -- the test of each held entry
-  pub over-entry : (t p : ℕ) → p < x .sizes .n → entryAt (x .entries) p .held ≡ true → isOver t (entryAt (x .entries) p) ≡ not (marked q t p)
+  pub over-entry : (t p : ℕ) → p < x .sizes .n → entryAt (x .entries) p .held ≡ true
+      → isOver t (entryAt (x .entries) p) ≡ not (marked q t p)
   over-entry t p h k = over-held t (entryAt (x .entries) p) k ∙ over-marked g t p h k
 
   over-place : (t j : ℕ) → j < length (x .entries) → entryAt (x .entries) j .held ≡ true
@@ -41,8 +42,8 @@ module _ {x : Book} {pool : List ℕ} {q : Plain} (g : Agree x pool q) where
   unfolding collected Plain.collected
   collect-freed t = sym (ap (sweptCount (marked q t) 0) (g .blocks) ∙ swept-count (marked q t) t 0 (x .entries) pool (over-place t))
 
-  entry-after : (t p : ℕ) → p < x .sizes .n → entryAt (map (entryAfter t) (x .entries)) p ≡ entryAfter t (entryAt (x .entries) p)
-  entry-after t p h = getD-map (entryAfter t) (x .entries) p freeEntry freeEntry (rw (g .fit .sized .entries) h)
+  entry-after : (t p : ℕ) → p < x .sizes .n → entryAt (map (sweptEntry t) (x .entries)) p ≡ sweptEntry t (entryAt (x .entries) p)
+  entry-after t p h = getD-map (sweptEntry t) (x .entries) p freeEntry freeEntry (rw (g .fit .sized .entries) h)
 
   -- document 01: "a block held in our book before is free after exactly when no current map and no backup kept at T .. points to it"
   pub freeing : (t p : ℕ) → p < x .sizes .n → entryAt (x .entries) p .held ≡ true
@@ -50,13 +51,13 @@ module _ {x : Book} {pool : List ℕ} {q : Plain} (g : Agree x pool q) where
   unfolding collected withDay withEntries
   freeing t p h k = rw (entry-after t p h, after-held, k, over-entry t p h k) (Bool·not-not (not (marked q t p)))
 
-  count-after : (t p : ℕ) → p < x .sizes .n → entryAt (map (entryAfter t) (x .entries)) p .count ≡ named x p
+  count-after : (t p : ℕ) → p < x .sizes .n → entryAt (map (sweptEntry t) (x .entries)) p .count ≡ named x p
   count-after t p h = ap (λ (e : Entry). e .count) (entry-after t p h) ∙ after-count t (entryAt (x .entries) p) ∙ g .counts p h
 
-  expiry-after : (t p : ℕ) → p < x .sizes .n → entryAt (map (entryAfter t) (x .entries)) p .expiry ≡ untilIn x p (journal x)
+  expiry-after : (t p : ℕ) → p < x .sizes .n → entryAt (map (sweptEntry t) (x .entries)) p .expiry ≡ untilIn x p (journal x)
   expiry-after t p h = ap (λ (e : Entry). e .expiry) (entry-after t p h) ∙ after-expiry t (entryAt (x .entries) p) ∙ g .expiries p h
 
-  held-after : (t p : ℕ) → p < x .sizes .n → entryAt (map (entryAfter t) (x .entries)) p .held ≡ true → entryAt (x .entries) p .held ≡ true
+  held-after : (t p : ℕ) → p < x .sizes .n → entryAt (map (sweptEntry t) (x .entries)) p .held ≡ true → entryAt (x .entries) p .held ≡ true
   held-after t p h k =
       and-true (entryAt (x .entries) p .held) (not (isOver t (entryAt (x .entries) p)))
       (sym (after-held t (entryAt (x .entries) p)) ∙ ap (λ (e : Entry). e .held) (sym (entry-after t p h)) ∙ k) .0
@@ -73,20 +74,22 @@ module _ {x : Book} {pool : List ℕ} {q : Plain} (g : Agree x pool q) where
         sym (until-reaches x t p (journal x) (omega arith)) ∙ lt-leb t (untilIn x p (journal x)) (omega arith),
       )
 
-  free-after : (t p : ℕ) → x .day ≤ t → p < x .sizes .n → entryAt (map (entryAfter t) (x .entries)) p .held ≡ false
+  free-after : (t p : ℕ) → x .day ≤ t → p < x .sizes .n → entryAt (map (sweptEntry t) (x .entries)) p .held ≡ false
       → (named x p ≡ 0) × (reaches x t p ≡ false)
   unfolding reaches
   free-after t p late h k = go (entryAt (x .entries) p .held) (isOver t (entryAt (x .entries) p)) refl refl
     where
-      go : (a o : Bool) → entryAt (x .entries) p .held ≡ a → isOver t (entryAt (x .entries) p) ≡ o → (named x p ≡ 0) × (reaches x t p ≡ false)
+      go : (a o : Bool) → entryAt (x .entries) p .held ≡ a → isOver t (entryAt (x .entries) p) ≡ o
+          → (named x p ≡ 0) × (reaches x t p ≡ false)
       go a true e f = over-free t p h f
       go false false e f = let w = g .free p h e in (w .0, reached-earlier x (x .day) t p (journal x) late (w .1))
       go true false e f =
-          let a : entryAfter t (entryAt (x .entries) p) .held ≡ true = rw (after-held, e, f) in
-          absurd (not-both (entryAfter t (entryAt (x .entries) p) .held) a (ap (λ (e : Entry). e .held) (sym (entry-after t p h)) ∙ k))
+          let a : sweptEntry t (entryAt (x .entries) p) .held ≡ true = rw (after-held, e, f) in
+          absurd (not-both (sweptEntry t (entryAt (x .entries) p) .held) a (ap (λ (e : Entry). e .held) (sym (entry-after t p h)) ∙ k))
 
-  pub collect-agree : (t : ℕ) → collectNumber x t ≡ 0 → Fit (collected x t .book) → Agree (collected x t .book) pool (Plain.collected q t .store)
-  unfolding collected withDay withEntries Plain.collected Plain.withDay Plain.withBlocks journal noMaps named reaches printsSound
+  pub collect-agree : (t : ℕ) → collectNumber x t ≡ 0 → Fit (collected x t .book)
+      → Agree (collected x t .book) pool (Plain.collected q t .store)
+  unfolding collected withDay withEntries Plain.collected Plain.atDay Plain.withBlocks journal noMaps named reaches printsSound
   collect-agree t ok fit = record {
     fit = fit;
     poolLong = g .poolLong;

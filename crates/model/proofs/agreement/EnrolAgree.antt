@@ -15,7 +15,7 @@ use Rattle.words.specs.Lists.{all, someOf}
 use Rattle.book.specs.Book.{volumes, Slot, Rec, Book}
 use Rattle.book.specs.Form.{enrolled, slotOk}
 use Rattle.book.specs.Next.{withRetention}
-use Rattle.book.proofs.FormParts.{book-parts}
+use Rattle.book.proofs.Clauses.{book-parts}
 use Rattle.model.specs.Days.{badRetention}
 use Rattle.model.specs.Journal.{Backup, journalOf, journal, backupsIn}
 use Rattle.model.specs.Enrol.{enrolNumber}
@@ -50,7 +50,8 @@ module _ (x : Book) (v r : ℕ) where
   apart-reaches d p (b ∷ bs) a = rw (apart-reaches d p bs (a .1), getD-set-other (x .retentions) v (b .volume) r 0 (a .0))
 
 -- "used slots name enrolled volumes"
-slots-apart : (x : Book) (v : ℕ) (ts : List Slot) (rs : List Rec) → enrolled x v ≡ false → all (slotOk x) ts ≡ true → Apart v (journalOf ts rs)
+slots-apart : (x : Book) (v : ℕ) (ts : List Slot) (rs : List Rec) → enrolled x v ≡ false → all (slotOk x) ts ≡ true
+    → Apart v (journalOf ts rs)
 unfolding Apart slotOk
 slots-apart x v [] rs n e = tt
 slots-apart x v (t ∷ ts) rs n e =
@@ -64,7 +65,8 @@ pub enrol-volume : (x : Book) (v r : ℕ) → enrolNumber x v r ≡ 0 → (v < v
 unfolding enrolNumber
 enrol-volume x v r e = go (ltb 7 v) (enrolled x v) (badRetention r) refl refl e
   where
-    go : (a b c : Bool) → ltb 7 v ≡ a → enrolled x v ≡ b → _≡_ {A = ℕ} (if a || b then 5 else if c then 6 else 0) 0 → (v < volumes) × (b ≡ false)
+    go : (a b c : Bool) → ltb 7 v ≡ a → enrolled x v ≡ b → _≡_ {A = ℕ} (if a || b then 5 else if c then 6 else 0) 0
+        → (v < volumes) × (b ≡ false)
     go true b c f h e = absurd (omega arith)
     go false true c f h e = absurd (omega arith)
     go false false c f h e = (omega (arith, ltb-false 7 v f), refl)
@@ -75,35 +77,37 @@ module _ {x : Book} {pool : List ℕ} {q : Plain} (g : Agree x pool q) where
   enrol-number v r = rw (enrolled-agree g v)
 
   enrolled-retention : (v r w : ℕ) → w < volumes
-      → getD (set (q .volumes) v (record { retention = r; images = [] })) w Plain.noVolume .retention ≡ getD (set (x .retentions) v r) w 0
+      → getD (set (q .volumes) v (record { retention = r; images = [] })) w Plain.unenrolled .retention ≡ getD (set (x .retentions) v r) w 0
   enrolled-retention v r w h = go (eqb v w) refl
     where
       u : Volume
       u = record { retention = r; images = [] }
 
-      go : (t : Bool) → eqb v w ≡ t → getD (set (q .volumes) v u) w Plain.noVolume .retention ≡ getD (set (x .retentions) v r) w 0
+      go : (t : Bool) → eqb v w ≡ t → getD (set (q .volumes) v u) w Plain.unenrolled .retention ≡ getD (set (x .retentions) v r) w 0
       go true e =
           let a : w < length (q .volumes) = rw (g .volumeCount) h in
           let b : w < length (x .retentions) = rw (g .fit .sized .retentions) h in
-          rw (eqb-true v w e, getD-set-same (q .volumes) w u Plain.noVolume a, getD-set-same (x .retentions) w r 0 b)
+          rw (eqb-true v w e, getD-set-same (q .volumes) w u Plain.unenrolled a, getD-set-same (x .retentions) w r 0 b)
       go false e =
           let n : w ≢ v = λ f. eqb-false v w e (sym f) in
-          rw (getD-set-other (q .volumes) v w u Plain.noVolume n, getD-set-other (x .retentions) v w r 0 n) (g .retentions w h)
+          rw (getD-set-other (q .volumes) v w u Plain.unenrolled n, getD-set-other (x .retentions) v w r 0 n) (g .retentions w h)
 
   enrolled-images : (v r w : ℕ) → Apart v (journal x) → w < volumes
-      → getD (set (q .volumes) v (record { retention = r; images = [] })) w Plain.noVolume .images
+      → getD (set (q .volumes) v (record { retention = r; images = [] })) w Plain.unenrolled .images
       ≡ imagesOf (noMap (x .sizes)) (backupsIn w (journal x))
   enrolled-images v r w apart h = go (eqb v w) refl
     where
       u : Volume
       u = record { retention = r; images = [] }
 
-      go : (t : Bool) → eqb v w ≡ t → getD (set (q .volumes) v u) w Plain.noVolume .images ≡ imagesOf (noMap (x .sizes)) (backupsIn w (journal x))
+      go : (t : Bool) → eqb v w ≡ t
+          → getD (set (q .volumes) v u) w Plain.unenrolled .images
+          ≡ imagesOf (noMap (x .sizes)) (backupsIn w (journal x))
       go true e =
           let f = eqb-true v w e in
           let a : w < length (q .volumes) = rw (g .volumeCount) h in
-          rw (f, getD-set-same (q .volumes) w u Plain.noVolume a, apart-none w (journal x) (rw f at apart))
-      go false e = rw (getD-set-other (q .volumes) v w u Plain.noVolume (λ f. eqb-false v w e (sym f))) (g .images w h)
+          rw (f, getD-set-same (q .volumes) w u Plain.unenrolled a, apart-none w (journal x) (rw f at apart))
+      go false e = rw (getD-set-other (q .volumes) v w u Plain.unenrolled (λ f. eqb-false v w e (sym f))) (g .images w h)
 
   pub enrol-agree : (v r : ℕ) → enrolNumber x v r ≡ 0 → Fit (withRetention v r x)
       → Agree (withRetention v r x) pool (Plain.withVolume v (record { retention = r; images = [] }) q)

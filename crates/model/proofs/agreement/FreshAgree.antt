@@ -40,8 +40,9 @@ unnamed z p ok h =
     (named-none (fresh z) p ∙ ap not (none-replicated (names p) volumes (replicate (z .l) unmapped)
     (none-replicated (eqb p) (z .l) unmapped (ne-eqb p unmapped (pbn-mapped (fresh z) p ok h)))))
 
-pub fresh-agree : (z : Sizes) (pool : List ℕ) → sizesOk z ≡ true → length pool ≡ poolSize (z .n) → Fit (fresh z) → Agree (fresh z) pool (start z)
-unfolding fresh start journal noMaps reaches printsSound SoundAll Days AllRise freeEntry Plain.noVolume
+pub fresh-agree : (z : Sizes) (pool : List ℕ) → sizesOk z ≡ true → length pool ≡ poolSize (z .n) → Fit (fresh z)
+    → Agree (fresh z) pool (start z)
+unfolding fresh start journal noMaps reaches printsSound SoundAll Days AllRise freeEntry Plain.unenrolled
 fresh-agree z pool ok long fit = record {
   fit = fit;
   poolLong = long;
@@ -50,8 +51,8 @@ fresh-agree z pool ok long fit = record {
   cursor = refl;
   blocks = free-blocks (z .n) pool;
   volumeCount = refl;
-  retentions = λ v h. ap (λ (u : Volume). u .retention) (getD-replicated volumes Plain.noVolume v) ∙ sym (getD-replicated volumes 0 v);
-  images = λ v h. ap (λ (u : Volume). u .images) (getD-replicated volumes Plain.noVolume v);
+  retentions = λ v h. ap (λ (u : Volume). u .retention) (getD-replicated volumes Plain.unenrolled v) ∙ sym (getD-replicated volumes 0 v);
+  images = λ v h. ap (λ (u : Volume). u .images) (getD-replicated volumes Plain.unenrolled v);
   maps = refl;
   sound = tt;
   days = omega arith;

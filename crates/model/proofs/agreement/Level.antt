@@ -19,6 +19,7 @@ use Rattle.book.specs.Book.{Book, entryAt, cellAt}
 use Rattle.book.specs.Next.{withEntries, withMaps, withRecord, cellsWith}
 use Rattle.model.specs.Backup.{Work, lower, nameBlock, moveNumber, moved}
 use Rattle.model.specs.PlainBackup
+use Rattle.model.specs.PlainBackup.{PlainWork}
 use Rattle.model.proofs.agreement.Placing.{Alike, PlacedAt}
 use Rattle.model.proofs.agreement.Moving.{length-moved, moved-blocks, lower-count, moved-count}
 
@@ -33,7 +34,7 @@ names-set ms v m i b q h k =
     omega (arith, count-joined (eqb q) ms v (set m i b) h, count-joined (eqb q) ms v m h, count-set (eqb q) m i b unmapped k)
 
 -- x is the book at the backup's start
-pub record Level (x : Book) (v : ℕ) (w : Work) (u : PlainBackup.Work) : Type 0 where
+pub record Level (x : Book) (v : ℕ) (w : Work) (u : PlainWork) : Type 0 where
   pub alike : Alike w u
   pub sizes : w .book .sizes ≡ x .sizes
   pub retentions : w .book .retentions ≡ x .retentions
@@ -43,7 +44,7 @@ pub record Level (x : Book) (v : ℕ) (w : Work) (u : PlainBackup.Work) : Type 0
   pub counts : (q : ℕ) → q < x .sizes .n → entryAt (w .book .entries) q .count ≡ namesIn (x .maps) v (u .copy) q
   pub cells : (i : ℕ) → getD (u .copy) i unmapped ≢ unmapped → getD (u .copy) i unmapped < x .sizes .n
 
-pub placed-level : (x : Book) (v : ℕ) (w : Work) (u : PlainBackup.Work) (p : ℕ) (w′ : Work) (u′ : PlainBackup.Work)
+pub placed-level : (x : Book) (v : ℕ) (w : Work) (u : PlainWork) (p : ℕ) (w′ : Work) (u′ : PlainWork)
     → Level x v w u → PlacedAt w u p w′ u′ → Level x v w′ u′
 placed-level x v w u p w′ u′ a r = record {
   alike = r .alike;
@@ -57,7 +58,7 @@ placed-level x v w u p w′ u′ a r = record {
 }
 
 -- the cell that a change replaces
-module _ (x : Book) (v lbn : ℕ) (w : Work) (u : PlainBackup.Work) (a : Level x v w u) where
+module _ (x : Book) (v lbn : ℕ) (w : Work) (u : PlainWork) (a : Level x v w u) where
   pub cell-before : v < length (x .maps) → cellAt (w .book .maps) v lbn ≡ getD (u .copy) lbn unmapped
   cell-before inside = ap (λ (m : List (List ℕ)). cellAt m v lbn) (a .maps) ∙ rw (getD-set-same (x .maps) v (u .copy) [] inside)
 
@@ -66,12 +67,13 @@ module _ (x : Book) (v lbn : ℕ) (w : Work) (u : PlainBackup.Work) (a : Level x
 
 module _ (x : Book) (v : ℕ) (inside : v < length (x .maps)) (small : x .sizes .n < unmapped) where
   -- steps 3 and 4 of a change that was placed at p
-  module _ (until lbn p : ℕ) (w : Work) (u : PlainBackup.Work) (a : Level x v w u) (i : lbn < x .sizes .l) (h : p < x .sizes .n) where
+  module _ (until lbn p : ℕ) (w : Work) (u : PlainWork) (a : Level x v w u) (i : lbn < x .sizes .l) (h : p < x .sizes .n) where
     abbrev before : ℕ
     before = getD (u .copy) lbn unmapped
 
     -- the cells without this one
-    out : (q : ℕ) → q < x .sizes .n → namesIn (x .maps) v (set (u .copy) lbn unmapped) q + bit (eqb q before) ≡ namesIn (x .maps) v (u .copy) q
+    out : (q : ℕ) → q < x .sizes .n
+        → namesIn (x .maps) v (set (u .copy) lbn unmapped) q + bit (eqb q before) ≡ namesIn (x .maps) v (u .copy) q
     out q k =
         names-set (x .maps) v (u .copy) lbn unmapped q inside (omega (arith, a .width))
         ∙ rw (ne-eqb q unmapped (λ (z : q ≡ unmapped). omega arith)) (omega arith)
@@ -89,7 +91,8 @@ module _ (x : Book) (v : ℕ) (inside : v < length (x .maps)) (small : x .sizes 
         omega (arith, a .counts before k, out before k, ap bit (eq-eqb before before refl)))
 
     -- never 13
-    pub number-same : moveNumber until before p (w .book .entries) ≡ (if eqb (namesIn (x .maps) v (set (u .copy) lbn unmapped) p) 255 then 14 else 0)
+    pub number-same : moveNumber until before p (w .book .entries)
+        ≡ (if eqb (namesIn (x .maps) v (set (u .copy) lbn unmapped) p) 255 then 14 else 0)
     unfolding moveNumber
     number-same = go (eqb before unmapped) refl
       where
@@ -101,16 +104,18 @@ module _ (x : Book) (v : ℕ) (inside : v < length (x .maps)) (small : x .sizes 
         go true e = rw (lowered-is p h)
         go false e = rw (some-left (eqb-false before unmapped e), lowered-is p h)
 
-    cell-in : (j : ℕ) (t : Bool) → eqb j lbn ≡ t → getD (set (u .copy) lbn p) j unmapped ≢ unmapped → getD (set (u .copy) lbn p) j unmapped < x .sizes .n
+    cell-in : (j : ℕ) (t : Bool) → eqb j lbn ≡ t → getD (set (u .copy) lbn p) j unmapped ≢ unmapped
+        → getD (set (u .copy) lbn p) j unmapped < x .sizes .n
     cell-in j true e z = rw (eqb-true j lbn e, getD-set-same (u .copy) lbn p unmapped (omega (arith, a .width))) h
     cell-in j false e z =
-        let s : getD (set (u .copy) lbn p) j unmapped ≡ getD (u .copy) j unmapped = getD-set-other (u .copy) lbn j p unmapped (eqb-false j lbn e) in
+        let s : getD (set (u .copy) lbn p) j unmapped ≡ getD (u .copy) j unmapped =
+        getD-set-other (u .copy) lbn j p unmapped (eqb-false j lbn e) in
         rw s (a .cells j (λ (y : getD (u .copy) j unmapped ≡ unmapped). z (s ∙ y)))
 
     abbrev ourNext : Work
     ourNext = moved v until lbn before (record { pbn = p; work = w })
 
-    abbrev plainNext : PlainBackup.Work
+    abbrev plainNext : PlainWork
     plainNext = PlainBackup.moved lbn (record { pbn = p; work = u })
 
     moved-alike : Alike ourNext plainNext
@@ -136,7 +141,8 @@ module _ (x : Book) (v : ℕ) (inside : v < length (x .maps)) (small : x .sizes 
           ∙ rw (getD-set-same (x .maps) v (u .copy) [] inside) (set-set (x .maps) v (u .copy) (set (u .copy) lbn p));
       width = length-set (u .copy) lbn p ∙ a .width;
       counts = λ q k.
-          moved-count until before p (w .book .entries) q (omega arith) (before-inside x v lbn w u a) (omega (arith, a .alike .entries, ap (λ s. s .n) (a .sizes)))
+          moved-count until before p (w .book .entries) q (omega arith) (before-inside x v lbn w u a)
+          (omega (arith, a .alike .entries, ap (λ s. s .n) (a .sizes)))
           ∙ omega (arith, lowered-is q k, out q k, names-set (x .maps) v (u .copy) lbn p q inside (omega (arith, a .width)));
       cells = λ j k. cell-in j (eqb j lbn) refl k;
     }

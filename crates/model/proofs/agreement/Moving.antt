@@ -12,7 +12,7 @@ use Rattle.words.specs.Blocks.{unmapped}
 use Rattle.words.specs.Choice.{if_then_else_}
 use Rattle.words.specs.Lists.{bit}
 use Rattle.words.specs.Lists.{those}
-use Rattle.words.proofs.Stores.{getD-set, getD-set-kept}
+use Rattle.words.proofs.SetLaws.{getD-set, getD-set-kept}
 use Rattle.book.specs.Book.{Entry, entryAt, freeEntry}
 use Rattle.book.specs.Next.{countAs, expiryAs}
 use Rattle.model.specs.Backup.{lowered, lower, raised}
@@ -32,7 +32,8 @@ module _ (until before : ℕ) (es : List Entry) where
       go false = length-set es before (lowered until (entryAt es before))
 
   -- what lowering an entry keeps
-  pub lower-kept : {B : Type 0} (f : Entry → B) → ((e : Entry) → f (lowered until e) ≡ f e) → (q : ℕ) → f (entryAt (lower until before es) q) ≡ f (entryAt es q)
+  pub lower-kept : {B : Type 0} (f : Entry → B) → ((e : Entry) → f (lowered until e) ≡ f e) → (q : ℕ)
+      → f (entryAt (lower until before es) q) ≡ f (entryAt es q)
   unfolding lower
   lower-kept f k q = go (eqb before unmapped)
     where
@@ -65,14 +66,19 @@ module _ (until before : ℕ) (es : List Entry) where
   unfolding lower
   lower-at q small k = go (eqb before unmapped) refl
     where
-      named : (t : Bool) → eqb q before ≡ t → (if t then lowered until (entryAt es before) else entryAt es q) ≡ (if t then lowered until (entryAt es q) else entryAt es q)
+      named : (t : Bool) → eqb q before ≡ t
+          → (if t then lowered until (entryAt es before) else entryAt es q)
+          ≡ (if t then lowered until (entryAt es q) else entryAt es q)
       named true e = rw (eqb-true q before e)
       named false e = refl
 
       go : (t : Bool) → eqb before unmapped ≡ t
-          → entryAt (if t then es else set es before (lowered until (entryAt es before))) q ≡ (if eqb q before then lowered until (entryAt es q) else entryAt es q)
+          → entryAt (if t then es else set es before (lowered until (entryAt es before))) q
+          ≡ (if eqb q before then lowered until (entryAt es q) else entryAt es q)
       go true e = rw (ne-eqb q before (λ (z : q ≡ before). omega (arith, eqb-true before unmapped e)))
-      go false e = getD-set es before q (lowered until (entryAt es before)) freeEntry (k (eqb-false before unmapped e)) ∙ named (eqb q before) refl
+      go false e =
+          getD-set es before q (lowered until (entryAt es before)) freeEntry (k (eqb-false before unmapped e))
+          ∙ named (eqb q before) refl
 
 -- ---- steps 3 and 4
 
@@ -87,7 +93,8 @@ module _ (until before p : ℕ) (es : List Entry) where
   moved-kept : {B : Type 0} (f : Entry → B) → ((e : Entry) → f (lowered until e) ≡ f e) → ((e : Entry) → f (raised e) ≡ f e)
       → (q : ℕ) → f (entryAt (movedEntries until before p es) q) ≡ f (entryAt es q)
   moved-kept f k r q =
-      getD-set-kept f (lower until before es) p (raised (entryAt (lower until before es) p)) freeEntry (r (entryAt (lower until before es) p)) q
+      getD-set-kept f (lower until before es) p (raised (entryAt (lower until before es) p)) freeEntry
+      (r (entryAt (lower until before es) p)) q
       ∙ lower-kept until before es f k q
 
   pub moved-held : (q : ℕ) → entryAt (movedEntries until before p es) q .held ≡ entryAt es q .held
@@ -120,12 +127,14 @@ module _ (until before p : ℕ) (es : List Entry) where
         getD-set-kept (λ (e : Entry). e .expiry) (lower until before es) p (raised (entryAt (lower until before es) p)) freeEntry refl q
         ∙ ap (λ (e : Entry). e .expiry) (lower-at until before es q small k) ∙ go (eqb q before)
       where
-        go : (t : Bool) → (if t then lowered until (entryAt es q) else entryAt es q) .expiry ≡ max (entryAt es q .expiry) (if t then until else 0)
+        go : (t : Bool) → (if t then lowered until (entryAt es q) else entryAt es q) .expiry
+            ≡ max (entryAt es q .expiry) (if t then until else 0)
         go true = refl
         go false = omega arith
 
     module _ (h : p < length es) where
-      raise-at : entryAt (movedEntries until before p es) q ≡ (if eqb q p then raised (entryAt (lower until before es) p) else entryAt (lower until before es) q)
+      raise-at : entryAt (movedEntries until before p es) q
+          ≡ (if eqb q p then raised (entryAt (lower until before es) p) else entryAt (lower until before es) q)
       raise-at = getD-set (lower until before es) p q (raised (entryAt (lower until before es) p)) freeEntry (rw length-lower h)
 
       pub moved-count : entryAt (movedEntries until before p es) q .count ≡ entryAt (lower until before es) q .count + bit (eqb q p)
@@ -133,7 +142,8 @@ module _ (until before p : ℕ) (es : List Entry) where
       moved-count = ap (λ (e : Entry). e .count) raise-at ∙ go (eqb q p) refl
         where
           go : (t : Bool) → eqb q p ≡ t
-              → (if t then raised (entryAt (lower until before es) p) else entryAt (lower until before es) q) .count ≡ entryAt (lower until before es) q .count + bit t
+              → (if t then raised (entryAt (lower until before es) p) else entryAt (lower until before es) q) .count
+              ≡ entryAt (lower until before es) q .count + bit t
           go true e = rw (eqb-true q p e) (omega arith)
           go false e = omega arith
 

@@ -11,9 +11,9 @@ use lib.Seq.{getD-set-same, getD-set-other}
 use Rattle.words.specs.Blocks.{blockSize}
 use Rattle.words.specs.Choice.{if_then_else_}
 use Rattle.words.specs.Lists.{same}
-use Rattle.words.proofs.Stores.{getD-set-kept}
+use Rattle.words.proofs.SetLaws.{getD-set-kept}
 use Rattle.words.specs.Outcome.{Outcome, refused, accepted}
-use Rattle.list.specs.Changes.{Change}
+use Rattle.runs.specs.Changes.{Change}
 use Rattle.book.specs.Book.{Entry, Book, entryAt, freeEntry}
 use Rattle.book.specs.Next.{withCursor, withEntries, heldAs}
 use Rattle.model.specs.Pool.{poolSize, blockAt}
@@ -22,6 +22,7 @@ use Rattle.model.specs.Backup.{Work, Placed, findHeld, findFree, takeBlo
 use Rattle.model.proofs.claims.FoundBlocks.{held-lowest, free-next}
 use Rattle.model.specs.Plain.{Block, free, bytesOf}
 use Rattle.model.specs.PlainBackup
+use Rattle.model.specs.PlainBackup.{PlainWork, PlainPlaced}
 use Rattle.model.specs.Runs.{blocksIn}
 use Rattle.model.specs.Claims.{isDamage}
 use Rattle.model.proofs.agreement.BlocksIn.{length-blocksIn, held-bytes}
@@ -30,7 +31,7 @@ use Rattle.model.proofs.agreement.Prints.{prints-held}
 
 -- ---- where the two sides stand alike
 
-pub record Alike (w : Work) (u : PlainBackup.Work) : Type 0 where
+pub record Alike (w : Work) (u : PlainWork) : Type 0 where
   pub blocks : u .blocks ≡ blocksIn (w .book .entries) (w .pool)
   pub cursor : u .cursor ≡ w .book .cursor
   pub taken : u .taken ≡ w .taken
@@ -48,7 +49,7 @@ pub record Aside (x y : Book) : Type 0 where
   pub records : y .records ≡ x .records
 
 -- a change placed at p: the block is held then, and no count, no expiry and no other entry has moved
-pub record PlacedAt (w : Work) (u : PlainBackup.Work) (p : ℕ) (w′ : Work) (u′ : PlainBackup.Work) : Type 0 where
+pub record PlacedAt (w : Work) (u : PlainWork) (p : ℕ) (w′ : Work) (u′ : PlainWork) : Type 0 where
   pub bound : p < length (w .book .entries)
   pub alike : Alike w′ u′
   pub aside : Aside (w .book) (w′ .book)
@@ -60,14 +61,14 @@ pub record PlacedAt (w : Work) (u : PlainBackup.Work) (p : ℕ) (w′ : Work) (u
   pub prints : printsSound (w .book) ≡ true → printsSound (w′ .book) ≡ true
 
 -- steps 1 and 2 on both sides: refused by the same number, or placed at the same block
-pub data BothPlaced (w : Work) (u : PlainBackup.Work) : Outcome Placed → Outcome PlainBackup.Placed → Type 0 where
+pub data BothPlaced (w : Work) (u : PlainWork) : Outcome Placed → Outcome PlainPlaced → Type 0 where
   stopped : (k : ℕ) → isDamage k ≡ false → BothPlaced w u (refused k) (refused k)
-  placed : (p : ℕ) (w′ : Work) (u′ : PlainBackup.Work) → PlacedAt w u p w′ u′
+  placed : (p : ℕ) (w′ : Work) (u′ : PlainWork) → PlacedAt w u p w′ u′
       → BothPlaced w u (accepted (record { pbn = p; work = w′ })) (accepted (record { pbn = p; work = u′ }))
 
 -- ---- step 2
 
-module _ (c : Change) (w : Work) (u : PlainBackup.Work) (l : length (c .block) ≡ blockSize) (a : Alike w u) where
+module _ (c : Change) (w : Work) (u : PlainWork) (l : length (c .block) ≡ blockSize) (a : Alike w u) where
   abbrev es : List Entry
   es = w .book .entries
 
@@ -125,7 +126,8 @@ module _ (c : Change) (w : Work) (u : PlainBackup.Work) (l : length (c .block) �
   unfolding placeHeld PlainBackup.placeHeld
   held-placed none e =
       let s : PlainBackup.findFree (u .blocks) (u .cursor) ≡ findFree es (w .book .cursor) =
-      ap₂ (λ (bs : List Block) (k : ℕ). PlainBackup.findFree bs k) (a .blocks) (a .cursor) ∙ sym (free-same es (w .pool) (w .book .cursor)) in
+      ap₂ (λ (bs : List Block) (k : ℕ). PlainBackup.findFree bs k) (a .blocks) (a .cursor)
+      ∙ sym (free-same es (w .pool) (w .book .cursor)) in
       rw s (free-placed e _ refl)
   held-placed (some p) e =
       let f = held-lowest es (c .print) p e in

@@ -75,7 +75,8 @@ module _ (f : List ℕ) where
   all-held g (e ∷ es) zero h y k a = true-and (g f) (all g (printsOf es)) y (rw k at a)
   all-held g (e ∷ es) (suc p) h y k a = go (e .held) a (all-held g es p (omega arith) y k)
     where
-      go : (t : Bool) → all g (before t (e .print) (printsOf es)) ≡ true → (all g (printsOf es) ≡ true → all g (printsOf (holding es p)) ≡ true)
+      go : (t : Bool) → all g (before t (e .print) (printsOf es)) ≡ true
+          → (all g (printsOf es) ≡ true → all g (printsOf (holding es p)) ≡ true)
           → all g (before t (e .print) (printsOf (holding es p))) ≡ true
       go true b ih =
           let c = and-true (g (e .print)) (all g (printsOf es)) b in
@@ -87,7 +88,8 @@ module _ (f : List ℕ) where
   unfolding heldAs
   differ-held i [] p h k n d = absurd (omega arith)
   differ-held i (e ∷ es) zero h k n d =
-      true-and (all (λ y. not (same f y)) (printsOf es)) (differ (printsOf es)) (none-all f (suc i) es (none-head f e i es n .1)) (rw k at d)
+      true-and (all (λ y. not (same f y)) (printsOf es)) (differ (printsOf es))
+      (none-all f (suc i) es (none-head f e i es n .1)) (rw k at d)
   differ-held i (e ∷ es) (suc p) h k n d =
       let m = none-head f e i es n in
       go (e .held) (m .0) d (differ-held (suc i) es p (omega arith) k (m .1))
@@ -105,16 +107,19 @@ module _ (f : List ℕ) where
 
 -- a book with other entries
 pub prints-held : (x y : Book) (f : List ℕ) (p : ℕ) → p < length (x .entries) → entryAt (x .entries) p .held ≡ false
-    → findHeld (x .entries) f ≡ none → y .entries ≡ set (x .entries) p (heldAs f (entryAt (x .entries) p)) → printsSound x ≡ true → printsSound y ≡ true
+    → findHeld (x .entries) f ≡ none → y .entries ≡ set (x .entries) p (heldAs f (entryAt (x .entries) p))
+    → printsSound x ≡ true → printsSound y ≡ true
 unfolding printsSound findHeld
 prints-held x y f p h k n e d =
     rw (e, prints-are) (differ-held f 0 (x .entries) p h k n (rw prints-are at d))
 
-prints-set : (es : List Entry) (b : ℕ) (x : Entry) → x .held ≡ entryAt es b .held → x .print ≡ entryAt es b .print → printsOf (set es b x) ≡ printsOf es
+prints-set : (es : List Entry) (b : ℕ) (x : Entry) → x .held ≡ entryAt es b .held → x .print ≡ entryAt es b .print
+    → printsOf (set es b x) ≡ printsOf es
 prints-set [] b x h k = refl
 prints-set (e ∷ es) zero x h k = rw (h, k)
 prints-set (e ∷ es) (suc b) x h k = rw (prints-set es b x h k)
 
 pub prints-kept : (es : List Entry) (b : ℕ) (x : Entry) → x .held ≡ entryAt es b .held → x .print ≡ entryAt es b .print
-    → map (λ (e : Entry). e .print) (those (λ (e : Entry). e .held) (set es b x)) ≡ map (λ (e : Entry). e .print) (those (λ (e : Entry). e .held) es)
+    → map (λ (e : Entry). e .print) (those (λ (e : Entry). e .held) (set es b x))
+    ≡ map (λ (e : Entry). e .print) (those (λ (e : Entry). e .held) es)
 prints-kept es b x h k = prints-are (set es b x) ∙ prints-set es b x h k ∙ sym (prints-are es)

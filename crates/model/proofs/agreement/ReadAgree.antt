@@ -17,7 +17,8 @@ use Rattle.model.specs.Read.{recordsOf, image, readNumber, read}
 use Rattle.model.specs.Plain
 use Rattle.model.specs.Plain.{Plain, free, volumeAt, noMap, daysOf, bytesOf, cell}
 use Rattle.model.proofs.agreement.Agree.{Agree}
-use Rattle.model.proofs.agreement.AgreeLaws.{sounds-agree, volume-inside, map-after, days-agree, backups-agree, noVolume-agree, cell-agree}
+use Rattle.model.proofs.agreement.AgreeLaws.{sounds-agree, volume-inside, map-after, days-agree, backups-agree, noVolume-agree}
+use Rattle.model.proofs.agreement.AgreeLaws.{cell-agree}
 use Rattle.model.proofs.kept.ReadNumbers.{refusal, same-refusal, number-inside}
 use Rattle.model.specs.JournalAt.{firstBefore}
 use Rattle.model.proofs.kept.ReadRule.{read-rule}
@@ -67,7 +68,8 @@ module _ {x : Book} {pool : List ℕ} {q : Plain} (g : Agree x pool q) where
       (λ a b. tests (volume-inside x v a))
       (λ a b d. mapped (volume-inside x v a) (number-inside k (length (days x v)) b))
       (λ a b c d e. bytes (volume-inside x v a) (number-inside k (length (days x v)) b) c e)
-      ∙ ap (λ a. unless (refusal a absent keeps (leb (q .sizes .l) l) (eqb (cell q v k l) unmapped)) (accepted block)) (sym (noVolume-agree g v))
+      ∙ ap (λ a. unless (refusal a absent keeps (leb (q .sizes .l) l) (eqb (cell q v k l) unmapped)) (accepted block))
+      (sym (noVolume-agree g v))
     where
       -- the plain store's tests for 15 and 16, and its block
       absent : Bool

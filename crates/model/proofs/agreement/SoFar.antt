@@ -15,7 +15,7 @@ use Rattle.words.specs.Sections.{tab}
 use Rattle.words.proofs.Sums.{sum-tab-same, sum-tab-zero, sum-tab-add, sum-tab-one, sum-map-tab}
 use Rattle.book.specs.Book.{volumes, Slot, Rec, Book}
 use Rattle.book.specs.Form.{pairsOk}
-use Rattle.book.proofs.FormParts.{book-parts}
+use Rattle.book.proofs.Clauses.{book-parts}
 use Rattle.model.specs.Journal.{Backup, journalOf, journal, backupsIn}
 use Rattle.model.specs.Audit.{applied, noMaps}
 use Rattle.model.specs.Plain
@@ -82,7 +82,8 @@ ones : (bs : List Backup) → sum (map (λ (b : Backup). 1) bs) ≡ length bs
 ones [] = refl
 ones (b ∷ bs) = omega (arith, ones bs)
 
-changes-images : (m : List ℕ) (bs : List Backup) → sum (map (λ (i : Image). i .changes) (imagesOf m bs)) ≡ sum (map (λ (b : Backup). length (b .records)) bs)
+changes-images : (m : List ℕ) (bs : List Backup)
+    → sum (map (λ (i : Image). i .changed) (imagesOf m bs)) ≡ sum (map (λ (b : Backup). length (b .records)) bs)
 changes-images m [] = refl
 changes-images m (b ∷ bs) = ap (λ (s : ℕ). length (b .records) + s) (changes-images (applied m (b .records)) bs)
 
@@ -92,7 +93,7 @@ module _ {x : Book} {pool : List ℕ} {q : Plain} (g : Agree x pool q) where
       → ((v : ℕ) → v < volumes → f (volumeAt q v) ≡ sum (map weight (backupsIn v (journal x))))
       → sum (map f (q .volumes)) ≡ sum (map weight (journal x))
   over-volumes f weight e =
-      sum-map-tab f (q .volumes) Plain.noVolume
+      sum-map-tab f (q .volumes) Plain.unenrolled
       ∙ ap (λ (n : ℕ). sum (tab n (λ i. f (volumeAt q i)))) (g .volumeCount)
       ∙ sum-tab-same volumes (λ v. f (volumeAt q v)) (share weight volumes (journal x)) e
       ∙ shares weight volumes (journal x) (rw length-noMaps at (sound-volumes (noMaps x) (journal x) (g .sound)))
@@ -102,12 +103,15 @@ module _ {x : Book} {pool : List ℕ} {q : Plain} (g : Agree x pool q) where
   unfolding backupsSoFar journal
   backups-so-far =
       over-volumes (λ u. length (u .images)) (λ b. 1)
-      (λ v h. ap length (g .images v h) ∙ length-imagesOf (noMap (x .sizes)) (backupsIn v (journal x)) ∙ sym (ones (backupsIn v (journal x))))
+      (λ v h. ap length (g .images v h) ∙ length-imagesOf (noMap (x .sizes)) (backupsIn v (journal x))
+      ∙ sym (ones (backupsIn v (journal x))))
       ∙ length-journal (x .slots) (x .records)
 
   pub changes-so-far : changesSoFar q ≡ length (x .records)
   unfolding changesSoFar journal
   changes-so-far =
       over-volumes changesIn (λ b. length (b .records))
-      (λ v h. ap (λ is. sum (map (λ (i : Image). i .changes) is)) (g .images v h) ∙ changes-images (noMap (x .sizes)) (backupsIn v (journal x)))
-      ∙ records-journal (x .slots) (x .records) (omega (arith, pairs-sum 0 (x .slots) (length (x .records)) (book-parts x (g .fit .form) .pairs)))
+      (λ v h. ap (λ is. sum (map (λ (i : Image). i .changed) is)) (g .images v h)
+      ∙ changes-images (noMap (x .sizes)) (backupsIn v (journal x)))
+      ∙ records-journal (x .slots) (x .records)
+      (omega (arith, pairs-sum 0 (x .slots) (length (x .records)) (book-parts x (g .fit .form) .pairs)))

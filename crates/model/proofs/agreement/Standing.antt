@@ -12,7 +12,7 @@ use Rattle.words.specs.Outcome.{Outcome, accepted, andThen, unless}
 use Rattle.book.specs.Book.{Sizes, Book, retentionOf}
 use Rattle.book.proofs.Bytes.{length-bytes}
 use Rattle.book.specs.Form.{enrolled, formNumber}
-use Rattle.book.proofs.InForm.{form-bytes}
+use Rattle.book.proofs.FormBytes.{form-bytes}
 use Rattle.book.specs.Layout.{bookSize, bytes, bookOf}
 use Rattle.book.proofs.Laws.{book-bytes}
 use Rattle.book.specs.Next.{withDay, withEntries, withRetention}
@@ -40,9 +40,11 @@ use Rattle.model.proofs.form.OnBytesFit.{enrol-on-bytes, collect-on-byt
 use Rattle.model.specs.Plain
 use Rattle.model.specs.Plain.{Plain}
 use Rattle.model.specs.PlainBackup
+use Rattle.model.specs.PlainBackup.{PlainBacked}
 use Rattle.model.proofs.agreement.ReadAgree.{read-agree}
 use Rattle.model.specs.Read
-use Rattle.model.specs.Runs.{Step, answersOf, endOf, readAnswer, auditAnswer, Ours, oursEnrolled, oursBacked, oursCollected, ours, plainEnrolled, plainBacked, plainCollected, plain}
+use Rattle.model.specs.Runs.{Step, answersOf, endOf, readAnswer, auditAnswer, Ours, oursEnrolled, oursBacked, oursCollected, ours}
+use Rattle.model.specs.Runs.{plainEnrolled, plainBacked, plainCollected, plain}
 
 module _ (z : Sizes) where
   -- the book is the bytes of a book of these sizes that agrees with the plain store
@@ -103,7 +105,8 @@ read-undamaged x v k lbn =
 
 -- ---- one call
 
-module _ (z : Sizes) (spare : ℕ) (enough : bookSize z ≤ spare) {x : Book} {pool : List ℕ} {q : Plain} (g : Agree x pool q) (sizes : x .sizes ≡ z) where
+module _ (z : Sizes) (spare : ℕ) (enough : bookSize z ≤ spare) {x : Book} {pool : List ℕ} {q : Plain}
+    (g : Agree x pool q) (sizes : x .sizes ≡ z) where
   abbrev here : Ours
   here = record { book = bytes x; pool = pool }
 
@@ -122,7 +125,12 @@ module _ (z : Sizes) (spare : ℕ) (enough : bookSize z ≤ spare) {x : Book} {p
           (plainEnrolled q (unless (Plain.enrolNumber q v r) (accepted after)))
       go zero e =
           rw (sym (enrol-number g v r) ∙ e)
-          (record { answer = refl; undamaged = refl; next = stand (withRetention v r x) pool after (enrol-agree g v r e (enrol-fit (g .fit) v r e)) sizes })
+          (record {
+            answer = refl;
+            undamaged = refl;
+            next = stand (withRetention v r x) pool after
+                (enrol-agree g v r e (enrol-fit (g .fit) v r e)) sizes;
+          })
       go (suc k) e = rw (sym (enrol-number g v r) ∙ e) (stays (suc k) (rw e at (enrol-undamaged x v r)))
 
   collect-alike : (t : ℕ) → Alike z (ours spare here (collect t)) (plain q (collect t))
@@ -137,7 +145,9 @@ module _ (z : Sizes) (spare : ℕ) (enough : bookSize z ≤ spare) {x : Book} {p
           (record {
             answer = ap freed (collect-freed g t);
             undamaged = refl;
-            next = stand (collected x t .book) pool (Plain.collected q t .store) (collect-agree g t e (collect-fit (g .fit) t e)) (collect-sizes x t ∙ sizes);
+            next =
+                stand (collected x t .book) pool (Plain.collected q t .store)
+                (collect-agree g t e (collect-fit (g .fit) t e)) (collect-sizes x t ∙ sizes);
           })
       go (suc k) e = rw (sym (collect-number g t) ∙ e) (stays (suc k) (rw e at (collect-undamaged x t)))
 
@@ -167,7 +177,7 @@ module _ (z : Sizes) (spare : ℕ) (enough : bookSize z ≤ spare) {x : Book} {p
       rw (backup-on-bytes (fit-form (g .fit)) (fit-book (g .fit)) pool (g .poolLong) (length-bytes x) spare (rw sizes enough) v t list)
       (go (Backup.backup x pool v t list) refl (PlainBackup.backup q v t list) (backup-agree g v t list))
     where
-      go : (a : Outcome Backed) → Backup.backup x pool v t list ≡ a → (b : Outcome PlainBackup.Backed) → BothBacked x q v list a b
+      go : (a : Outcome Backed) → Backup.backup x pool v t list ≡ a → (b : Outcome PlainBacked) → BothBacked x q v list a b
           → Alike z (oursBacked here (andThen a (λ d. accepted (backedBytes d)))) (plainBacked q b)
       go a e b (stopped k d) = stays k d
       go a e b (backed d f h) =
@@ -198,6 +208,7 @@ module _ (z : Sizes) (spare : ℕ) (enough : bookSize z ≤ spare) where
   list-stands s [] = s
   list-stands s (c ∷ cs) = list-stands (call-alike s c .next) cs
 
-  pub list-undamaged : {o : Ours} {q : Plain} → Stand z o q → (cs : List Call) → all (λ a. not (saysDamage a)) (answersOf (ours spare) o cs) ≡ true
+  pub list-undamaged : {o : Ours} {q : Plain} → Stand z o q → (cs : List Call)
+      → all (λ a. not (saysDamage a)) (answersOf (ours spare) o cs) ≡ true
   list-undamaged s [] = refl
   list-undamaged s (c ∷ cs) = let a = call-alike s c in rw (a .undamaged) (list-undamaged (a .next) cs)

@@ -12,8 +12,8 @@ use Rattle.words.specs.Choice.{if_then_else_}
 use Rattle.words.proofs.ChoiceLaws.{and-true, true-and, not-both}
 use Rattle.words.specs.Lists.{all, those, countOf, differ, same}
 use Rattle.book.specs.Book.{Entry, entryAt}
-use Rattle.book.specs.Next.{freed}
-use Rattle.model.specs.Collect.{isOver, entryAfter}
+use Rattle.book.specs.Next.{madeFree}
+use Rattle.model.specs.Collect.{isOver, sweptEntry}
 use Rattle.model.proofs.claims.CollectLaws.{over-was-held}
 use Rattle.model.specs.Plain.{Block, free, held, isFree, swept, sweptCount}
 use Rattle.model.specs.Runs.{blocksIn}
@@ -25,27 +25,27 @@ pub over-held : (t : ℕ) (e : Entry) → e .held ≡ true → isOver t e ≡ (e
 unfolding isOver
 over-held t e h = rw h
 
-pub after-count : (t : ℕ) (e : Entry) → entryAfter t e .count ≡ e .count
-unfolding entryAfter freed
+pub after-count : (t : ℕ) (e : Entry) → sweptEntry t e .count ≡ e .count
+unfolding sweptEntry madeFree
 after-count t e = go (isOver t e)
   where
-    go : (o : Bool) → (if o then freed e else e) .count ≡ e .count
+    go : (o : Bool) → (if o then madeFree e else e) .count ≡ e .count
     go true = refl
     go false = refl
 
-pub after-expiry : (t : ℕ) (e : Entry) → entryAfter t e .expiry ≡ e .expiry
-unfolding entryAfter freed
+pub after-expiry : (t : ℕ) (e : Entry) → sweptEntry t e .expiry ≡ e .expiry
+unfolding sweptEntry madeFree
 after-expiry t e = go (isOver t e)
   where
-    go : (o : Bool) → (if o then freed e else e) .expiry ≡ e .expiry
+    go : (o : Bool) → (if o then madeFree e else e) .expiry ≡ e .expiry
     go true = refl
     go false = refl
 
-pub after-held : (t : ℕ) (e : Entry) → entryAfter t e .held ≡ (e .held && not (isOver t e))
-unfolding entryAfter freed
+pub after-held : (t : ℕ) (e : Entry) → sweptEntry t e .held ≡ (e .held && not (isOver t e))
+unfolding sweptEntry madeFree
 after-held t e = go (isOver t e) (e .held) refl
   where
-    go : (o h : Bool) → e .held ≡ h → (if o then freed e else e) .held ≡ (h && not o)
+    go : (o h : Bool) → e .held ≡ h → (if o then madeFree e else e) .held ≡ (h && not o)
     go true true f = refl
     go true false f = refl
     go false true f = f
@@ -54,12 +54,12 @@ after-held t e = go (isOver t e) (e .held) refl
 -- ---- blocks
 
 after-block : (t : ℕ) (e : Entry) (c : List ℕ) (m : Bool) → (e .held ≡ true → isOver t e ≡ not m)
-    → (if m then blockOf e c else free) ≡ blockOf (entryAfter t e) c
-unfolding entryAfter freed
+    → (if m then blockOf e c else free) ≡ blockOf (sweptEntry t e) c
+unfolding sweptEntry madeFree
 after-block t e c m f = go (isOver t e) (e .held) m refl refl f
   where
     go : (o h m : Bool) → isOver t e ≡ o → e .held ≡ h → (h ≡ true → o ≡ not m)
-        → (if m then (if h then held (e .print) c else free) else free) ≡ blockOf (if o then freed e else e) c
+        → (if m then (if h then held (e .print) c else free) else free) ≡ blockOf (if o then madeFree e else e) c
     go true true true a b f = absurd (not-both true refl (f refl))
     go true true false a b f = refl
     go true false m a b f = absurd (not-both (e .held) (over-was-held t e a) b)
@@ -70,7 +70,7 @@ after-block t e c m f = go (isOver t e) (e .held) m refl refl f
 
 pub swept-blocks : (mark : ℕ → Bool) (t i : ℕ) (es : List Entry) (pool : List ℕ)
     → ((j : ℕ) → j < length es → entryAt es j .held ≡ true → isOver t (entryAt es j) ≡ not (mark (i + j)))
-    → swept mark i (blocksIn es pool) ≡ blocksIn (map (entryAfter t) es) pool
+    → swept mark i (blocksIn es pool) ≡ blocksIn (map (sweptEntry t) es) pool
 swept-blocks mark t i [] pool f = refl
 swept-blocks mark t i (e ∷ es) pool f =
     ap₂ (λ (b : Block) (bs : List Block). b ∷ bs)
@@ -112,32 +112,34 @@ all-held f e es h = go (e .held) h
     go true h = and-true (f (e .print)) (all f (heldPrints es)) h .1
     go false h = h
 
-after-all : (f : List ℕ → Bool) (t : ℕ) (es : List Entry) → all f (heldPrints es) ≡ true → all f (heldPrints (map (entryAfter t) es)) ≡ true
-unfolding entryAfter freed
+after-all : (f : List ℕ → Bool) (t : ℕ) (es : List Entry) → all f (heldPrints es) ≡ true → all f (heldPrints (map (sweptEntry t) es)) ≡ true
+unfolding sweptEntry madeFree
 after-all f t [] h = refl
 after-all f t (e ∷ es) h = go (isOver t e) (e .held) refl h (after-all f t es (all-held f e es h))
   where
-    go : (o k : Bool) → e .held ≡ k → all f (map (λ e. e .print) (if k then e ∷ those (λ e. e .held) es else those (λ e. e .held) es)) ≡ true
-        → all f (heldPrints (map (entryAfter t) es)) ≡ true
-        → all f (heldPrints ((if o then freed e else e) ∷ map (entryAfter t) es)) ≡ true
+    go : (o k : Bool) → e .held ≡ k
+        → all f (map (λ e. e .print) (if k then e ∷ those (λ e. e .held) es else those (λ e. e .held) es)) ≡ true
+        → all f (heldPrints (map (sweptEntry t) es)) ≡ true
+        → all f (heldPrints ((if o then madeFree e else e) ∷ map (sweptEntry t) es)) ≡ true
     go true k b h ih = ih
     go false true b h ih = rw b (true-and (f (e .print)) _ (and-true (f (e .print)) (all f (heldPrints es)) h .0) ih)
     go false false b h ih = rw b ih
 
-pub after-differ : (t : ℕ) (es : List Entry) → differ (heldPrints es) ≡ true → differ (heldPrints (map (entryAfter t) es)) ≡ true
-unfolding entryAfter freed
+pub after-differ : (t : ℕ) (es : List Entry) → differ (heldPrints es) ≡ true → differ (heldPrints (map (sweptEntry t) es)) ≡ true
+unfolding sweptEntry madeFree
 after-differ t [] h = refl
 after-differ t (e ∷ es) h = go (isOver t e) (e .held) refl h (after-differ t es)
   where
-    go : (o k : Bool) → e .held ≡ k → differ (map (λ e. e .print) (if k then e ∷ those (λ e. e .held) es else those (λ e. e .held) es)) ≡ true
-        → (differ (heldPrints es) ≡ true → differ (heldPrints (map (entryAfter t) es)) ≡ true)
-        → differ (heldPrints ((if o then freed e else e) ∷ map (entryAfter t) es)) ≡ true
+    go : (o k : Bool) → e .held ≡ k
+        → differ (map (λ e. e .print) (if k then e ∷ those (λ e. e .held) es else those (λ e. e .held) es)) ≡ true
+        → (differ (heldPrints es) ≡ true → differ (heldPrints (map (sweptEntry t) es)) ≡ true)
+        → differ (heldPrints ((if o then madeFree e else e) ∷ map (sweptEntry t) es)) ≡ true
     go true true b h ih = ih (and-true (all (λ y. not (same (e .print) y)) (heldPrints es)) (differ (heldPrints es)) h .1)
     go true false b h ih = ih h
     go false true b h ih =
         let w = and-true (all (λ y. not (same (e .print) y)) (heldPrints es)) (differ (heldPrints es)) h in
         rw b
-        (true-and (all (λ y. not (same (e .print) y)) (heldPrints (map (entryAfter t) es))) (differ (heldPrints (map (entryAfter t) es)))
+        (true-and (all (λ y. not (same (e .print) y)) (heldPrints (map (sweptEntry t) es))) (differ (heldPrints (map (sweptEntry t) es)))
         (after-all (λ y. not (same (e .print) y)) t es (w .0))
         (ih (w .1)))
     go false false b h ih = rw b (ih h)

@@ -55,5 +55,7 @@ module _ (p : ℕ) where
       → someOf (λ l. eqb p (getD m l unmapped) || eqb p (getD (applied m rs) l unmapped)) (map (λ (r : Rec). r .lbn) rs) ≡ false
       → (hasBefore p rs ≡ false) × (hasAfter p rs ≡ false)
   unnamed m rs s up e =
-      let n = some-neither (λ l. eqb p (getD m l unmapped)) (λ l. eqb p (getD (applied m rs) l unmapped)) (map (λ (r : Rec). r .lbn) rs) e in
+      let n =
+      some-neither (λ l. eqb p (getD m l unmapped)) (λ l. eqb p (getD (applied m rs) l unmapped))
+      (map (λ (r : Rec). r .lbn) rs) e in
       (befores-old 0 m m rs s up (λ l h. refl) ∙ n .0, afters-new 0 m rs s up ∙ n .1)

@@ -15,12 +15,13 @@ use Rattle.words.proofs.ChoiceLaws.{or-r, or-no, not-both}
 use Rattle.words.specs.Lists.{bit}
 use Rattle.words.specs.Lists.{someOf, those, differ}
 use Rattle.words.proofs.Tests.{eqb-swap, or-neither}
-use Rattle.list.specs.Changes.{Change}
+use Rattle.runs.specs.Changes.{Change}
 use Rattle.book.specs.Book.{Entry, Rec, Book, entryAt, cellAt}
 use Rattle.book.specs.Next.{withEntries, withMaps, withRecord}
 use Rattle.model.specs.Audit.{applied, hasBefore, printsSound}
 use Rattle.model.specs.Backup.{Work, nameBlock, moved}
 use Rattle.model.specs.PlainBackup
+use Rattle.model.specs.PlainBackup.{PlainWork}
 use Rattle.model.proofs.kept.Sound.{Sound}
 use Rattle.model.proofs.agreement.Agree.{reaches}
 use Rattle.model.proofs.kept.JournalLaws.{applied-append, sound-append, hasBefore-append}
@@ -33,7 +34,7 @@ abbrev pub hasAfter : ℕ → List Rec → Bool
 hasAfter p rs = someOf (λ r. eqb (r .after) p) rs
 
 -- x is the book at the backup's start, `until` the day that it gives befores, and the changes so far are ds
-pub record Trail (x : Book) (v until : ℕ) (ds : List Change) (w : Work) (u : PlainBackup.Work) : Type 0 where
+pub record Trail (x : Book) (v until : ℕ) (ds : List Change) (w : Work) (u : PlainWork) : Type 0 where
   pub new : List Rec
   pub records : w .book .records ≡ x .records ++ new
   pub copy : u .copy ≡ applied (getD (x .maps) v []) new
@@ -46,7 +47,8 @@ pub record Trail (x : Book) (v until : ℕ) (ds : List Change) (w : Work) (u : P
   pub free : (q : ℕ) → q < x .sizes .n → entryAt (w .book .entries) q .held ≡ false
       → (namesIn (x .maps) v (u .copy) q ≡ 0) × (hasBefore q new ≡ false) × (entryAt (x .entries) q .held ≡ false)
   pub prints : printsSound (w .book) ≡ true
-  pub kept : (q : ℕ) → q < x .sizes .n → hasBefore q new ≡ false → hasAfter q new ≡ false → entryAt (w .book .entries) q ≡ entryAt (x .entries) q
+  pub kept : (q : ℕ) → q < x .sizes .n → hasBefore q new ≡ false → hasAfter q new ≡ false
+      → entryAt (w .book .entries) q ≡ entryAt (x .entries) q
 
 -- ---- small laws
 
@@ -57,7 +59,7 @@ later e t false true = omega arith
 later e t false false = omega arith
 
 module _ (x : Book) (v : ℕ) (inside : v < length (x .maps)) (small : x .sizes .n < unmapped)
-    (until : ℕ) (ds : List Change) (c : Change) (w : Work) (u : PlainBackup.Work) (p : ℕ) (w′ : Work) (u′ : PlainBackup.Work)
+    (until : ℕ) (ds : List Change) (c : Change) (w : Work) (u : PlainWork) (p : ℕ) (w′ : Work) (u′ : PlainWork)
     (a : Level x v w u) (g : Trail x v until ds w u) (r : PlacedAt w u p w′ u′) (i : c .lbn < x .sizes .l) where
   abbrev before : ℕ
   before = getD (u′ .copy) (c .lbn) unmapped
@@ -69,7 +71,7 @@ module _ (x : Book) (v : ℕ) (inside : v < length (x .maps)) (small : x .sizes 
   abbrev wNext : Work
   wNext = moved v until (c .lbn) before (record { pbn = p; work = w′ })
 
-  abbrev uNext : PlainBackup.Work
+  abbrev uNext : PlainWork
   uNext = PlainBackup.moved (c .lbn) (record { pbn = p; work = u′ })
 
   level′ : Level x v w′ u′
@@ -85,11 +87,14 @@ module _ (x : Book) (v : ℕ) (inside : v < length (x .maps)) (small : x .sizes 
       ∙ ap (λ (m : List ℕ). namesIn (x .maps) v m q + bit (eqb q p)) (r .copy)
 
   before-more : (q : ℕ) → hasBefore q (g .new ++ (rec ∷ [])) ≡ (hasBefore q (g .new) || eqb q before)
-  before-more q = hasBefore-append q (g .new) (rec ∷ []) ∙ ap (λ (t : Bool). hasBefore q (g .new) || t) (or-no (eqb before q) ∙ eqb-swap before q)
+  before-more q =
+      hasBefore-append q (g .new) (rec ∷ [])
+      ∙ ap (λ (t : Bool). hasBefore q (g .new) || t) (or-no (eqb before q) ∙ eqb-swap before q)
 
   after-more : (q : ℕ) → hasAfter q (g .new ++ (rec ∷ [])) ≡ (hasAfter q (g .new) || eqb q p)
   after-more q =
-      someOf-append (λ (r : Rec). eqb (r .after) q) (g .new) (rec ∷ []) ∙ ap (λ (t : Bool). hasAfter q (g .new) || t) (or-no (eqb p q) ∙ eqb-swap p q)
+      someOf-append (λ (r : Rec). eqb (r .after) q) (g .new) (rec ∷ [])
+      ∙ ap (λ (t : Bool). hasAfter q (g .new) || t) (or-no (eqb p q) ∙ eqb-swap p q)
 
   used-next : (q : ℕ) → q < x .sizes .n → entryAt (w′ .book .entries) q .held ≡ true → namesIn (x .maps) v (set (u′ .copy) (c .lbn) p) q ≡ 0
       → (reaches x 0 q || hasBefore q (g .new ++ (rec ∷ []))) ≡ true
@@ -103,11 +108,13 @@ module _ (x : Book) (v : ℕ) (inside : v < length (x .maps)) (small : x .sizes 
           (g .used q k (ap (λ e. e .held) (sym (r .others q (eqb-false q p f))) ∙ h) (omega (arith, ap bit e, ap bit f, cells q)))
 
   free-next : (q : ℕ) → q < x .sizes .n → entryAt (w′ .book .entries) q .held ≡ false
-      → (namesIn (x .maps) v (set (u′ .copy) (c .lbn) p) q ≡ 0) × (hasBefore q (g .new ++ (rec ∷ [])) ≡ false) × (entryAt (x .entries) q .held ≡ false)
+      → (namesIn (x .maps) v (set (u′ .copy) (c .lbn) p) q ≡ 0) × (hasBefore q (g .new ++ (rec ∷ [])) ≡ false)
+      × (entryAt (x .entries) q .held ≡ false)
   free-next q k h = go (eqb q before) (eqb q p) refl refl
     where
       go : (s t : Bool) → eqb q before ≡ s → eqb q p ≡ t
-          → (namesIn (x .maps) v (set (u′ .copy) (c .lbn) p) q ≡ 0) × (hasBefore q (g .new ++ (rec ∷ [])) ≡ false) × (entryAt (x .entries) q .held ≡ false)
+          → (namesIn (x .maps) v (set (u′ .copy) (c .lbn) p) q ≡ 0) × (hasBefore q (g .new ++ (rec ∷ [])) ≡ false)
+          × (entryAt (x .entries) q .held ≡ false)
       go s true e f = absurd (not-both (entryAt (w′ .book .entries) q .held) (rw (eqb-true q p f) (r .holds)) h)
       go s false e f =
           let o = g .free q k (ap (λ e. e .held) (sym (r .others q (eqb-false q p f))) ∙ h) in
@@ -125,7 +132,9 @@ module _ (x : Book) (v : ℕ) (inside : v < length (x .maps)) (small : x .sizes 
       let d = or-neither (hasAfter q (g .new)) (eqb q p) (sym (after-more q) ∙ f) in
       (b .1, d .1, r .others q (eqb-false q p (d .1)) ∙ g .kept q k (b .0) (d .0))
 
-  records-next : w′ .book .records ++ (record { lbn = c .lbn; before = cellAt (w′ .book .maps) v (c .lbn); after = p } ∷ []) ≡ x .records ++ (g .new ++ (rec ∷ []))
+  records-next : w′ .book .records
+      ++ (record { lbn = c .lbn; before = cellAt (w′ .book .maps) v (c .lbn); after = p } ∷ [])
+      ≡ x .records ++ (g .new ++ (rec ∷ []))
   records-next =
       ap (λ (b : ℕ). w′ .book .records ++ (record { lbn = c .lbn; before = b; after = p } ∷ []))
       (cell-before x v (c .lbn) w′ u′ level′ inside)
@@ -150,7 +159,8 @@ module _ (x : Book) (v : ℕ) (inside : v < length (x .maps)) (small : x .sizes 
       ∙ later (entryAt (x .entries) q .expiry) until (hasBefore q (g .new)) (eqb q before)
       ∙ ap (λ (t : Bool). max (entryAt (x .entries) q .expiry) (if t then until else 0)) (sym (before-more q))
 
-  prints-next : differ (map (λ (e : Entry). e .print) (those (λ (e : Entry). e .held) (movedEntries until before p (w′ .book .entries)))) ≡ true
+  prints-next : differ (map (λ (e : Entry). e .print)
+      (those (λ (e : Entry). e .held) (movedEntries until before p (w′ .book .entries)))) ≡ true
   unfolding printsSound
   prints-next = ap differ (moved-prints until before p (w′ .book .entries)) ∙ r .prints (g .prints)
 

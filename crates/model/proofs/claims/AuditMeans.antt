@@ -19,7 +19,8 @@ use Rattle.book.specs.Book.{volumes, Entry, Rec, Book, entryAt, cellAt, retenti
 use Rattle.model.specs.Days
 use Rattle.model.specs.Journal.{Backup, journal, days}
 use Rattle.model.specs.Read.{image}
-use Rattle.model.specs.Audit.{applied, replayed, beforesIn, befores, noMaps, sameMap, mapsSound, countSound, untilIn, expirySound, printsSound, cellSound, currentSound, backupSound, backupsSound, audit}
+use Rattle.model.specs.Audit.{applied, replayed, beforesIn, befores, noMaps, sameMap, mapsSound, countSound, untilIn, expirySound}
+use Rattle.model.specs.Audit.{printsSound, cellSound, currentSound, backupSound, backupsSound, audit}
 use Rattle.model.specs.Claims.{BeforesIn, Befores, Holds, Differ, Means}
 
 -- ---- tests and facts
@@ -59,7 +60,9 @@ held-every f [] = (λ e q h. absurd (omega arith), λ g. refl)
 held-every f (e ∷ es) = go (e .held) refl (held-every f es)
   where
     go : (t : Bool) → e .held ≡ t → (all f (heldPrints es) ≡ true) ↔ Every f es
-        → (all f (map (λ (e : Entry). e .print) (if t then e ∷ those (λ (e : Entry). e .held) es else those (λ (e : Entry). e .held) es)) ≡ true) ↔ Every f (e ∷ es)
+        → (all f (map (λ (e : Entry). e .print)
+        (if t then e ∷ those (λ (e : Entry). e .held) es
+        else those (λ (e : Entry). e .held) es)) ≡ true) ↔ Every f (e ∷ es)
     go true k ih = (to, λ g. true-and _ _ (g 0 (omega arith) k) (ih .1 (λ q h. g (suc q) (omega arith))))
       where
         to : (f (e .print) && all f (heldPrints es)) ≡ true → Every f (e ∷ es)
@@ -76,14 +79,18 @@ prints-differ [] = (λ e p q h k. absurd (omega arith), λ g. refl)
 prints-differ (e ∷ es) = go (e .held) refl (prints-differ es)
   where
     go : (t : Bool) → e .held ≡ t → (differ (heldPrints es) ≡ true) ↔ Differ es
-        → (differ (map (λ (e : Entry). e .print) (if t then e ∷ those (λ (e : Entry). e .held) es else those (λ (e : Entry). e .held) es)) ≡ true) ↔ Differ (e ∷ es)
+        → (differ (map (λ (e : Entry). e .print)
+        (if t then e ∷ those (λ (e : Entry). e .held) es
+        else those (λ (e : Entry). e .held) es)) ≡ true) ↔ Differ (e ∷ es)
     go true k ih = (to, from)
       where
         to : (all (λ y. not (same (e .print) y)) (heldPrints es) && differ (heldPrints es)) ≡ true → Differ (e ∷ es)
         to a p zero h = absurd (omega arith)
         to a zero (suc q) h = λ l m n z.
             let w = and-true (all (λ y. not (same (e .print) y)) (heldPrints es)) (differ (heldPrints es)) a in
-            let o = not-true (same (e .print) (entryAt es q .print)) (held-every (λ y. not (same (e .print) y)) es .0 (w .0) q (omega arith) n) in
+            let o =
+            not-true (same (e .print) (entryAt es q .print))
+            (held-every (λ y. not (same (e .print) y)) es .0 (w .0) q (omega arith) n) in
             not-both (same (e .print) (entryAt es q .print)) (rw (sym z) (same-self (e .print))) o
         to a (suc p) (suc q) h =
             let w = and-true (all (λ y. not (same (e .print) y)) (heldPrints es)) (differ (heldPrints es)) a in
@@ -92,7 +99,9 @@ prints-differ (e ∷ es) = go (e .held) refl (prints-differ es)
         from : Differ (e ∷ es) → (all (λ y. not (same (e .print) y)) (heldPrints es) && differ (heldPrints es)) ≡ true
         from g =
             true-and (all (λ y. not (same (e .print) y)) (heldPrints es)) (differ (heldPrints es))
-            (held-every (λ y. not (same (e .print) y)) es .1 (λ q h n. ap not (surely-not (same (e .print) (entryAt es q .print)) (λ o. g 0 (suc q) (omega arith) (omega arith) k n (same-equal (e .print) (entryAt es q .print) o)))))
+            (held-every (λ y. not (same (e .print) y)) es .1
+            (λ q h n. ap not (surely-not (same (e .print) (entryAt es q .print))
+            (λ o. g 0 (suc q) (omega arith) (omega arith) k n (same-equal (e .print) (entryAt es q .print) o)))))
             (ih .1 (λ p q h l. g (suc p) (suc q) (omega arith) (omega arith)))
     go false k ih = (to, λ g. ih .1 (λ p q h l. g (suc p) (suc q) (omega arith) (omega arith)))
       where
@@ -104,13 +113,18 @@ prints-differ (e ∷ es) = go (e .held) refl (prints-differ es)
 -- ---- the whole
 
 module _ (x : Book) where
-  maps-mean : (mapsSound x ≡ true) ↔ (Befores (noMaps x) (journal x) × ((v : ℕ) → v < volumes → getD (x .maps) v [] ≡ getD (replayed (noMaps x) (journal x)) v []))
+  maps-mean : (mapsSound x ≡ true)
+      ↔ (Befores (noMaps x) (journal x)
+      × ((v : ℕ) → v < volumes → getD (x .maps) v [] ≡ getD (replayed (noMaps x) (journal x)) v []))
   unfolding mapsSound
   maps-mean =
       let ms = replayed (noMaps x) (journal x) in
       let b = befores-all (noMaps x) (journal x) in (
-        λ e. let w = and-true (befores (noMaps x) (journal x)) (all (sameMap (x .maps) ms) (upFrom 0 volumes)) e in
-            (b .0 (w .0), λ v h. same-equal (getD (x .maps) v []) (getD ms v []) (upFrom-all (sameMap (x .maps) ms) 0 volumes (w .1) v (omega arith) (omega arith))),
+        λ e. let w = and-true (befores (noMaps x) (journal x)) (all (sameMap (x .maps) ms) (upFrom 0 volumes)) e in (
+          b .0 (w .0),
+          λ v h. same-equal (getD (x .maps) v []) (getD ms v [])
+              (upFrom-all (sameMap (x .maps) ms) 0 volumes (w .1) v (omega arith) (omega arith)),
+        ),
         λ g. true-and (befores (noMaps x) (journal x)) (all (sameMap (x .maps) ms) (upFrom 0 volumes)) (b .1 (g .0))
             (all-upFrom (sameMap (x .maps) ms) 0 volumes (λ v _ h. rw (g .1 v (omega arith)) (same-self (getD ms v [])))),
       )
@@ -135,8 +149,10 @@ module _ (x : Book) where
       ↔ ((v l : ℕ) → v < length (x .maps) → l < length (getD (x .maps) v []) → Holds x (cellAt (x .maps) v l))
   unfolding currentSound
   current-means = (
-    λ e v l h k. cell-holds x _ .0 (all-place (cellSound x) (getD (x .maps) v []) unmapped l (all-place (all (cellSound x)) (x .maps) [] v e h) k),
-    λ g. place-all (all (cellSound x)) (x .maps) [] (λ v h. place-all (cellSound x) (getD (x .maps) v []) unmapped (λ l k. cell-holds x _ .1 (g v l h k))),
+    λ e v l h k. cell-holds x _ .0
+        (all-place (cellSound x) (getD (x .maps) v []) unmapped l (all-place (all (cellSound x)) (x .maps) [] v e h) k),
+    λ g. place-all (all (cellSound x)) (x .maps) []
+        (λ v h. place-all (cellSound x) (getD (x .maps) v []) unmapped (λ l k. cell-holds x _ .1 (g v l h k))),
   )
 
   backup-means : (v k : ℕ) → (backupSound x v k ≡ true)
@@ -153,14 +169,18 @@ module _ (x : Book) where
       go false = (λ e l z. absurd (not-both false z refl), λ g. refl)
 
   backups-mean : (backupsSound x ≡ true)
-      ↔ ((v k l : ℕ) → v < volumes → 1 ≤ k → k ≤ length (days x v) → Days.kept (days x v) (retentionOf x v) (x .day) k ≡ true → l < x .sizes .l → Holds x (image x v k l))
+      ↔ ((v k l : ℕ) → v < volumes → 1 ≤ k → k ≤ length (days x v)
+      → Days.kept (days x v) (retentionOf x v) (x .day) k ≡ true → l < x .sizes .l → Holds x (image x v k l))
   unfolding backupsSound
   backups-mean = (
     λ e v k l h a b z. backup-means v k .0
-        (upFrom-all (backupSound x v) 1 (length (days x v)) (upFrom-all (λ v. all (backupSound x v) (upFrom 1 (length (days x v)))) 0 volumes e v (omega arith) (omega arith)) k a (omega arith))
+        (upFrom-all (backupSound x v) 1 (length (days x v))
+        (upFrom-all (λ v. all (backupSound x v) (upFrom 1 (length (days x v)))) 0 volumes e v (omega arith)
+        (omega arith)) k a (omega arith))
         l z,
     λ g. all-upFrom (λ v. all (backupSound x v) (upFrom 1 (length (days x v)))) 0 volumes
-        (λ v _ h. all-upFrom (backupSound x v) 1 (length (days x v)) (λ k a b. backup-means v k .1 (λ l. g v k l (omega arith) a (omega arith)))),
+        (λ v _ h. all-upFrom (backupSound x v) 1 (length (days x v))
+        (λ k a b. backup-means v k .1 (λ l. g v k l (omega arith) a (omega arith)))),
   )
 
   -- "Audit says yes exactly when"

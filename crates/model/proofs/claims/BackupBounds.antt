@@ -12,11 +12,12 @@ use Rattle.words.specs.Blocks.{unmapped}
 use Rattle.words.specs.Choice.{if_then_else_}
 use Rattle.words.specs.Lists.{same}
 use Rattle.words.specs.Outcome.{refused, accepted, andThen}
-use Rattle.list.specs.Changes.{Change, changes, changeCount}
-use Rattle.list.proofs.Laws.{length-changes}
+use Rattle.runs.specs.Changes.{Change, changes, changeCount}
+use Rattle.runs.proofs.Laws.{length-changes}
 use Rattle.book.specs.Book.{Book, cellAt, retentionOf}
 use Rattle.model.specs.Pool.{blockAt}
-use Rattle.model.specs.Backup.{Work, Placed, Backed, findHeld, findFree, takeBlock, placeFree, placeHeld, place, moveNumber, moved, moveTo, changeStep, runChanges, begun, closed, backupNumber, backup}
+use Rattle.model.specs.Backup.{Work, Placed, Backed, findHeld, findFree, takeBlock, placeFree, placeHeld, place, moveNumber, moved}
+use Rattle.model.specs.Backup.{moveTo, changeStep, runChanges, begun, closed, backupNumber, backup}
 
 -- ---- a step that answers so much more
 

@@ -17,12 +17,14 @@ use Rattle.words.specs.Lists.{bit}
 use Rattle.words.proofs.Counting.{count-set, count-set-kept}
 use Rattle.words.specs.Lists.{countOf, same}
 use Rattle.words.specs.Outcome.{refused, accepted, andThen}
-use Rattle.list.specs.Changes.{Change, changes, changeCount}
-use Rattle.list.proofs.Laws.{length-changes}
+use Rattle.runs.specs.Changes.{Change, changes, changeCount}
+use Rattle.runs.proofs.Laws.{length-changes}
 use Rattle.book.specs.Book.{Entry, Rec, Book, entryAt, freeEntry, cellAt, retentionOf}
 use Rattle.book.specs.Next.{withDay, withCursor, withEntries, withMaps, withRecord, withSlot, countAs, expiryAs, heldAs}
 use Rattle.model.specs.Pool.{blockAt}
-use Rattle.model.specs.Backup.{Work, Placed, Backed, findHeld, findFree, takeBlock, placeFree, placeHeld, place, lowered, lower, raised, nameBlock, moveNumber, moved, moveTo, changeStep, runChanges, begun, closed, backupNumber, backup}
+use Rattle.model.specs.Backup.{Work, Placed, Backed, findHeld, findFree, takeBlock, placeFree, placeHeld, place, lowered, lower}
+use Rattle.model.specs.Backup.{raised, nameBlock, moveNumber, moved, moveTo, changeStep, runChanges, begun, closed, backupNumber}
+use Rattle.model.specs.Backup.{backup}
 use Rattle.model.specs.Claims.{heldIn}
 use Rattle.model.proofs.claims.FoundBlocks.{free-next}
 use Rattle.model.specs.Claims.{hadBefore, Answered}
@@ -48,7 +50,8 @@ module _ (c : Change) (w : Work) where
       let z : bit (entryAt (w .book .entries) p .held) ≡ 0 = rw (f .free) in
       record { maps = refl; records = refl; taken = omega arith; touched = refl }
 
-  free-counted : (o : Option ℕ) (d : Placed) → findFree (w .book .entries) (w .book .cursor) ≡ o → placeFree c w o ≡ accepted d → Took w (d .work)
+  free-counted : (o : Option ℕ) (d : Placed) → findFree (w .book .entries) (w .book .cursor) ≡ o
+      → placeFree c w o ≡ accepted d → Took w (d .work)
   unfolding placeFree
   free-counted none d f e = absurd (refused-not 12 d e)
   free-counted (some p) d f e = let q : takeBlock c p w ≡ d .work = cc in subst (Took w) q (take-counted p f)
@@ -126,7 +129,13 @@ change-counted v until c w w′ e =
 run-counted : (v until : ℕ) (cs : List Change) (w w′ : Work) → runChanges v until cs w ≡ accepted w′ → Counted (length cs) w w′
 run-counted v until [] w w′ e =
     let q : w ≡ w′ = cc in
-    subst (Counted 0 w) q (record { added = []; records = sym (append-nil (w .book .records)); changes = refl; taken = refl; touched = omega arith })
+    subst (Counted 0 w) q (record {
+      added = [];
+      records = sym (append-nil (w .book .records));
+      changes = refl;
+      taken = refl;
+      touched = omega arith;
+    })
 run-counted v until (c ∷ cs) w w′ e =
     let p = then-accepted (changeStep v until c w) (λ u. runChanges v until cs u) w′ e in
     let a = change-counted v until c w (p .0) (p .1) in

@@ -13,10 +13,10 @@ use Rattle.words.specs.Lists.{countOf}
 use Rattle.words.proofs.Places.{getD-map}
 use Rattle.words.proofs.Tests.{surely}
 use Rattle.book.specs.Book.{Entry, Book, entryAt, freeEntry, noPrint}
-use Rattle.book.specs.Next.{withDay, withEntries, freed}
+use Rattle.book.specs.Next.{withDay, withEntries, madeFree}
 use Rattle.model.specs.Days.{badDay}
 use Rattle.model.proofs.kept.DayLaws.{good-day}
-use Rattle.model.specs.Collect.{collectNumber, isOver, entryAfter, collected}
+use Rattle.model.specs.Collect.{collectNumber, isOver, sweptEntry, collected}
 use Rattle.model.specs.Claims.{heldIn}
 
 -- ---- number 7
@@ -43,11 +43,11 @@ pub over-was-held : (t : ℕ) (e : Entry) → isOver t e ≡ true → e .held �
 unfolding isOver
 over-was-held t e o = and-true _ _ (and-true _ _ o .0) .0
 
-after-iff : (t : ℕ) (e : Entry) → e .held ≡ true → (entryAfter t e .held ≡ false) ↔ ((e .count ≡ 0) × (e .expiry < t))
-unfolding entryAfter freed
+after-iff : (t : ℕ) (e : Entry) → e .held ≡ true → (sweptEntry t e .held ≡ false) ↔ ((e .count ≡ 0) × (e .expiry < t))
+unfolding sweptEntry madeFree
 after-iff t e h = go (isOver t e) refl
   where
-    go : (o : Bool) → isOver t e ≡ o → ((if o then freed e else e) .held ≡ false) ↔ ((e .count ≡ 0) × (e .expiry < t))
+    go : (o : Bool) → isOver t e ≡ o → ((if o then madeFree e else e) .held ≡ false) ↔ ((e .count ≡ 0) × (e .expiry < t))
     go true f = (λ z. over-iff t e h .0 f, λ g. refl)
     go false f = (λ z. absurd (not-both (e .held) h z), λ g. absurd (not-both (isOver t e) (over-iff t e h .1 g) f))
 
@@ -59,19 +59,19 @@ pub record Freed (e e′ : Entry) : Type 0 where
   pub expiry : e′ .expiry ≡ e .expiry
   pub count : e′ .count ≡ e .count
 
-freed-entry : (t : ℕ) (e : Entry) → e .held ≡ true → entryAfter t e .held ≡ false → Freed e (entryAfter t e)
-unfolding entryAfter freed
+freed-entry : (t : ℕ) (e : Entry) → e .held ≡ true → sweptEntry t e .held ≡ false → Freed e (sweptEntry t e)
+unfolding sweptEntry madeFree
 freed-entry t e h z = go (isOver t e) z
   where
-    go : (o : Bool) → (if o then freed e else e) .held ≡ false → Freed e (if o then freed e else e)
+    go : (o : Bool) → (if o then madeFree e else e) .held ≡ false → Freed e (if o then madeFree e else e)
     go true z = record { print = refl; expiry = refl; count = refl }
     go false z = absurd (not-both (e .held) h z)
 
-same-entry : (t : ℕ) (e : Entry) → entryAfter t e .held ≡ e .held → entryAfter t e ≡ e
-unfolding entryAfter freed
+same-entry : (t : ℕ) (e : Entry) → sweptEntry t e .held ≡ e .held → sweptEntry t e ≡ e
+unfolding sweptEntry madeFree
 same-entry t e z = go (isOver t e) refl z
   where
-    go : (o : Bool) → isOver t e ≡ o → (if o then freed e else e) .held ≡ e .held → (if o then freed e else e) ≡ e
+    go : (o : Bool) → isOver t e ≡ o → (if o then madeFree e else e) .held ≡ e .held → (if o then madeFree e else e) ≡ e
     go true f z = absurd (not-both (e .held) (over-was-held t e f) (sym z))
     go false f z = refl
 
@@ -82,9 +82,9 @@ module _ (x : Book) (t p : ℕ) (h : p < length (x .entries)) where
   abbrev is : Entry
   is = entryAt (collected x t .book .entries) p
 
-  entry-after : is ≡ entryAfter t was
+  entry-after : is ≡ sweptEntry t was
   unfolding collected withDay withEntries
-  entry-after = getD-map (entryAfter t) (x .entries) p freeEntry freeEntry h
+  entry-after = getD-map (sweptEntry t) (x .entries) p freeEntry freeEntry h
 
   -- "each held block with count 0 and expiry < T becomes free", and no other
   pub collect-frees : was .held ≡ true → (is .held ≡ false) ↔ ((was .count ≡ 0) × (was .expiry < t))
@@ -98,13 +98,14 @@ module _ (x : Book) (t p : ℕ) (h : p < length (x .entries)) where
 
 -- ---- "The answer is how many"
 
-freed-some : (t : ℕ) (es : List Entry) → countOf (isOver t) es + heldIn (map (entryAfter t) es) ≡ heldIn es
-unfolding entryAfter freed
+freed-some : (t : ℕ) (es : List Entry) → countOf (isOver t) es + heldIn (map (sweptEntry t) es) ≡ heldIn es
+unfolding sweptEntry madeFree
 freed-some t [] = refl
 freed-some t (e ∷ es) = go (isOver t e) (e .held) refl refl (freed-some t es)
   where
-    go : (o h : Bool) → isOver t e ≡ o → e .held ≡ h → countOf (isOver t) es + heldIn (map (entryAfter t) es) ≡ heldIn es
-        → (if o then suc (countOf (isOver t) es) else countOf (isOver t) es) + heldIn ((if o then freed e else e) ∷ map (entryAfter t) es)
+    go : (o h : Bool) → isOver t e ≡ o → e .held ≡ h → countOf (isOver t) es + heldIn (map (sweptEntry t) es) ≡ heldIn es
+        → (if o then suc (countOf (isOver t) es) else countOf (isOver t) es)
+        + heldIn ((if o then madeFree e else e) ∷ map (sweptEntry t) es)
         ≡ (if h then suc (heldIn es) else heldIn es)
     go true true f k ih = omega arith
     go true false f k ih = absurd (not-both (e .held) (over-was-held t e f) k)

@@ -7,19 +7,19 @@ use native.Mathlib.Omega.{arith}
 use Rattle.words.specs.Choice.{if_then_else_}
 use Rattle.words.specs.Lists.{countOf}
 use Rattle.book.specs.Book.{Book, Entry}
-use Rattle.book.specs.Next.{withDay, withEntries, freed}
-use Rattle.model.specs.Collect.{collectNumber, isOver, entryAfter, collected}
+use Rattle.book.specs.Next.{withDay, withEntries, madeFree}
+use Rattle.model.specs.Collect.{collectNumber, isOver, sweptEntry, collected}
 use Rattle.model.proofs.claims.CollectLaws.{collect-days}
 
-after-not-over : (t : ℕ) (e : Entry) → isOver t (entryAfter t e) ≡ false
-unfolding isOver entryAfter freed
+after-not-over : (t : ℕ) (e : Entry) → isOver t (sweptEntry t e) ≡ false
+unfolding isOver sweptEntry madeFree
 after-not-over t e = go (isOver t e) refl
   where
-    go : (o : Bool) → isOver t e ≡ o → isOver t (if o then freed e else e) ≡ false
+    go : (o : Bool) → isOver t e ≡ o → isOver t (if o then madeFree e else e) ≡ false
     go true f = refl
     go false f = f
 
-pub none-over : (t : ℕ) (es : List Entry) → countOf (isOver t) (map (entryAfter t) es) ≡ 0
+pub none-over : (t : ℕ) (es : List Entry) → countOf (isOver t) (map (sweptEntry t) es) ≡ 0
 none-over t [] = refl
 none-over t (e ∷ es) = rw (after-not-over t e, none-over t es)
 

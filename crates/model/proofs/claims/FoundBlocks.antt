@@ -66,17 +66,25 @@ module _ (es : List Entry) (c : ℕ) where
   above q h = let k : c + (q - c) ≡ q = omega arith in getD-drop c es (q - c) freeEntry ∙ rw k
 
   up-first : (p : ℕ) → up ≡ some p → (q : ℕ) → c ≤ q → q < p → entryAt es q .held ≡ true
-  up-first p e q h k = not-false (entryAt es q .held) (rw (above q h) at (place-first isFree freeEntry c (drop c es) p e (q - c) (omega arith)))
+  up-first p e q h k =
+      not-false (entryAt es q .held)
+      (rw (above q h) at (place-first isFree freeEntry c (drop c es) p e (q - c) (omega arith)))
 
   up-none : up ≡ none → (q : ℕ) → c ≤ q → q < length es → entryAt es q .held ≡ true
-  up-none e q h k = not-false (entryAt es q .held) (rw (above q h) at (place-none isFree freeEntry c (drop c es) e (q - c) (omega (arith, length-drop c es))))
+  up-none e q h k =
+      not-false (entryAt es q .held)
+      (rw (above q h) at (place-none isFree freeEntry c (drop c es) e (q - c) (omega (arith, length-drop c es))))
 
   round-first : (p : ℕ) → round ≡ some p → (q : ℕ) → q < c → q < p → entryAt es q .held ≡ true
-  round-first p e q h k = not-false (entryAt es q .held) (rw (getD-take c es q freeEntry h) at (place-first isFree freeEntry 0 (take c es) p e q (omega arith)))
+  round-first p e q h k =
+      not-false (entryAt es q .held)
+      (rw (getD-take c es q freeEntry h) at (place-first isFree freeEntry 0 (take c es) p e q (omega arith)))
 
   round-none : round ≡ none → (q : ℕ) → q < c → q < length es → entryAt es q .held ≡ true
   round-none e q h k =
-      not-false (entryAt es q .held) (rw (getD-take c es q freeEntry h) at (place-none isFree freeEntry 0 (take c es) e q (omega (arith, length-take c es))))
+      not-false (entryAt es q .held)
+      (rw (getD-take c es q freeEntry h) at
+      (place-none isFree freeEntry 0 (take c es) e q (omega (arith, length-take c es))))
 
   -- "no free block": every block is held
   pub free-none : findFree es c ≡ none → (q : ℕ) → q < length es → entryAt es q .held ≡ true
@@ -98,7 +106,8 @@ module _ (es : List Entry) (c : ℕ) where
         first = λ q h f. first q h f (omega (arith, length-drop c es)) (decLt q c) (decLt q p);
       }
     where
-      first : (q : ℕ) → q < length es → entryAt es q .held ≡ false → (c ≤ p) × (p < length es) → Dec (q < c) → Dec (q < p) → passed (length es) c p ≤ passed (length es) c q
+      first : (q : ℕ) → q < length es → entryAt es q .held ≡ false → (c ≤ p) × (p < length es) → Dec (q < c)
+          → Dec (q < p) → passed (length es) c p ≤ passed (length es) c q
       first q h f k (yes a) d = omega (arith, passed-up (length es) c p (k .0), passed-round (length es) c q a)
       first q h f k (no a) (yes b) = absurd (not-both (entryAt es q .held) (up-first p e q (omega arith) b) f)
       first q h f k (no a) (no b) = omega (arith, passed-up (length es) c p (k .0), passed-up (length es) c q (omega arith))
@@ -114,7 +123,8 @@ module _ (es : List Entry) (c : ℕ) where
         first = λ q h f. first q h f l (decLt q c) (decLt q p);
       }
     where
-      first : (q : ℕ) → q < length es → entryAt es q .held ≡ false → p < c → Dec (q < c) → Dec (q < p) → passed (length es) c p ≤ passed (length es) c q
+      first : (q : ℕ) → q < length es → entryAt es q .held ≡ false → p < c → Dec (q < c) → Dec (q < p)
+          → passed (length es) c p ≤ passed (length es) c q
       first q h f k (no a) d = absurd (not-both (entryAt es q .held) (up-none n q (omega arith) h) f)
       first q h f k (yes a) (yes b) = absurd (not-both (entryAt es q .held) (round-first p e q a b) f)
       first q h f k (yes a) (no b) = omega (arith, passed-round (length es) c p k, passed-round (length es) c q a)

@@ -11,7 +11,7 @@ use Rattle.words.proofs.Accepted.{unless-accepted, then-accepted}
 use Rattle.words.specs.Blocks.{blockSize}
 use Rattle.words.specs.Choice.{if_then_else_}
 use Rattle.words.specs.Outcome.{Outcome, refused, accepted, andThen}
-use Rattle.list.specs.Changes.{Change, changes, changeCount}
+use Rattle.runs.specs.Changes.{Change, changes, changeCount}
 use Rattle.book.specs.Book.{Sizes, Entry, Book, entryAt}
 use Rattle.book.proofs.Bytes.{length-bytes}
 use Rattle.book.specs.Layout.{bookSize, bytes}
@@ -25,8 +25,9 @@ use Rattle.model.specs.Calls.{Call, enrol, backup, collect, read, audit}
 use Rattle.model.specs.Claims.{Fresh, plainEnd}
 use Rattle.model.specs.OnBytes.{CollectedBytes, backedBytes, enrolBytes, collectBytes}
 use Rattle.model.proofs.form.OnBytesFit.{backup-on-bytes}
-use Rattle.model.specs.Plain.{Block, free, held, Plain, start, currentMaps, withDay, withBlocks, withVolume}
-use Rattle.model.specs.PlainBackup.{Work, place, moveNumber, moved, moveTo, changeStep, runChanges, begun, closed, backupNumber}
+use Rattle.model.specs.Plain.{Block, free, held, Plain, start, currentMaps, atDay, withBlocks, withVolume}
+use Rattle.model.specs.PlainBackup.{PlainWork, place, moveNumber, moved, moveTo, changeStep, runChanges, begun, closed, backupNumber}
+use Rattle.model.specs.PlainBackup.{PlainBacked}
 use Rattle.model.specs.PlainBackup
 use Rattle.model.proofs.plain.PlainPlacing.{Grown, grown-self, grown-then, place-placed}
 use Rattle.model.proofs.plain.PlainShows.{heldBytes, shownAt}
@@ -78,36 +79,39 @@ agree-pool {x} {pool} {pool′} {q} g l h = record {
   prints = g .prints;
 }
 
-stand-serves : {z : Sizes} {o : Ours} {q : Plain} (pool : List ℕ) → Stand z o q → Serves o pool → Stand z (record { book = o .book; pool = pool }) q
+stand-serves : {z : Sizes} {o : Ours} {q : Plain} (pool : List ℕ) → Stand z o q → Serves o pool
+    → Stand z (record { book = o .book; pool = pool }) q
 stand-serves pool′ (stand x pool q g e) s =
     stand x pool′ q
     (agree-pool g (s .long) (λ p k. s .holds p (ap (λ (y : Book). entryAt (y .entries) p .held) (fit-book (g .fit)) ∙ k))) e
 
 -- ---- a backup of the plain store leaves its held blocks
 
-change-grown : (maps : List (List ℕ)) (v : ℕ) (c : Change) (w w′ : Work) → changeStep maps v c w ≡ accepted w′ → Grown (w .blocks) (w′ .blocks)
+change-grown : (maps : List (List ℕ)) (v : ℕ) (c : Change) (w w′ : PlainWork) → changeStep maps v c w ≡ accepted w′
+    → Grown (w .blocks) (w′ .blocks)
 unfolding changeStep moveTo moved
 change-grown maps v c w w′ e =
     let p = then-accepted (place c w) (moveTo maps v (c .lbn)) w′ e in
     let m = unless-accepted (moveNumber maps v (c .lbn) (p .0)) (accepted (moved (c .lbn) (p .0))) w′ (p .2) in
     let same : moved (c .lbn) (p .0) ≡ w′ = cc (m .1) in
-    rw (← (ap (λ (w : Work). w .blocks) same)) (place-placed c w (p .0) (p .1) .grown)
+    rw (← (ap (λ (w : PlainWork). w .blocks) same)) (place-placed c w (p .0) (p .1) .grown)
 
-run-grown : (maps : List (List ℕ)) (v : ℕ) (cs : List Change) (w w′ : Work) → runChanges maps v cs w ≡ accepted w′ → Grown (w .blocks) (w′ .blocks)
+run-grown : (maps : List (List ℕ)) (v : ℕ) (cs : List Change) (w w′ : PlainWork) → runChanges maps v cs w ≡ accepted w′
+    → Grown (w .blocks) (w′ .blocks)
 run-grown maps v [] w w′ e = let same : w ≡ w′ = cc in rw (← same) (grown-self (w .blocks))
 run-grown maps v (c ∷ cs) w w′ e =
     let p = then-accepted (changeStep maps v c w) (λ u. runChanges maps v cs u) w′ e in
     grown-then (change-grown maps v c w (p .0) (p .1)) (run-grown maps v cs (p .0) w′ (p .2))
 
-backup-grown : (q : Plain) (v t : ℕ) (list : List ℕ) (d : PlainBackup.Backed) → PlainBackup.backup q v t list ≡ accepted d
+backup-grown : (q : Plain) (v t : ℕ) (list : List ℕ) (d : PlainBacked) → PlainBackup.backup q v t list ≡ accepted d
     → Grown (q .blocks) (d .store .blocks)
-unfolding PlainBackup.backup begun closed withDay withBlocks withVolume
+unfolding PlainBackup.backup begun closed atDay withBlocks withVolume
 backup-grown q v t list d e =
     let o = runChanges (currentMaps q) v (changes list) (begun q v) in
     let f = unless-accepted (backupNumber q v t list) (andThen o (λ w. accepted (closed q v t (changeCount list) w))) d e in
     let p = then-accepted o (λ w. accepted (closed q v t (changeCount list) w)) d (f .1) in
     let same : closed q v t (changeCount list) (p .0) ≡ d = cc (p .2) in
-    rw (← (ap (λ (b : PlainBackup.Backed). b .store .blocks) same)) (run-grown (currentMaps q) v (changes list) (begun q v) (p .0) (p .1))
+    rw (← (ap (λ (b : PlainBacked). b .store .blocks) same)) (run-grown (currentMaps q) v (changes list) (begun q v) (p .0) (p .1))
 
 -- ---- so does a backup on our side
 
@@ -145,7 +149,8 @@ module _ (spare : ℕ) {x : Book} {pool : List ℕ} {q : Plain} (g : Agree x poo
   here = record { book = bytes x; pool = pool }
 
   -- a pool that serves the book, block by block
-  serves : (pool′ : List ℕ) → length pool′ ≡ length pool → ((p : ℕ) → entryAt (x .entries) p .held ≡ true → blockAt pool′ p ≡ blockAt pool p)
+  serves : (pool′ : List ℕ) → length pool′ ≡ length pool
+      → ((p : ℕ) → entryAt (x .entries) p .held ≡ true → blockAt pool′ p ≡ blockAt pool p)
       → Serves here pool′
   serves pool′ l h = record {
     long = l;
@@ -161,7 +166,7 @@ module _ (spare : ℕ) {x : Book} {pool : List ℕ} {q : Plain} (g : Agree x poo
       rw (backup-on-bytes (fit-form (g .fit)) (fit-book (g .fit)) pool (g .poolLong) (length-bytes x) spare enough v t list)
       (go (Backup.backup x pool v t list) refl (PlainBackup.backup q v t list) refl (backup-agree g v t list))
     where
-      go : (a : Outcome Backed) → Backup.backup x pool v t list ≡ a → (b : Outcome PlainBackup.Backed) → PlainBackup.backup q v t list ≡ b
+      go : (a : Outcome Backed) → Backup.backup x pool v t list ≡ a → (b : Outcome PlainBacked) → PlainBackup.backup q v t list ≡ b
           → BothBacked x q v list a b → Serves here (oursBacked here (andThen a (λ d. accepted (backedBytes d))) .next .pool)
       go a e b e′ (stopped k d) = serves-same
       go a e b e′ (backed d f h) =
@@ -188,7 +193,8 @@ module _ (spare : ℕ) {x : Book} {pool : List ℕ} {q : Plain} (g : Agree x poo
   call-serves (read v k lbn) = serves-same
   call-serves audit = serves-same
 
-stand-leaves : {z : Sizes} (spare : ℕ) → bookSize z ≤ spare → {o : Ours} {q : Plain} → Stand z o q → (c : Call) → Serves o (ours spare o c .next .pool)
+stand-leaves : {z : Sizes} (spare : ℕ) → bookSize z ≤ spare → {o : Ours} {q : Plain} → Stand z o q → (c : Call)
+    → Serves o (ours spare o c .next .pool)
 stand-leaves spare enough (stand x pool q g e) c = call-serves spare g (rw e enough) c
 
 -- ---- the claim, for every fresh book, every list of calls and all cuts
@@ -196,7 +202,8 @@ stand-leaves spare enough (stand x pool q g e) c = call-serves spare g (rw e eno
 reached-stands : (f : Fresh) (cs : List Call) (o : Ours) → Reached f cs o → Stand (f .sizes) o (plainEnd f cs)
 reached-stands f cs o begins = fresh-stands f
 reached-stands f cs o (calls cs′ o′ c r) =
-    rw (end-append plain (start (f .sizes)) cs′ (c ∷ [])) (call-alike (f .sizes) (f .spare) (f .spareEnough) (reached-stands f cs′ o′ r) c .next)
+    rw (end-append plain (start (f .sizes)) cs′ (c ∷ []))
+    (call-alike (f .sizes) (f .spare) (f .spareEnough) (reached-stands f cs′ o′ r) c .next)
 reached-stands f cs o (cut cs′ o′ pool s r) = stand-serves pool (reached-stands f cs o′ r) s
 
 pub power-cut : (f : Fresh) (cs : List Call) (o : Ours) → Reached f cs o → PowerCut f cs o

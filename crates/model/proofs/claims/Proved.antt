@@ -5,7 +5,7 @@ use mathlib.Core.Bool.{true, false, not}
 use mathlib.Core.List.{List, [], _∷_, _++_}
 use native.Mathlib.Omega.{arith}
 use Rattle.words.specs.Outcome.{Outcome, refused, accepted, andThen, unless}
-use Rattle.list.specs.Changes.{changeCount}
+use Rattle.runs.specs.Changes.{changeCount}
 use Rattle.book.specs.Book.{Sizes, Book, Entry, entryAt, isFree}
 use Rattle.book.proofs.Bytes.{length-bytes}
 use Rattle.book.specs.Form.{sizesOk}
@@ -48,7 +48,8 @@ module _ (spare : ℕ) {x : Book} {pool : List ℕ} {q : Plain} (g : Agree x poo
   entry-here : (p : ℕ) → entryIn here p ≡ entryAt (x .entries) p
   entry-here p = ap (λ (y : Book). entryAt (y .entries) p) (fit-book (g .fit))
 
-  collect-says : (t : ℕ) → ours spare here (collect t) ≡ oursCollected here (andThen (Collect.collect x t) (λ d. accepted (collectedBytes d)))
+  collect-says : (t : ℕ) → ours spare here (collect t)
+      ≡ oursCollected here (andThen (Collect.collect x t) (λ d. accepted (collectedBytes d)))
   unfolding ours
   collect-says t = ap (oursCollected here) (collect-on-bytes (fit-form (g .fit)) (fit-book (g .fit)) t)
 
@@ -62,11 +63,13 @@ module _ (spare : ℕ) {x : Book} {pool : List ℕ} {q : Plain} (g : Agree x poo
 
       go : (n : ℕ) → collectNumber x t ≡ n → left n .answer ≡ freed k → isFree (entryIn (left n .next) p) ≡ not (marked q t p)
       go zero e b =
-          ap (λ (y : Book). isFree (entryAt (y .entries) p)) (fit-book (collect-fit (g .fit) t e)) ∙ freeing g t p h (ap (λ (e : Entry). e .held) (sym (entry-here p)) ∙ held)
+          ap (λ (y : Book). isFree (entryAt (y .entries) p)) (fit-book (collect-fit (g .fit) t e))
+          ∙ freeing g t p h (ap (λ (e : Entry). e .held) (sym (entry-here p)) ∙ held)
       go (suc n) e b = absurd (let z : _≡_ {A = ℕ} 0 1 = cc in omega arith)
 
   -- a second collect on the day of the first
-  agree-collects : (t k : ℕ) → ours spare here (collect t) .answer ≡ freed k → ours spare (ours spare here (collect t) .next) (collect t) .answer ≡ freed 0
+  agree-collects : (t k : ℕ) → ours spare here (collect t) .answer ≡ freed k
+      → ours spare (ours spare here (collect t) .next) (collect t) .answer ≡ freed 0
   unfolding Collect.collect oursCollected collectedBytes ours
   agree-collects t k a = rw (collect-says t) (go (collectNumber x t) refl (rw (collect-says t) at a))
     where
@@ -81,26 +84,33 @@ module _ (spare : ℕ) {x : Book} {pool : List ℕ} {q : Plain} (g : Agree x poo
       go (suc n) e b = absurd (let z : _≡_ {A = ℕ} 0 1 = cc in omega arith)
 
   module _ (enough : bookSize (x .sizes) ≤ spare) (v t : ℕ) (list : List ℕ) where
-    backup-says : ours spare here (backup v t list) ≡ oursBacked here (andThen (Backup.backup x pool v t list) (λ d. accepted (backedBytes d)))
+    backup-says : ours spare here (backup v t list)
+        ≡ oursBacked here (andThen (Backup.backup x pool v t list) (λ d. accepted (backedBytes d)))
     unfolding ours
-    backup-says = ap (oursBacked here) (backup-on-bytes (fit-form (g .fit)) (fit-book (g .fit)) pool (g .poolLong) (length-bytes x) spare enough v t list)
+    backup-says =
+        ap (oursBacked here) (backup-on-bytes (fit-form (g .fit)) (fit-book (g .fit)) pool (g .poolLong)
+        (length-bytes x) spare enough v t list)
 
-    agree-touching : (p : ℕ) → p < x .sizes .n → changesName q v t list p ≡ false → entryIn (ours spare here (backup v t list) .next) p ≡ entryIn here p
+    agree-touching : (p : ℕ) → p < x .sizes .n → changesName q v t list p ≡ false
+        → entryIn (ours spare here (backup v t list) .next) p ≡ entryIn here p
     unfolding oursBacked backedBytes
     agree-touching p h n = rw backup-says (go (Backup.backup x pool v t list) refl)
       where
-        go : (o : Outcome Backed) → Backup.backup x pool v t list ≡ o → entryIn (oursBacked here (andThen o (λ d. accepted (backedBytes d))) .next) p ≡ entryIn here p
+        go : (o : Outcome Backed) → Backup.backup x pool v t list ≡ o
+            → entryIn (oursBacked here (andThen o (λ d. accepted (backedBytes d))) .next) p ≡ entryIn here p
         go (refused k) e = refl
         go (accepted d) e =
             ap (λ (y : Book). entryAt (y .entries) p) (fit-book (backup-fit (g .fit) pool v t list d (g .poolLong) e .fit))
             ∙ backup-touching g v t list d e p h n
             ∙ sym (entry-here p)
 
-    agree-touches : (k taken touched : ℕ) → ours spare here (backup v t list) .answer ≡ backed k taken touched → touched ≤ 2 * changeCount list
+    agree-touches : (k taken touched : ℕ) → ours spare here (backup v t list) .answer ≡ backed k taken touched
+        → touched ≤ 2 * changeCount list
     unfolding oursBacked backedBytes
     agree-touches k taken touched a = go (Backup.backup x pool v t list) refl (rw backup-says at a)
       where
-        go : (o : Outcome Backed) → Backup.backup x pool v t list ≡ o → oursBacked here (andThen o (λ d. accepted (backedBytes d))) .answer ≡ backed k taken touched
+        go : (o : Outcome Backed) → Backup.backup x pool v t list ≡ o
+            → oursBacked here (andThen o (λ d. accepted (backedBytes d))) .answer ≡ backed k taken touched
             → touched ≤ 2 * changeCount list
         go (refused j) e b = absurd (let z : _≡_ {A = ℕ} 0 1 = cc in omega arith)
         go (accepted d) e b = let same : d .touched ≡ touched = cc in omega (arith, touched-bound x pool v t list d e)
@@ -129,7 +139,8 @@ module _ (z : Sizes) (spare : ℕ) (enough : bookSize z ≤ spare) where
   unfolding oursShown plainShown
   stands-shown (stand x pool q g e) = rw (fit-book (g .fit)) (λ i. record { blocks = sym (g .blocks) i; maps = sym (maps-agree g) i })
 
-pub end-append : {S : Type 0} (step : S → Call → Step S) (s : S) (cs ds : List Call) → endOf step s (cs ++ ds) ≡ endOf step (endOf step s cs) ds
+pub end-append : {S : Type 0} (step : S → Call → Step S) (s : S) (cs ds : List Call)
+    → endOf step s (cs ++ ds) ≡ endOf step (endOf step s cs) ds
 end-append step s [] ds = refl
 end-append step s (c ∷ cs) ds = end-append step (step s c .next) cs ds
 
@@ -143,7 +154,8 @@ unfolding fresh
 fresh-stands f =
     let a = format-on-bytes (f .given) (f .sizes) (f .book) (f .formatted) in
     rw (a .1)
-    (stand (fresh (f .sizes)) (f .pool) (start (f .sizes)) (fresh-agree (f .sizes) (f .pool) (a .0) (f .poolEnough) (fresh-fit (f .sizes) (a .0))) refl)
+    (stand (fresh (f .sizes)) (f .pool) (start (f .sizes))
+    (fresh-agree (f .sizes) (f .pool) (a .0) (f .poolEnough) (fresh-fit (f .sizes) (a .0))) refl)
 
 module _ (f : Fresh) (cs : List Call) where
   after : (before : List Call) → Stand (f .sizes) (ourEnd f before) (plainEnd f before)
@@ -163,7 +175,8 @@ module _ (f : Fresh) (cs : List Call) where
     reads = λ v k lbn.
         call-alike (f .sizes) (f .spare) (f .spareEnough) (after cs) (read v k lbn) .answer
         ∙ plain-reads (f .sizes) (sizes-fresh f) cs v k lbn
-        ∙ ap (λ (answers : List Answer). historyRead (f .sizes .l) (historyOf v cs answers) (dayOf cs answers) k lbn) (sym (lists .answers));
+        ∙ ap (λ (answers : List Answer). historyRead (f .sizes .l) (historyOf v cs answers) (dayOf cs answers) k lbn)
+        (sym (lists .answers));
   }
 
   pub corollaries : Corollaries f cs

@@ -9,7 +9,7 @@ use lib.ListN.{length}
 use borrow.Author.Tests.{eqb-true, leb-false, ltb-false, not-false}
 use Rattle.words.specs.Choice.{if_then_else_}
 use Rattle.words.proofs.Tests.{or-neither}
-use Rattle.list.specs.Changes.{changeCount, listNumber}
+use Rattle.runs.specs.Changes.{changeCount, listNumber}
 use Rattle.book.specs.Book.{Book}
 use Rattle.model.specs.Days.{badDay, notAfter}
 use Rattle.model.proofs.kept.DayLaws.{good-day}

@@ -13,8 +13,8 @@ use Rattle.words.proofs.ChoiceLaws.{true-and}
 use Rattle.words.specs.Lists.{all}
 use Rattle.words.specs.Outcome.{accepted, andThen}
 use Rattle.words.proofs.Tests.{or-neither}
-use Rattle.list.specs.Changes.{changes, changeCount}
-use Rattle.list.proofs.Laws.{length-changes}
+use Rattle.runs.specs.Changes.{changes, changeCount}
+use Rattle.runs.proofs.Laws.{length-changes}
 use Rattle.book.specs.Book.{Slot, Book, retentionOf}
 use Rattle.book.specs.Form.{enrolled, slotOk}
 use Rattle.book.specs.Next.{withDay, withSlot}
@@ -103,7 +103,9 @@ backup-fit {x} fit pool v t list d long e =
     let a = unless-accepted (backupNumber x v t list) (andThen o (λ w. accepted (closed x v t (changeCount list) w))) d e in
     let p = then-accepted o (λ w. accepted (closed x v t (changeCount list) w)) d (a .1) in
     let ok = number-zero x v t list (a .0) in
-    let f = run-fit x v (t + retentionOf x v) (volume-inside x v (ok .volume)) (until-low fit v t (ok .last)) 0 (changes list) (begun x pool) (p .0)
+    let f =
+    run-fit x v (t + retentionOf x v) (volume-inside x v (ok .volume)) (until-low fit v t (ok .last)) 0
+    (changes list) (begun x pool) (p .0)
     (changes-fit (x .sizes .l) list (sizes-facts (x .sizes) (fit .sizes) .l) (ok .good)) (start-fit fit pool long) (p .1) in
     let n : length (changes list) + 0 ≡ changeCount list = omega (arith, length-changes list) in
     let g = subst (λ (k : ℕ). WorkFit x k (p .0)) n f in

@@ -11,7 +11,7 @@ use Rattle.words.specs.Lists.{all}
 use Rattle.words.proofs.Places.{all-getD, all-take, all-drop, all-those, all-set, all-replicate, all-weaker}
 use Rattle.book.specs.Book.{Sizes, Slot, Rec, Book}
 use Rattle.book.specs.Form.{pbnOk, recOk, bookOk}
-use Rattle.book.proofs.FormParts.{book-parts}
+use Rattle.book.proofs.Clauses.{book-parts}
 use Rattle.model.specs.Journal.{Backup, journalOf, journal, backupsIn}
 use Rattle.model.specs.Audit.{applied}
 use Rattle.model.specs.Plain.{mapsOf, noMap}
@@ -36,11 +36,14 @@ module _ (f : ℕ → Bool) where
       let w = and-true (f (r .after)) (all (λ (r : Rec). f (r .after)) rs) k in
       all-applied (set m (r .lbn) (r .after)) rs (all-set f m (r .lbn) (r .after) e (w .0)) (w .1)
 
-  all-images : (m : List ℕ) (bs : List Backup) → all f m ≡ true → all (λ (b : Backup). all (λ (r : Rec). f (r .after)) (b .records)) bs ≡ true
+  all-images : (m : List ℕ) (bs : List Backup) → all f m ≡ true
+      → all (λ (b : Backup). all (λ (r : Rec). f (r .after)) (b .records)) bs ≡ true
       → all (all f) (mapsOf (imagesOf m bs)) ≡ true
   all-images m [] e k = refl
   all-images m (b ∷ bs) e k =
-      let w = and-true (all (λ (r : Rec). f (r .after)) (b .records)) (all (λ (b : Backup). all (λ (r : Rec). f (r .after)) (b .records)) bs) k in
+      let w =
+      and-true (all (λ (r : Rec). f (r .after)) (b .records))
+      (all (λ (b : Backup). all (λ (r : Rec). f (r .after)) (b .records)) bs) k in
       let now = all-applied m (b .records) e (w .0) in
       true-and (all f (applied m (b .records))) (all (all f) (mapsOf (imagesOf (applied m (b .records)) bs)))
       now
@@ -51,14 +54,16 @@ module _ (f : ℕ → Bool) where
 after-ok : (z : Sizes) (r : Rec) → recOk z r ≡ true → pbnOk (z .n) (r .after) ≡ true
 unfolding recOk pbnOk
 after-ok z r e =
-    or-l (ltb (r .after) (z .n)) (eqb (r .after) unmapped) (and-true (ltb (r .lbn) (z .l) && pbnOk (z .n) (r .before)) (ltb (r .after) (z .n)) e .1)
+    or-l (ltb (r .after) (z .n)) (eqb (r .after) unmapped)
+    (and-true (ltb (r .lbn) (z .l) && pbnOk (z .n) (r .before)) (ltb (r .after) (z .n)) e .1)
 
 pub unmapped-ok : (n : ℕ) → pbnOk n unmapped ≡ true
 unfolding pbnOk
 unmapped-ok n = or-r (ltb unmapped n) true refl
 
 pub image-cells : (x : Book) (v k l : ℕ) → bookOk x ≡ true
-    → pbnOk (x .sizes .n) (getD (getD (mapsOf (imagesOf (noMap (x .sizes)) (backupsIn v (journal x)))) k (noMap (x .sizes))) l unmapped) ≡ true
+    → pbnOk (x .sizes .n) (getD (getD (mapsOf (imagesOf (noMap (x .sizes)) (backupsIn v (journal x)))) k
+    (noMap (x .sizes))) l unmapped) ≡ true
 unfolding journal
 image-cells x v k l e =
     all-getD (pbnOk n) (getD (mapsOf (imagesOf (noMap (x .sizes)) (backupsIn v (journal x)))) k (noMap (x .sizes))) unmapped l

@@ -3,7 +3,6 @@ use Prim.Native.Nat.{ℕ, _≤_, _<_}
 use mathlib.Core.Path.{_≡_}
 use mathlib.Core.Bool.{Bool, true, _&&_}
 use mathlib.Core.List.{List}
-use native.Mathlib.Omega.{arith}
 use lib.Dec.{ltb, eqb}
 use lib.ListN.{length}
 use borrow.Author.Tests.{ltb-true, eqb-true, lt-ltb, eq-eqb}
@@ -11,9 +10,8 @@ use Rattle.words.specs.Blocks.{printSize, blockSize}
 use Rattle.words.proofs.ChoiceLaws.{and-true, true-and}
 use Rattle.words.specs.Lists.{all}
 use Rattle.words.proofs.Places.{place-all}
-use Rattle.list.specs.Answers.{shapeOf, Whole}
-use Rattle.list.specs.Changes.{Change, changeAt, changeCount, changes, listNumber}
-use Rattle.list.proofs.Laws.{length-changes, getD-changes, change-below, number-good, good-whole, length-print, length-block}
+use Rattle.runs.specs.Changes.{Change, changeAt, changeCount, changes, listNumber}
+use Rattle.runs.proofs.Laws.{length-changes, getD-changes, list-size, change-below, length-print, length-block}
 
 unfoldable pub changeFit : ℕ → Change → Bool
 changeFit l c = ltb (c .lbn) l && eqb (length (c .print)) printSize && eqb (length (c .block)) blockSize
@@ -52,9 +50,6 @@ changes-fit l list small good =
     rw (getD-changes list i (changeAt list 0) k)
     (change-passes l (changeAt list i) (record {
       lbn = change-below l list good i k;
-      print = length-print list (shapeOf list) whole i k;
-      block = length-block list (shapeOf list) whole i k;
+      print = length-print list (list-size l list good) i k;
+      block = length-block list (list-size l list good) i k;
     })))
-  where
-    whole : Whole list (shapeOf list)
-    whole = good-whole l list (shapeOf list) (omega arith) (number-good l list good)

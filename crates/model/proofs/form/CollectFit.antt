@@ -10,8 +10,8 @@ use Rattle.words.proofs.ChoiceLaws.{and-true}
 use Rattle.words.proofs.Mapped.{all-map}
 use Rattle.words.proofs.Places.{all-weaker}
 use Rattle.book.specs.Book.{Entry, Book, noPrint}
-use Rattle.book.specs.Next.{withDay, withEntries, freed}
-use Rattle.model.specs.Collect.{collectNumber, isOver, entryAfter, collected}
+use Rattle.book.specs.Next.{withDay, withEntries, madeFree}
+use Rattle.model.specs.Collect.{collectNumber, isOver, sweptEntry, collected}
 use Rattle.model.proofs.claims.CollectLaws.{collect-days}
 use Rattle.model.proofs.agreement.Agree.{Fit}
 use Rattle.model.proofs.form.FitParts.{entryFit, fit-parts, parts-fit}
@@ -19,14 +19,14 @@ use Rattle.model.proofs.form.EntriesFit.{fit-expiry, unused-fit}
 use Rattle.model.proofs.form.SlotsFit.{slots-kept}
 
 -- a freed entry has count 0, a zero fingerprint and the expiry that it had
-after-fit : (t : ℕ) (e : Entry) → entryFit e ≡ true → entryFit (entryAfter t e) ≡ true
-unfolding entryAfter isOver freed noPrint
+after-fit : (t : ℕ) (e : Entry) → entryFit e ≡ true → entryFit (sweptEntry t e) ≡ true
+unfolding sweptEntry isOver madeFree noPrint
 after-fit t e f = go (isOver t e) refl
   where
-    go : (o : Bool) → isOver t e ≡ o → entryFit (if o then freed e else e) ≡ true
+    go : (o : Bool) → isOver t e ≡ o → entryFit (if o then madeFree e else e) ≡ true
     go true k =
         let none = and-true (e .held) (eqb (e .count) 0) (and-true (e .held && eqb (e .count) 0) (ltb (e .expiry) t) k .0) .1 in
-        unused-fit (freed e) (fit-expiry e f) refl (eqb-true (e .count) 0 none) refl
+        unused-fit (madeFree e) (fit-expiry e f) refl (eqb-true (e .count) 0 none) refl
     go false k = f
 
 pub collect-fit : {x : Book} → Fit x → (t : ℕ) → collectNumber x t ≡ 0 → Fit (collected x t .book)
@@ -40,10 +40,10 @@ collect-fit {x} f t ok =
       cursor = p .cursor;
       retentionCount = p .retentionCount;
       retentions = p .retentions;
-      entryCount = length-map (x .entries) (entryAfter t) ∙ p .entryCount;
+      entryCount = length-map (x .entries) (sweptEntry t) ∙ p .entryCount;
       entries =
-          all-map entryFit (entryAfter t) (x .entries)
-          ∙ all-weaker entryFit (λ e. entryFit (entryAfter t e)) (x .entries) (after-fit t) (p .entries);
+          all-map entryFit (sweptEntry t) (x .entries)
+          ∙ all-weaker entryFit (λ e. entryFit (sweptEntry t e)) (x .entries) (after-fit t) (p .entries);
       mapCount = p .mapCount;
       maps = p .maps;
       slotCount = p .slotCount;

@@ -12,8 +12,8 @@ use Rattle.words.specs.Lists.{all}
 use Rattle.words.proofs.Places.{all-place, place-all, all-weaker}
 use Rattle.book.specs.Book.{volumes, Sizes, Entry, Book, freeEntry, entryAt, Sized}
 use Rattle.book.specs.Form.{sizesOk, retentionOk, entryOk, pbnOk, recOk, slotOk, daysOk, pairsOk}
-use Rattle.book.specs.Formed.{BookParts}
-use Rattle.book.proofs.FormParts.{book-parts, parts-book}
+use Rattle.book.specs.FormFacts.{BookParts}
+use Rattle.book.proofs.Clauses.{book-parts, parts-book}
 use Rattle.model.proofs.agreement.Agree.{Fit}
 
 -- an entry in form with a whole fingerprint

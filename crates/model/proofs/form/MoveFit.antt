@@ -64,7 +64,8 @@ module _ (until before : ℕ) (es : List Entry) where
           (held-fit (lowered until e) (omega (arith, fit-expiry e fit)) (fit-print e fit)
           (counted-held e fit (some (eqb-false before unmapped k))))
 
-raise-fit : (es : List Entry) (p : ℕ) → all entryFit es ≡ true → entryAt es p .held ≡ true → all entryFit (set es p (raised (entryAt es p))) ≡ true
+raise-fit : (es : List Entry) (p : ℕ) → all entryFit es ≡ true → entryAt es p .held ≡ true
+    → all entryFit (set es p (raised (entryAt es p))) ≡ true
 unfolding raised countAs
 raise-fit es p f h =
     let fit = entry-fit es p f in

@@ -22,7 +22,8 @@ use Rattle.model.specs.Backup.{backup}
 use Rattle.model.specs.Collect.{collect}
 use Rattle.model.specs.Read.{image, read}
 use Rattle.model.specs.Audit.{audit}
-use Rattle.model.specs.OnBytes.{numberOf, poolNumber, spareNumber, formatNumber, formatBytes, enrolBytes, backedBytes, backupBytes, collectedBytes, collectBytes, readBytes, readNumberBytes, readPlaceBytes, auditBytes}
+use Rattle.model.specs.OnBytes.{numberOf, poolNumber, spareNumber, formatNumber, formatBytes, enrolBytes, backedBytes, backupBytes}
+use Rattle.model.specs.OnBytes.{collectedBytes, collectBytes, readBytes, readNumberBytes, readPlaceBytes, auditBytes}
 
 -- an accepted format leaves the bytes of a fresh book
 pub format-on-bytes : (b : List ℕ) (z : Sizes) (b′ : List ℕ) → formatBytes b z ≡ accepted b′ → (sizesOk z ≡ true) × (b′ ≡ bytes (fresh z))

@@ -12,7 +12,7 @@ use Rattle.words.proofs.ChoiceLaws.{and-true}
 use Rattle.words.specs.Lists.{all}
 use Rattle.words.specs.Outcome.{accepted}
 use Rattle.words.proofs.Places.{all-getD}
-use Rattle.list.specs.Changes.{Change}
+use Rattle.runs.specs.Changes.{Change}
 use Rattle.book.specs.Book.{volumes, Book, cellAt, retentionOf}
 use Rattle.book.specs.Form.{retentionOk}
 use Rattle.model.specs.Pool.{poolSize}

@@ -78,7 +78,8 @@ module _ (v : ℕ) where
   isBefore d t = not (eqb (t .volume) v) || ltb (t .day) d
 
   -- a day after a volume's last is after all its days
-  before-all : (e d : ℕ) (ts : List Slot) → daysOk ts ≡ true → (0 < length (daysIn ts) → lastOf e (daysIn ts) < d) → all (isBefore d) ts ≡ true
+  before-all : (e d : ℕ) (ts : List Slot) → daysOk ts ≡ true → (0 < length (daysIn ts) → lastOf e (daysIn ts) < d)
+      → all (isBefore d) ts ≡ true
   before-all e d [] ok k = refl
   before-all e d (t ∷ ts) ok k = go (eqb (t .volume) v) k (λ e k. before-all e d ts (w .1) k)
     where
@@ -87,7 +88,9 @@ module _ (v : ℕ) where
 
       -- the days with the first slot's, by whether it is the volume's
       own : Bool → List ℕ
-      own b = map (λ (u : Slot). u .day) (if b then t ∷ those (λ (u : Slot). eqb (u .volume) v) ts else those (λ (u : Slot). eqb (u .volume) v) ts)
+      own b =
+          map (λ (u : Slot). u .day) (if b then t ∷ those (λ (u : Slot). eqb (u .volume) v) ts
+          else those (λ (u : Slot). eqb (u .volume) v) ts)
 
       go : (b : Bool) → (0 < length (own b) → lastOf e (own b) < d)
           → ((e : ℕ) → (0 < length (daysIn ts) → lastOf e (daysIn ts) < d) → all (isBefore d) ts ≡ true)
@@ -103,7 +106,9 @@ module _ (v : ℕ) where
 module _ (x : Book) (s : Slot) (up : daysOk (x .slots) ≡ true) (after : notAfter (days x (s .volume)) (s .day) ≡ false) where
   last-before : 0 < length (daysIn (s .volume) (x .slots)) → lastOf 0 (daysIn (s .volume) (x .slots)) < s .day
   unfolding days backups journal
-  last-before h = later-backup (daysIn (s .volume) (x .slots)) (s .day) h .0 (rw (days-journal (s .volume) (x .slots) (x .records)) at after)
+  last-before h =
+      later-backup (daysIn (s .volume) (x .slots)) (s .day) h .0
+      (rw (days-journal (s .volume) (x .slots) (x .records)) at after)
 
   pub slots-before : all (slotOk x) (x .slots) ≡ true → x .day ≤ s .day → all (λ t. laterOk t s) (x .slots) ≡ true
   unfolding slotOk laterOk

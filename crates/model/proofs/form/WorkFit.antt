@@ -12,7 +12,7 @@ use Rattle.words.specs.Choice.{if_then_else_}
 use Rattle.words.specs.Lists.{all, same}
 use Rattle.words.specs.Outcome.{refused, accepted}
 use Rattle.words.proofs.Places.{all-set}
-use Rattle.list.specs.Changes.{Change}
+use Rattle.runs.specs.Changes.{Change}
 use Rattle.book.specs.Book.{volumes, Entry, Book, freeEntry, entryAt}
 use Rattle.book.specs.Form.{recOk}
 use Rattle.book.specs.Next.{withCursor, withEntries, heldAs}
@@ -78,7 +78,8 @@ module _ (x : Book) (k : ℕ) (c : Change) (good : ChangeFit (x .sizes .l) c) (w
 
   -- ---- step 2, and step 1 before it
 
-  free-placed : (o : Option ℕ) (d : Placed) → findFree (w .book .entries) (w .book .cursor) ≡ o → placeFree c w o ≡ accepted d → PlacedFit x k d
+  free-placed : (o : Option ℕ) (d : Placed) → findFree (w .book .entries) (w .book .cursor) ≡ o
+      → placeFree c w o ≡ accepted d → PlacedFit x k d
   unfolding placeFree
   free-placed none d e q = absurd (refused-not 12 d q)
   free-placed (some p) d e q =

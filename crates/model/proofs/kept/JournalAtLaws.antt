@@ -39,7 +39,8 @@ records-in : (ts : List Slot) (rs : List Rec) (at u q : ℕ) → pairsOk at ts u
     → getD (journalOf ts (drop at rs)) q noBackup .records ≡ take (slotAt ts q .number) (drop (slotAt ts q .first) rs)
 records-in [] rs at u q e h = absurd (not-suc-le-zero h)
 records-in (t ∷ ts) rs at u zero e h =
-    ap (λ (k : ℕ). take (t .number) (drop k rs)) (sym (eqb-true (t .first) at (and-true (eqb (t .first) at) (pairsOk (at + t .number) ts u) e .0)))
+    ap (λ (k : ℕ). take (t .number) (drop k rs))
+    (sym (eqb-true (t .first) at (and-true (eqb (t .first) at) (pairsOk (at + t .number) ts u) e .0)))
 records-in (t ∷ ts) rs at u (suc q) e h =
     rw (drop-drop (t .number) at rs)
     (records-in ts rs (at + t .number) u q (and-true (eqb (t .first) at) (pairsOk (at + t .number) ts u) e .1) (le-of-suc-le-suc h))

@@ -1,5 +1,5 @@
--- Which blocks the kept backups name: besides those of the current maps, the befores of the first record of each LBN in each backup that still
--- reaches the day. So audit's last sentence takes one pass over the records.
+-- Which blocks the kept backups name: besides those of the current maps, the befores of the first record of each LBN in each backup that
+-- still reaches the day. So audit's last sentence takes one pass over the records.
 use Prim.Native.Nat.{ℕ, zero, suc, _+_, _≤_, _<_}
 use mathlib.Core.Path.{_≡_, refl, sym, ap, _∙_}
 use mathlib.Core.Logic.{_≢_, _⊎_, inl, inr}
@@ -61,7 +61,8 @@ module _ (x : Book) where
       let w = and-true (takenSound x b) (all (takenSound x) bs) ok in
       go (eqb (b .volume) v) refl e (w .0) (taken-held p v l bs h (w .1))
     where
-      here : b .volume ≡ v → (leb (x .day) (b .day + retentionOf x v) && takes p l (b .records)) ≡ true → takenSound x b ≡ true → cellSound x p ≡ true
+      here : b .volume ≡ v → (leb (x .day) (b .day + retentionOf x v) && takes p l (b .records)) ≡ true
+          → takenSound x b ≡ true → cellSound x p ≡ true
       here q a s =
           let w = and-true (leb (x .day) (b .day + retentionOf x v)) (takes p l (b .records)) a in
           let s′ : all (λ j. cellSound x (firstBefore j (b .records) unmapped)) (upFrom 0 (x .sizes .l)) ≡ true = rw (q, w .0) at s in
@@ -69,31 +70,41 @@ module _ (x : Book) where
           (sym (all-each (λ j. cellSound x (firstBefore j (b .records) unmapped)) (x .sizes .l)) ∙ s′) l (omega arith) h in
           rw (takes-first p l (b .records) (w .1)) at c
 
-      go : (t : Bool) → eqb (b .volume) v ≡ t → takenAt p (retentionOf x v) (x .day) l (if t then b ∷ backupsIn v bs else backupsIn v bs) ≡ true
-          → takenSound x b ≡ true → (takenAt p (retentionOf x v) (x .day) l (backupsIn v bs) ≡ true → cellSound x p ≡ true) → cellSound x p ≡ true
+      go : (t : Bool) → eqb (b .volume) v ≡ t
+          → takenAt p (retentionOf x v) (x .day) l (if t then b ∷ backupsIn v bs else backupsIn v bs) ≡ true
+          → takenSound x b ≡ true → (takenAt p (retentionOf x v) (x .day) l (backupsIn v bs) ≡ true
+          → cellSound x p ≡ true) → cellSound x p ≡ true
       go false q f s ih = ih f
-      go true q f s ih = pick (or-cases (leb (x .day) (b .day + retentionOf x v) && takes p l (b .records)) (takenAt p (retentionOf x v) (x .day) l (backupsIn v bs)) f)
+      go true q f s ih =
+          pick (or-cases (leb (x .day) (b .day + retentionOf x v) && takes p l (b .records))
+          (takenAt p (retentionOf x v) (x .day) l (backupsIn v bs)) f)
         where
-          pick : ((leb (x .day) (b .day + retentionOf x v) && takes p l (b .records)) ≡ true) ⊎ (takenAt p (retentionOf x v) (x .day) l (backupsIn v bs) ≡ true) → cellSound x p ≡ true
+          pick : ((leb (x .day) (b .day + retentionOf x v) && takes p l (b .records)) ≡ true)
+              ⊎ (takenAt p (retentionOf x v) (x .day) l (backupsIn v bs) ≡ true) → cellSound x p ≡ true
           pick (inl a) = here (eqb-true (b .volume) v q) a s
           pick (inr a) = ih a
 
   -- what every backup that took a block away says of it
   abbrev Held : List Backup → Type 0
-  Held bs = (p v l : ℕ) → v < volumes → l < x .sizes .l → p ≢ unmapped → takenAt p (retentionOf x v) (x .day) l (backupsIn v bs) ≡ true → cellSound x p ≡ true
+  Held bs =
+      (p v l : ℕ) → v < volumes → l < x .sizes .l → p ≢ unmapped
+      → takenAt p (retentionOf x v) (x .day) l (backupsIn v bs) ≡ true → cellSound x p ≡ true
 
   held-taken : (bs : List Backup) → all (λ b. ltb (b .volume) volumes) bs ≡ true → Held bs → all (takenSound x) bs ≡ true
   unfolding takenSound
   held-taken [] ok h = refl
   held-taken (b ∷ bs) ok h =
       let w = and-true (ltb (b .volume) volumes) (all (λ b. ltb (b .volume) volumes) bs) ok in
-      true-and (takenSound x b) (all (takenSound x) bs) (first (ltb-true (b .volume) volumes (w .0)) (leb (x .day) (b .day + retentionOf x (b .volume))) refl)
+      true-and (takenSound x b) (all (takenSound x) bs)
+      (first (ltb-true (b .volume) volumes (w .0)) (leb (x .day) (b .day + retentionOf x (b .volume))) refl)
       (held-taken bs (w .1) (λ p v l hv hl n e. h p v l hv hl n (later p v l (eqb (b .volume) v) e)))
     where
       later : (p v l : ℕ) (t : Bool) → takenAt p (retentionOf x v) (x .day) l (backupsIn v bs) ≡ true
           → takenAt p (retentionOf x v) (x .day) l (if t then b ∷ backupsIn v bs else backupsIn v bs) ≡ true
       later p v l false e = e
-      later p v l true e = or-r (leb (x .day) (b .day + retentionOf x v) && takes p l (b .records)) (takenAt p (retentionOf x v) (x .day) l (backupsIn v bs)) e
+      later p v l true e =
+          or-r (leb (x .day) (b .day + retentionOf x v) && takes p l (b .records))
+          (takenAt p (retentionOf x v) (x .day) l (backupsIn v bs)) e
 
       first : b .volume < volumes → (t : Bool) → leb (x .day) (b .day + retentionOf x (b .volume)) ≡ t
           → (not t || all (λ l. cellSound x (firstBefore l (b .records) unmapped)) (upFrom 0 (x .sizes .l))) ≡ true
@@ -104,10 +115,12 @@ module _ (x : Book) where
           sound-unless p (λ f. let n = unsound-mapped p f in
           not-both (cellSound x p) (h p (b .volume) l hv (omega arith) n (taken p l (first-takes p l (b .records) n refl))) f))
         where
-          taken : (p l : ℕ) → takes p l (b .records) ≡ true → takenAt p (retentionOf x (b .volume)) (x .day) l (backupsIn (b .volume) (b ∷ bs)) ≡ true
+          taken : (p l : ℕ) → takes p l (b .records) ≡ true
+              → takenAt p (retentionOf x (b .volume)) (x .day) l (backupsIn (b .volume) (b ∷ bs)) ≡ true
           taken p l a =
               rw (eq-eqb (b .volume) (b .volume) refl)
-              (or-l (leb (x .day) (b .day + retentionOf x (b .volume)) && takes p l (b .records)) (takenAt p (retentionOf x (b .volume)) (x .day) l (backupsIn (b .volume) bs))
+              (or-l (leb (x .day) (b .day + retentionOf x (b .volume)) && takes p l (b .records))
+              (takenAt p (retentionOf x (b .volume)) (x .day) l (backupsIn (b .volume) bs))
               (true-and (leb (x .day) (b .day + retentionOf x (b .volume))) (takes p l (b .records)) e a))
 
   -- ---- the law
@@ -121,14 +134,17 @@ module _ (x : Book) where
 
     -- a kept backup has p at l exactly when the current map has, or a backup that reaches the day took it away
     kept-or-taken : (p v l : ℕ) → v < volumes → p ≢ unmapped
-        → keptAt p (retentionOf x v) (x .day) l (images v) ≡ (eqb p (cellAt (x .maps) v l) || takenAt p (retentionOf x v) (x .day) l (backupsIn v (journal x)))
+        → keptAt p (retentionOf x v) (x .day) l (images v)
+        ≡ (eqb p (cellAt (x .maps) v l) || takenAt p (retentionOf x v) (x .day) l (backupsIn v (journal x)))
     kept-or-taken p v l hv n =
         let bs = backupsIn v (journal x) in
         let c = kept-cell p (retentionOf x v) (x .day) l 0 (x .day) none bs (g .sounds v hv) (g .days v) in
-        let no : eqb p (getD none l unmapped) ≡ false = ne-eqb p (getD none l unmapped) (λ e. n (e ∙ getD-replicated (x .sizes .l) unmapped l)) in
+        let no : eqb p (getD none l unmapped) ≡ false =
+        ne-eqb p (getD none l unmapped) (λ e. n (e ∙ getD-replicated (x .sizes .l) unmapped l)) in
         rw (no, and-false (keptBefore (daysOf (images v)) (retentionOf x v) (x .day)), g .maps v hv) at c
 
-    image-cell : (v k l : ℕ) → v < volumes → k < length (backupsIn v (journal x)) → image x v (suc k) l ≡ getD (getD (mapsOf (images v)) k none) l unmapped
+    image-cell : (v k l : ℕ) → v < volumes → k < length (backupsIn v (journal x))
+        → image x v (suc k) l ≡ getD (getD (mapsOf (images v)) k none) l unmapped
     unfolding image backups
     image-cell v k l hv h =
         ap (λ m. firstBefore l (recordsOf (drop (suc k) (backupsIn v (journal x)))) (getD m l unmapped)) (sym (g .maps v hv))
@@ -157,9 +173,13 @@ module _ (x : Book) where
         sound-unless p (λ f. let n = unsound-mapped p f in
         let a = number-kept p (retentionOf x v) (x .day) l k none (images v) hk′ (rw (days-images v) at e)
         (eq-eqb p (getD (getD (mapsOf (images v)) k none) l unmapped) (image-cell v k l hv hk″)) in
-        not-both (cellSound x p) (pick p v l hl (or-cases (eqb p (cellAt (x .maps) v l)) (takenAt p (retentionOf x v) (x .day) l (backupsIn v (journal x))) (sym (kept-or-taken p v l hv n) ∙ a))) f)
+        not-both (cellSound x p) (pick p v l hl
+        (or-cases (eqb p (cellAt (x .maps) v l)) (takenAt p (retentionOf x v) (x .day) l (backupsIn v (journal x)))
+        (sym (kept-or-taken p v l hv n) ∙ a))) f)
       where
-        pick : (p v l : ℕ) → l < x .sizes .l → (eqb p (cellAt (x .maps) v l) ≡ true) ⊎ (takenAt p (retentionOf x v) (x .day) l (backupsIn v (journal x)) ≡ true) → cellSound x p ≡ true
+        pick : (p v l : ℕ) → l < x .sizes .l
+            → (eqb p (cellAt (x .maps) v l) ≡ true)
+            ⊎ (takenAt p (retentionOf x v) (x .day) l (backupsIn v (journal x)) ≡ true) → cellSound x p ≡ true
         pick p v l hl (inl a) = ap (cellSound x) (eqb-true p (cellAt (x .maps) v l) a) ∙ current-cell v l
         pick p v l hl (inr a) = taken-held p v l (journal x) hl ok a
 
@@ -189,11 +209,14 @@ module _ (x : Book) where
         (λ v _ hv. all-upFrom (backupSound x v) 1 (length (days x v)) (λ k i j. at ok v k (omega arith) i (omega arith))))
         (λ ok. held-taken (journal x) (g .volumes) (block-held ok))
       where
-        at : all (takenSound x) (journal x) ≡ true → (v k : ℕ) → v < volumes → 1 ≤ k → k < suc (length (days x v)) → backupSound x v k ≡ true
+        at : all (takenSound x) (journal x) ≡ true → (v k : ℕ) → v < volumes → 1 ≤ k → k < suc (length (days x v))
+            → backupSound x v k ≡ true
         at ok v zero hv i j = absurd (omega arith)
         at ok v (suc k) hv i j = go (kept (days x v) (retentionOf x v) (x .day) (suc k)) refl
           where
             go : (t : Bool) → kept (days x v) (retentionOf x v) (x .day) (suc k) ≡ t
                 → (not t || all (λ l. cellSound x (image x v (suc k) l)) (upFrom 0 (x .sizes .l))) ≡ true
             go false e = refl
-            go true e = all-upFrom (λ l. cellSound x (image x v (suc k) l)) 0 (x .sizes .l) (λ l _ hl. image-sound ok v k l hv (omega arith) (omega arith) e)
+            go true e =
+                all-upFrom (λ l. cellSound x (image x v (suc k) l)) 0 (x .sizes .l)
+                (λ l _ hl. image-sound ok v k l hv (omega arith) (omega arith) e)

@@ -48,13 +48,15 @@ takes-was p l m (c ∷ cs) s e = go (eqb (c .lbn) l) refl e (takes-was p l (set 
     go true f e ih = let a = eqb-true (c .lbn) l f in let b = eqb-true (c .before) p e in let z = s .1 in cc
     go false f e ih = ih e ∙ getD-set-other m (c .lbn) l (c .after) unmapped (λ q. eqb-false (c .lbn) l f (sym q))
 
-leaves : (p l : ℕ) (m : List ℕ) (cs : List Rec) → Sound m cs → takes p l cs ≡ false → p ≡ getD m l unmapped → p ≡ getD (applied m cs) l unmapped
+leaves : (p l : ℕ) (m : List ℕ) (cs : List Rec) → Sound m cs → takes p l cs ≡ false → p ≡ getD m l unmapped
+    → p ≡ getD (applied m cs) l unmapped
 unfolding Sound
 leaves p l m [] s e h = h
 leaves p l m (c ∷ cs) s e h = go (eqb (c .lbn) l) refl e (leaves p l (set m (c .lbn) (c .after)) cs (s .2))
   where
     go : (t : Bool) → eqb (c .lbn) l ≡ t → (if t then eqb (c .before) p else takes p l cs) ≡ false
-        → (takes p l cs ≡ false → p ≡ getD (set m (c .lbn) (c .after)) l unmapped → p ≡ getD (applied (set m (c .lbn) (c .after)) cs) l unmapped)
+        → (takes p l cs ≡ false → p ≡ getD (set m (c .lbn) (c .after)) l unmapped
+        → p ≡ getD (applied (set m (c .lbn) (c .after)) cs) l unmapped)
         → p ≡ getD (applied (set m (c .lbn) (c .after)) cs) l unmapped
     go true f e ih = absurd (eqb-false (c .before) p e (let a = eqb-true (c .lbn) l f in let b = s .1 in cc))
     go false f e ih = ih e (h ∙ sym (getD-set-other m (c .lbn) l (c .after) unmapped (λ q. eqb-false (c .lbn) l f (sym q))))
@@ -87,7 +89,8 @@ kept-cell p r d l a e m (b ∷ bs) s f =
     let m′ = applied m (b .records) in
     let ih = kept-cell p r d l (b .day) e m′ bs (s .1) (f .1) in
     rw ih
-    (either (leb d (b .day + r)) (takes p l (b .records)) (eqb p (getD m l unmapped)) (eqb p (getD (mapAfter m′ bs) l unmapped)) (takenAt p r d l bs)
+    (either (leb d (b .day + r)) (takes p l (b .records)) (eqb p (getD m l unmapped))
+    (eqb p (getD (mapAfter m′ bs) l unmapped)) (takenAt p r d l bs)
     (λ o. eq-eqb p (getD m l unmapped) (takes-was p l m (b .records) (s .0) o))
     (λ k o w. sym ih
     ∙ rw (

@@ -45,7 +45,8 @@ module _ {x : Book} {pool : List ℕ} {q : Plain} (g : Agree x pool q) where
   unfolding cellSound pbnOk
   held-unless p ok bad = go (or-cases (ltb p (x .sizes .n)) (eqb p unmapped) ok) (entryAt (x .entries) p .held) refl
     where
-      go : (ltb p (x .sizes .n) ≡ true) ⊎ (eqb p unmapped ≡ true) → (t : Bool) → entryAt (x .entries) p .held ≡ t → (eqb p unmapped || t) ≡ true
+      go : (ltb p (x .sizes .n) ≡ true) ⊎ (eqb p unmapped ≡ true) → (t : Bool) → entryAt (x .entries) p .held ≡ t
+          → (eqb p unmapped || t) ≡ true
       go (inr e) t f = or-l (eqb p unmapped) t e
       go (inl e) true f = or-r (eqb p unmapped) true refl
       go (inl e) false f = absurd (bad (ltb-true p (x .sizes .n) e) f)
@@ -70,7 +71,8 @@ module _ {x : Book} {pool : List ℕ} {q : Plain} (g : Agree x pool q) where
       kept-here =
           number-kept p (retentionOf x v) (x .day) l k (noMap (x .sizes)) (volumeAt q v .images) (rw (backups-agree g v hv) hk)
           (rw (days-agree g v hv) e)
-          (eq-eqb p (getD (getD (mapsOf (volumeAt q v .images)) k (noMap (x .sizes))) l unmapped) (cell-agree g v k l hv ∙ rw (g .images v hv)))
+          (eq-eqb p (getD (getD (mapsOf (volumeAt q v .images)) k (noMap (x .sizes))) l unmapped)
+          (cell-agree g v k l hv ∙ rw (g .images v hv)))
 
       bad : p < x .sizes .n → entryAt (x .entries) p .held ≡ false → ⊥
       bad h f =

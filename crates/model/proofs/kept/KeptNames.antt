@@ -25,7 +25,8 @@ cell-names p (suc l) (x ∷ m) n e = or-r (eqb p x) (names p m) (cell-names p l 
 
 pub kept-names-cell : (p r d : ℕ) (is : List Image) → keptNames p r d is ≡ true → (l : ℕ) × (keptAt p r d l is ≡ true)
 kept-names-cell p r d [] e = (0, e)
-kept-names-cell p r d (i ∷ is) e = go (or-cases (keptBefore (daysOf is) r d && names p (i .cells)) (keptNames p r d is) e) (kept-names-cell p r d is)
+kept-names-cell p r d (i ∷ is) e =
+    go (or-cases (keptBefore (daysOf is) r d && names p (i .cells)) (keptNames p r d is) e) (kept-names-cell p r d is)
   where
     go : ((keptBefore (daysOf is) r d && names p (i .cells)) ≡ true) ⊎ (keptNames p r d is ≡ true)
         → (keptNames p r d is ≡ true → (l : ℕ) × (keptAt p r d l is ≡ true)) → (l : ℕ) × (keptAt p r d l (i ∷ is) ≡ true)

@@ -24,14 +24,17 @@ use Rattle.model.proofs.kept.KeptCells.{keptAt, takes}
 
 -- a backup of the row that is kept and has p at l is one of the numbers
 pub kept-number : (p r d l : ℕ) (z : List ℕ) (is : List Image) → keptAt p r d l is ≡ true
-    → (k : ℕ) × (k < length is) × (keptBefore (drop (suc k) (daysOf is)) r d ≡ true) × (eqb p (getD (getD (mapsOf is) k z) l unmapped) ≡ true)
+    → (k : ℕ) × (k < length is) × (keptBefore (drop (suc k) (daysOf is)) r d ≡ true)
+    × (eqb p (getD (getD (mapsOf is) k z) l unmapped) ≡ true)
 kept-number p r d l z [] e = absurd (not-both false e refl)
 kept-number p r d l z (i ∷ is) e =
     go (or-cases (keptBefore (daysOf is) r d && eqb p (getD (i .cells) l unmapped)) (keptAt p r d l is) e) (kept-number p r d l z is)
   where
     go : ((keptBefore (daysOf is) r d && eqb p (getD (i .cells) l unmapped)) ≡ true) ⊎ (keptAt p r d l is ≡ true)
-        → (keptAt p r d l is ≡ true → (k : ℕ) × (k < length is) × (keptBefore (drop (suc k) (daysOf is)) r d ≡ true) × (eqb p (getD (getD (mapsOf is) k z) l unmapped) ≡ true))
-        → (k : ℕ) × (k < suc (length is)) × (keptBefore (drop (suc k) (daysOf (i ∷ is))) r d ≡ true) × (eqb p (getD (getD (mapsOf (i ∷ is)) k z) l unmapped) ≡ true)
+        → (keptAt p r d l is ≡ true → (k : ℕ) × (k < length is) × (keptBefore (drop (suc k) (daysOf is)) r d ≡ true)
+        × (eqb p (getD (getD (mapsOf is) k z) l unmapped) ≡ true))
+        → (k : ℕ) × (k < suc (length is)) × (keptBefore (drop (suc k) (daysOf (i ∷ is))) r d ≡ true)
+        × (eqb p (getD (getD (mapsOf (i ∷ is)) k z) l unmapped) ≡ true)
     go (inl a) ih = let w = and-true (keptBefore (daysOf is) r d) (eqb p (getD (i .cells) l unmapped)) a in (0, omega arith, w .0, w .1)
     go (inr b) ih = let w = ih b in (suc (w .0), omega arith, w .2, w .3)
 
@@ -42,7 +45,8 @@ number-kept p r d l zero z (i ∷ is) h e f =
     or-l (keptBefore (daysOf is) r d && eqb p (getD (i .cells) l unmapped)) (keptAt p r d l is)
     (true-and (keptBefore (daysOf is) r d) (eqb p (getD (i .cells) l unmapped)) e f)
 number-kept p r d l (suc k) z (i ∷ is) h e f =
-    or-r (keptBefore (daysOf is) r d && eqb p (getD (i .cells) l unmapped)) (keptAt p r d l is) (number-kept p r d l k z is (omega arith) e f)
+    or-r (keptBefore (daysOf is) r d && eqb p (getD (i .cells) l unmapped)) (keptAt p r d l is)
+    (number-kept p r d l k z is (omega arith) e f)
 
 -- ---- the first record of l takes p away exactly when its before is p
 
@@ -59,7 +63,8 @@ pub first-takes : (p l : ℕ) (rs : List Rec) → p ≢ unmapped → firstBefore
 first-takes p l [] n e = absurd (n (sym e))
 first-takes p l (r ∷ rs) n e = go (eqb (r .lbn) l) e (first-takes p l rs n)
   where
-    go : (t : Bool) → beforeOr unmapped (if t then some r else firstThat (λ r. eqb (r .lbn) l) rs) ≡ p → (firstBefore l rs unmapped ≡ p → takes p l rs ≡ true)
+    go : (t : Bool) → beforeOr unmapped (if t then some r else firstThat (λ r. eqb (r .lbn) l) rs) ≡ p
+        → (firstBefore l rs unmapped ≡ p → takes p l rs ≡ true)
         → (if t then eqb (r .before) p else takes p l rs) ≡ true
     go true f ih = eq-eqb (r .before) p f
     go false f ih = ih f

@@ -1,5 +1,5 @@
--- Collect's test and the plain store's mark: a held block has count 0 and an expiry before the day exactly when no current map and no backup
--- kept on that day names it.
+-- Collect's test and the plain store's mark: a held block has count 0 and an expiry before the day exactly when no current map and no
+-- backup kept on that day names it.
 use Prim.Native.Nat.{ℕ, _<_}
 use mathlib.Core.Path.{_≡_, refl, sym, ap, _∙_}
 use mathlib.Core.Logic.{_≢_}
@@ -82,7 +82,7 @@ module _ {x : Book} {pool : List ℕ} {q : Plain} (g : Agree x pool q) where
     where
       to : someOf (keptIn p d) (q .volumes) ≡ true → someOf (reachesBy x d p) (journal x) ≡ true
       to f =
-          let w = some-place (keptIn p d) (q .volumes) Plain.noVolume f in
+          let w = some-place (keptIn p d) (q .volumes) Plain.unenrolled f in
           let h : w .0 < volumes = rw (g .volumeCount) at (w .1) in
           let k = kept-names-cell p (retentionOf x (w .0)) d (volumeAt q (w .0) .images) (rw (g .retentions (w .0) h) at (w .2)) in
           taken-reaches x d p (w .0) (k .0) (journal x) (sym (kept-taken d p (w .0) (k .0) n h e) ∙ k .1)
@@ -92,10 +92,11 @@ module _ {x : Book} {pool : List ℕ} {q : Plain} (g : Agree x pool q) where
           let w = reaches-taken x d p (noMaps x) (journal x) (g .sound) (g .rising) f in
           let h : w .0 < volumes = rw length-noMaps at (w .1) in
           let k = kept-taken d p (w .0) (w .2 .0) n h e ∙ w .2 .1 in
-          place-some (keptIn p d) (q .volumes) Plain.noVolume (w .0) (rw (g .volumeCount) h)
+          place-some (keptIn p d) (q .volumes) Plain.unenrolled (w .0) (rw (g .volumeCount) h)
           (rw (g .retentions (w .0) h) (cell-kept-names p (retentionOf x (w .0)) d (w .2 .0) (volumeAt q (w .0) .images) n k))
 
-  -- document 01, "Collect": "each held block with count 0 and expiry < T", and the plain store's "marks each block in a current or kept map"
+  -- document 01, "Collect": "each held block with count 0 and expiry < T", and the plain store's "marks each block in a current or kept
+  -- map"
   pub over-marked : (t p : ℕ) → p < x .sizes .n → entryAt (x .entries) p .held ≡ true
       → (eqb (entryAt (x .entries) p .count) 0 && ltb (entryAt (x .entries) p .expiry) t) ≡ not (marked q t p)
   unfolding marked reaches

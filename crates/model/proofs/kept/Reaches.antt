@@ -42,7 +42,8 @@ until-reaches-0 x (suc d) p bs h = until-reaches x (suc d) p bs (omega arith)
 
 -- ---- a later day is reached by fewer
 
-pub reached-earlier : (x : Book) (d e p : ℕ) (bs : List Backup) → d ≤ e → someOf (reachesBy x d p) bs ≡ false → someOf (reachesBy x e p) bs ≡ false
+pub reached-earlier : (x : Book) (d e p : ℕ) (bs : List Backup) → d ≤ e → someOf (reachesBy x d p) bs ≡ false
+    → someOf (reachesBy x e p) bs ≡ false
 reached-earlier x d e p [] h f = refl
 reached-earlier x d e p (b ∷ bs) h f =
     go (leb d u) (leb e u) (hasBefore p (b .records)) refl refl f (reached-earlier x d e p bs h)
@@ -88,7 +89,8 @@ taken-reaches x d p v l (b ∷ bs) e = go (eqb (b .volume) v) refl e (taken-reac
   where
     step : b .volume ≡ v
         → ((leb d (b .day + retentionOf x v) && takes p l (b .records)) ≡ true) ⊎ (takenAt p (retentionOf x v) d l (backupsIn v bs) ≡ true)
-        → (takenAt p (retentionOf x v) d l (backupsIn v bs) ≡ true → someOf (reachesBy x d p) bs ≡ true) → someOf (reachesBy x d p) (b ∷ bs) ≡ true
+        → (takenAt p (retentionOf x v) d l (backupsIn v bs) ≡ true → someOf (reachesBy x d p) bs ≡ true)
+        → someOf (reachesBy x d p) (b ∷ bs) ≡ true
     step q (inl a) ih =
         let c = and-true (leb d (b .day + retentionOf x v)) (takes p l (b .records)) a in
         or-l (reachesBy x d p b) (someOf (reachesBy x d p) bs)
@@ -96,14 +98,16 @@ taken-reaches x d p v l (b ∷ bs) e = go (eqb (b .volume) v) refl e (taken-reac
     step q (inr y) ih = or-r (reachesBy x d p b) (someOf (reachesBy x d p) bs) (ih y)
 
     go : (t : Bool) → eqb (b .volume) v ≡ t → takenAt p (retentionOf x v) d l (if t then b ∷ backupsIn v bs else backupsIn v bs) ≡ true
-        → (takenAt p (retentionOf x v) d l (backupsIn v bs) ≡ true → someOf (reachesBy x d p) bs ≡ true) → someOf (reachesBy x d p) (b ∷ bs) ≡ true
+        → (takenAt p (retentionOf x v) d l (backupsIn v bs) ≡ true → someOf (reachesBy x d p) bs ≡ true)
+        → someOf (reachesBy x d p) (b ∷ bs) ≡ true
     go true q e ih =
         step (eqb-true (b .volume) v q)
         (or-cases (leb d (b .day + retentionOf x v) && takes p l (b .records)) (takenAt p (retentionOf x v) d l (backupsIn v bs)) e) ih
     go false q e ih = or-r (reachesBy x d p b) (someOf (reachesBy x d p) bs) (ih e)
 
 -- where a record with before p stands: its volume and its LBN
-pub reaches-taken : (x : Book) (d p : ℕ) (ms : List (List ℕ)) (bs : List Backup) → SoundAll ms bs → AllRise bs → someOf (reachesBy x d p) bs ≡ true
+pub reaches-taken : (x : Book) (d p : ℕ) (ms : List (List ℕ)) (bs : List Backup) → SoundAll ms bs → AllRise bs
+    → someOf (reachesBy x d p) bs ≡ true
     → (v : ℕ) × (v < length ms) × ((l : ℕ) × (takenAt p (retentionOf x v) d l (backupsIn v bs) ≡ true))
 unfolding SoundAll AllRise
 reaches-taken x d p ms [] s r e = absurd (not-both false e refl)

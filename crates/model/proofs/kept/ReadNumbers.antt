@@ -32,7 +32,8 @@ same-refusal false b b′ c c′ d d′ e e′ o o′ f g h k = rw (← (f refl)
     go true p = refl
     go false p = let w = g refl p in rw (← (w .0), ← (w .1)) (rest c d refl refl)
       where
-        last : (u : Bool) → c ≡ true → d ≡ false → e ≡ u → unless (refusal false false true false u) o ≡ unless (refusal false false true false u) o′
+        last : (u : Bool) → c ≡ true → d ≡ false → e ≡ u
+            → unless (refusal false false true false u) o ≡ unless (refusal false false true false u) o′
         last true i j l = refl
         last false i j l = k refl p i j l
 

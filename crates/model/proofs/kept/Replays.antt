@@ -56,7 +56,8 @@ pub backupsIn-replayed : (v : ℕ) (ms : List (List ℕ)) (bs : List Backup) →
     → getD (replayed ms bs) v [] ≡ mapAfter (getD ms v []) (backupsIn v bs)
 backupsIn-replayed v ms [] h = refl
 backupsIn-replayed v ms (b ∷ bs) h =
-    backupsIn-replayed v (set ms (b .volume) (applied (getD ms (b .volume) []) (b .records))) bs (simp length-set h) ∙ go (eqb (b .volume) v) refl
+    backupsIn-replayed v (set ms (b .volume) (applied (getD ms (b .volume) []) (b .records))) bs (simp length-set h)
+    ∙ go (eqb (b .volume) v) refl
   where
     go : (t : Bool) → eqb (b .volume) v ≡ t
         → mapAfter (getD (set ms (b .volume) (applied (getD ms (b .volume) []) (b .records))) v []) (backupsIn v bs)
@@ -79,7 +80,8 @@ backupsIn-sound v ms (b ∷ bs) s =
         let k : v < length ms = rw q at (s .0) in
         (rw q at (s .1), rw (q, getD-set-same) at ih)
     go false e ih =
-        rw (getD-set-other ms (b .volume) v (applied (getD ms (b .volume) []) (b .records)) [] (λ q. eqb-false (b .volume) v e (sym q))) at ih
+        rw (getD-set-other ms (b .volume) v (applied (getD ms (b .volume) []) (b .records)) []
+        (λ q. eqb-false (b .volume) v e (sym q))) at ih
 
 days-sooner : (c d e : ℕ) (bs : List Backup) → c ≤ d → Days d bs e → Days c bs e
 unfolding Days

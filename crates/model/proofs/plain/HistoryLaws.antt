@@ -12,7 +12,7 @@ use Rattle.words.specs.Choice.{if_then_else_}
 use Rattle.words.specs.Lists.{orElse, joined}
 use Rattle.words.proofs.Appends.{map-append, joined-append}
 use Rattle.words.specs.Outcome.{accepted, unless}
-use Rattle.list.specs.Changes.{Change}
+use Rattle.runs.specs.Changes.{Change}
 use Rattle.model.specs.Days.{keptBefore, kept}
 use Rattle.model.proofs.kept.DayLaws.{kept-before}
 use Rattle.model.specs.Calls.{block}
@@ -32,7 +32,8 @@ else-none (some x) = refl
 lastBlock-append : (lbn : ℕ) (xs ys : List Change) → lastBlock lbn (xs ++ ys) ≡ orElse (lastBlock lbn ys) (lastBlock lbn xs)
 lastBlock-append lbn [] ys = else-none (lastBlock lbn ys)
 lastBlock-append lbn (x ∷ xs) ys =
-    rw (lastBlock-append lbn xs ys) (sym (or-else-else (lastBlock lbn ys) (lastBlock lbn xs) (if eqb (x .lbn) lbn then some (x .block) else none)))
+    rw (lastBlock-append lbn xs ys)
+    (sym (or-else-else (lastBlock lbn ys) (lastBlock lbn xs) (if eqb (x .lbn) lbn then some (x .block) else none)))
 
 module _ (h : History) (s : Sent) where
   -- an earlier backup keeps what it sent
@@ -76,11 +77,13 @@ kept-shorter ds x r d k h e = go (drop k ds) (rw (drop-append-le k ds (x ∷ [])
 pub read-was-sent : (l : ℕ) (h : History) (d k lbn : ℕ) (b : List ℕ) → historyRead l h d k lbn ≡ block b → sentBlock h k lbn ≡ some b
 unfolding historyRead historyNumber readAnswer
 read-was-sent l h d k lbn b e =
-    go (eqb (h .retention) 0) (eqb k 0 || ltb (length (h .sent)) k) (not (kept (map (λ (s : Sent). s .day) (h .sent)) (h .retention) d k)) (leb l lbn)
+    go (eqb (h .retention) 0) (eqb k 0 || ltb (length (h .sent)) k)
+    (not (kept (map (λ (s : Sent). s .day) (h .sent)) (h .retention) d k)) (leb l lbn)
     (sentBlock h k lbn) e
   where
     go : (t u v w : Bool) (o : Option (List ℕ))
-        → readAnswer (unless (if t then 5 else if u then 15 else if v then 16 else if w then 17 else if isNone o then 18 else 0) (accepted (blockOr [] o))) ≡ block b
+        → readAnswer (unless (if t then 5 else if u then 15 else if v then 16 else if w then 17 else if isNone o then 18
+        else 0) (accepted (blockOr [] o))) ≡ block b
         → o ≡ some b
     go true u v w o e = absurd (let z : _≡_ {A = ℕ} 0 1 = cc in omega arith)
     go false true v w o e = absurd (let z : _≡_ {A = ℕ} 0 1 = cc in omega arith)

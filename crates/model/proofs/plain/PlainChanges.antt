@@ -11,9 +11,9 @@ use Rattle.words.specs.Choice.{if_then_else_}
 use Rattle.words.specs.Lists.{orElse, same}
 use Rattle.words.specs.Outcome.{accepted}
 use Rattle.words.proofs.Accepted.{unless-accepted, then-accepted}
-use Rattle.list.specs.Changes.{Change}
+use Rattle.runs.specs.Changes.{Change}
 use Rattle.model.specs.Plain.{Block}
-use Rattle.model.specs.PlainBackup.{Work, Placed, place, moveNumber, moved, moveTo, changeStep, runChanges}
+use Rattle.model.specs.PlainBackup.{PlainWork, PlainPlaced, place, moveNumber, moved, moveTo, changeStep, runChanges}
 use Rattle.model.specs.History.{lastBlock}
 use Rattle.model.proofs.plain.HistoryLaws.{or-else-else}
 use Rattle.model.proofs.plain.PlainShows.{Maps, Carries, changed, maps-same, carries-same, carries-over, maps-set, carries-set}
@@ -24,14 +24,14 @@ abbrev pub sentOver : List Change → (ℕ → Option (List ℕ)) → ℕ → Op
 sentOver cs s lbn = orElse (lastBlock lbn cs) (s lbn)
 
 -- where a backup stands that began with blocks bs, and whose copy is to show s
-pub record Copies (l : ℕ) (bs : List Block) (s : ℕ → Option (List ℕ)) (w : Work) : Type 0 where
+pub record Copies (l : ℕ) (bs : List Block) (s : ℕ → Option (List ℕ)) (w : PlainWork) : Type 0 where
   pub grown : Grown bs (w .blocks)
   pub wide : length (w .copy) ≡ l
   pub maps : Maps l (w .copy) s
   pub carries : Carries l (w .blocks) (w .copy) s
 
 module _ (l : ℕ) (bs : List Block) (room : length bs ≤ unmapped) where
-  move-copies : (s : ℕ → Option (List ℕ)) (c : Change) (w : Work) (d : Placed) → Copies l bs s w → PlacedFor c w d
+  move-copies : (s : ℕ → Option (List ℕ)) (c : Change) (w : PlainWork) (d : PlainPlaced) → Copies l bs s w → PlacedFor c w d
       → Copies l bs (changed (c .lbn) (c .block) s) (moved (c .lbn) d)
   unfolding moved
   move-copies s c w d a r =
@@ -48,7 +48,7 @@ module _ (l : ℕ) (bs : List Block) (room : length bs ≤ unmapped) where
         carries = carries-set l (d .work .copy) s (c .lbn) (d .pbn) (c .block) wide (d .work .blocks) (r .shows) carries;
       }
 
-  copies-same : (s s′ : ℕ → Option (List ℕ)) (w : Work) → ((lbn : ℕ) → s lbn ≡ s′ lbn) → Copies l bs s w → Copies l bs s′ w
+  copies-same : (s s′ : ℕ → Option (List ℕ)) (w : PlainWork) → ((lbn : ℕ) → s lbn ≡ s′ lbn) → Copies l bs s w → Copies l bs s′ w
   copies-same s s′ w f a = record {
     grown = a .grown;
     wide = a .wide;
@@ -56,19 +56,20 @@ module _ (l : ℕ) (bs : List Block) (room : length bs ≤ unmapped) where
     carries = carries-same l (w .copy) (w .copy) s s′ refl f (w .blocks) (a .carries);
   }
 
-  step-copies : (maps : List (List ℕ)) (v : ℕ) (s : ℕ → Option (List ℕ)) (c : Change) (w w′ : Work) → Copies l bs s w
+  step-copies : (maps : List (List ℕ)) (v : ℕ) (s : ℕ → Option (List ℕ)) (c : Change) (w w′ : PlainWork) → Copies l bs s w
       → changeStep maps v c w ≡ accepted w′ → Copies l bs (changed (c .lbn) (c .block) s) w′
   unfolding changeStep moveTo
   step-copies maps v s c w w′ a e =
       let p = then-accepted (place c w) (moveTo maps v (c .lbn)) w′ e in
       let m = unless-accepted (moveNumber maps v (c .lbn) (p .0)) (accepted (moved (c .lbn) (p .0))) w′ (p .2) in
       let same : moved (c .lbn) (p .0) ≡ w′ = let z = m .1 in cc in
-      subst (λ (x : Work). Copies l bs (changed (c .lbn) (c .block) s) x) same (move-copies s c w (p .0) a (place-placed c w (p .0) (p .1)))
+      subst (λ (x : PlainWork). Copies l bs (changed (c .lbn) (c .block) s) x) same
+      (move-copies s c w (p .0) a (place-placed c w (p .0) (p .1)))
 
   -- the copy shows what the changes sent last, or else what it showed
-  pub run-copies : (maps : List (List ℕ)) (v : ℕ) (cs : List Change) (s : ℕ → Option (List ℕ)) (w w′ : Work) → Copies l bs s w
+  pub run-copies : (maps : List (List ℕ)) (v : ℕ) (cs : List Change) (s : ℕ → Option (List ℕ)) (w w′ : PlainWork) → Copies l bs s w
       → runChanges maps v cs w ≡ accepted w′ → Copies l bs (sentOver cs s) w′
-  run-copies maps v [] s w w′ a e = subst (λ (x : Work). Copies l bs s x) (cc) a
+  run-copies maps v [] s w w′ a e = subst (λ (x : PlainWork). Copies l bs s x) (cc) a
   run-copies maps v (c ∷ cs) s w w′ a e =
       let r = then-accepted (changeStep maps v c w) (λ x. runChanges maps v cs x) w′ e in
       let ih = run-copies maps v cs (changed (c .lbn) (c .block) s) (r .0) w′ (step-copies maps v s c w (r .0) a (r .1)) (r .2) in

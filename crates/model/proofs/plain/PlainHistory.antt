@@ -10,14 +10,14 @@ use Rattle.words.specs.Choice.{if_then_else_}
 use Rattle.words.proofs.ChoiceLaws.{and-false}
 use Rattle.words.proofs.Tests.{or-neither}
 use Rattle.words.specs.Outcome.{Outcome, refused, accepted, andThen, unless}
-use Rattle.list.specs.Changes.{changes, changeCount}
+use Rattle.runs.specs.Changes.{changes, changeCount}
 use Rattle.book.specs.Book.{volumes}
 use Rattle.model.specs.Days.{badDay, notAfter, badRetention}
 use Rattle.model.proofs.kept.DayLaws.{good-day}
 use Rattle.model.specs.Plain
 use Rattle.model.specs.Plain.{Plain, withVolume, volumeAt, isEnrolled, daysOf, currentMaps, collected, enrolNumber, collectNumber}
 use Rattle.model.specs.PlainBackup
-use Rattle.model.specs.PlainBackup.{Work, Backed, backupNumber, runChanges, begun, closed}
+use Rattle.model.specs.PlainBackup.{PlainWork, PlainBacked, backupNumber, runChanges, begun, closed}
 use Rattle.model.specs.Calls.{Call, enrol, backup, collect, read, audit}
 use Rattle.model.specs.Runs.{answersOf, endOf, plainEnrolled, plainBacked, plainCollected, plain}
 use Rattle.model.specs.History.{History, withEnrol, withSent, noted, historyFrom, dayNoted, dayFrom}
@@ -82,7 +82,8 @@ module _ {l d : ℕ} {q : Plain} {h : ℕ → History} (a : AllRecall l d q h) w
       after = accepted (withVolume v (record { retention = r; images = [] }) q)
 
       go : (n : ℕ) → enrolNumber q v r ≡ n
-          → AllRecall l d (plainEnrolled q (unless n after) .next) (λ w. noted w (h w) (enrol v r) (plainEnrolled q (unless n after) .answer))
+          → AllRecall l d (plainEnrolled q (unless n after) .next)
+          (λ w. noted w (h w) (enrol v r) (plainEnrolled q (unless n after) .answer))
       go zero e = let b = enrol-allowed q v r e in enrol-recalls a v r (b .0) (b .1)
       go (suc k) e = not-noted v (λ w. withEnrol r (h w)) (eqb (suc k) 0) (eqb·suc-zero k)
 
@@ -97,7 +98,7 @@ module _ {l d : ℕ} {q : Plain} {h : ℕ → History} (a : AllRecall l d q h) w
       go (suc k) e = a
 
   module _ (v t : ℕ) (list : List ℕ) where
-    abbrev Backs : Outcome Backed → Type 0
+    abbrev Backs : Outcome PlainBacked → Type 0
     Backs o =
         AllRecall l (dayNoted d (backup v t list) (plainBacked q o .answer)) (plainBacked q o .next)
         (λ w. noted w (h w) (backup v t list) (plainBacked q o .answer))
@@ -106,7 +107,7 @@ module _ {l d : ℕ} {q : Plain} {h : ℕ → History} (a : AllRecall l d q h) w
     unfolding plainBacked
     refused-step k = not-noted v (λ w. withSent (record { day = t; changes = changes list }) (h w)) false refl
 
-    run-step : backupNumber q v t list ≡ 0 → (o : Outcome Work) → runChanges (currentMaps q) v (changes list) (begun q v) ≡ o
+    run-step : backupNumber q v t list ≡ 0 → (o : Outcome PlainWork) → runChanges (currentMaps q) v (changes list) (begun q v) ≡ o
         → Backs (andThen o (λ w. accepted (closed q v t (changeCount list) w)))
     unfolding plainBacked
     run-step e (refused k) f = refused-step k
@@ -114,7 +115,7 @@ module _ {l d : ℕ} {q : Plain} {h : ℕ → History} (a : AllRecall l d q h) w
         let b = backup-allowed q v t list e in
         backup-recalls a v t (changeCount list) (changes list) w (rw (← (a .day)) (b .2)) (b .0) (b .1) f
 
-    abbrev ran : Outcome Work
+    abbrev ran : Outcome PlainWork
     ran = runChanges (currentMaps q) v (changes list) (begun q v)
 
     backup-step : Backs (PlainBackup.backup q v t list)

@@ -10,7 +10,8 @@ use Rattle.words.proofs.ChoiceLaws.{true-and, or-l, or-r}
 use Rattle.words.specs.Lists.{someOf}
 use Rattle.words.proofs.Places.{place-some}
 use Rattle.model.specs.Days.{keptBefore, kept}
-use Rattle.model.specs.Plain.{Block, free, Image, Volume, noVolume, Plain, volumeAt, daysOf, mapsOf, currentMaps, names, keptNames, marked, swept}
+use Rattle.model.specs.Plain.{Block, free, Image, Volume, unenrolled, Plain, volumeAt, daysOf, mapsOf, currentMaps, names, keptNames}
+use Rattle.model.specs.Plain.{marked, swept}
 
 -- ---- marked
 
@@ -20,17 +21,19 @@ image-named : (p r d k : ℕ) (z : List ℕ) (is : List Image) → k < length is
 unfolding kept
 image-named p r d k z [] h e n = absurd (omega arith)
 image-named p r d zero z (i ∷ is) h e n =
-    or-l (keptBefore (daysOf is) r d && names p (i .cells)) (keptNames p r d is) (true-and (keptBefore (daysOf is) r d) (names p (i .cells)) e n)
+    or-l (keptBefore (daysOf is) r d && names p (i .cells)) (keptNames p r d is)
+    (true-and (keptBefore (daysOf is) r d) (names p (i .cells)) e n)
 image-named p r d (suc k) z (i ∷ is) h e n =
     or-r (keptBefore (daysOf is) r d && names p (i .cells)) (keptNames p r d is) (image-named p r d k z is (omega arith) e n)
 
 pub kept-marked : (q : Plain) (d v k p : ℕ) (z : List ℕ) → v < length (q .volumes) → k < length (volumeAt q v .images)
-    → kept (daysOf (volumeAt q v .images)) (volumeAt q v .retention) d (suc k) ≡ true → names p (getD (mapsOf (volumeAt q v .images)) k z) ≡ true
+    → kept (daysOf (volumeAt q v .images)) (volumeAt q v .retention) d (suc k) ≡ true
+    → names p (getD (mapsOf (volumeAt q v .images)) k z) ≡ true
     → marked q d p ≡ true
 unfolding marked
 kept-marked q d v k p z hv hk e n =
     or-r (someOf (names p) (currentMaps q)) (someOf (λ u. keptNames p (u .retention) d (u .images)) (q .volumes))
-    (place-some (λ (u : Volume). keptNames p (u .retention) d (u .images)) (q .volumes) noVolume v hv
+    (place-some (λ (u : Volume). keptNames p (u .retention) d (u .images)) (q .volumes) unenrolled v hv
     (image-named p (volumeAt q v .retention) d k z (volumeAt q v .images) hk e n))
 
 -- ---- swept

@@ -14,9 +14,9 @@ use Rattle.words.specs.Lists.{placeFrom, orElse, same}
 use Rattle.words.proofs.Same.{same-equal}
 use Rattle.words.proofs.Found.{place-found}
 use Rattle.words.specs.Outcome.{refused, accepted}
-use Rattle.list.specs.Changes.{Change}
+use Rattle.runs.specs.Changes.{Change}
 use Rattle.model.specs.Plain.{Block, free, held, isFree, bytesOf}
-use Rattle.model.specs.PlainBackup.{Work, Placed, hasPrint, findHeld, findFree, takeBlock, placeFree, placeHeld, place}
+use Rattle.model.specs.PlainBackup.{PlainWork, PlainPlaced, hasPrint, findHeld, findFree, takeBlock, placeFree, placeHeld, place}
 use Rattle.model.proofs.plain.PlainShows.{heldBytes, shownAt}
 
 -- ---- blocks, where held ones keep their bytes
@@ -41,7 +41,8 @@ free-empty : (b : Block) → isFree b ≡ true → heldBytes b ≡ none
 free-empty free e = refl
 free-empty (held f b) e = cc
 
-found-held : (bs : List Block) (f : List ℕ) (p : ℕ) → findHeld bs f ≡ some p → (p < length bs) × (shownAt bs p ≡ some (bytesOf (getD bs p free)))
+found-held : (bs : List Block) (f : List ℕ) (p : ℕ) → findHeld bs f ≡ some p
+    → (p < length bs) × (shownAt bs p ≡ some (bytesOf (getD bs p free)))
 unfolding findHeld
 found-held bs f p e =
     let r = place-found (hasPrint f) free 0 bs p e in
@@ -56,16 +57,22 @@ found-free bs c p e = go (placeFrom c isFree (drop c bs)) refl e
         → (p < length bs) × (shownAt bs p ≡ none)
     go (some q) h e′ =
         let r = place-found isFree free c (drop c bs) q h in
-        let k : p ≡ c + r .index = let z : q ≡ p = cc in omega arith in
-        (omega (arith, length-drop c bs), rw (k, ← getD-drop c bs (r .index) free) (free-empty (getD (drop c bs) (r .index) free) (r .passes)))
+        let k : p ≡ c + r .index = let z : q ≡ p = cc in omega arith in (
+          omega (arith, length-drop c bs),
+          rw (k, ← getD-drop c bs (r .index) free)
+              (free-empty (getD (drop c bs) (r .index) free) (r .passes)),
+        )
     go none h e′ =
         let r = place-found isFree free 0 (take c bs) p e′ in
         let k : p ≡ r .index = omega arith in
-        let i : r .index < c = omega (arith, length-take c bs) in
-        (omega (arith, length-take c bs), rw (k, ← getD-take c bs (r .index) free i) (free-empty (getD (take c bs) (r .index) free) (r .passes)))
+        let i : r .index < c = omega (arith, length-take c bs) in (
+          omega (arith, length-take c bs),
+          rw (k, ← getD-take c bs (r .index) free i)
+              (free-empty (getD (take c bs) (r .index) free) (r .passes)),
+        )
 
 -- a change that found its block: only a free block is written, and block pbn holds the change's bytes
-pub record PlacedFor (c : Change) (w : Work) (d : Placed) : Type 0 where
+pub record PlacedFor (c : Change) (w : PlainWork) (d : PlainPlaced) : Type 0 where
   pub inside : d .pbn < length (w .blocks)
   pub copy : d .work .copy ≡ w .copy
   pub grown : Grown (w .blocks) (d .work .blocks)
@@ -78,7 +85,7 @@ set-grown bs p x f = record { long = length-set bs p x; keeps = λ q b e. go q b
     go q b e true h = let k = eqb-true q p h in cc
     go q b e false h = ap heldBytes (getD-set-other bs p q x free (eqb-false q p h)) ∙ e
 
-module _ (c : Change) (w : Work) where
+module _ (c : Change) (w : PlainWork) where
   take-placed : (p : ℕ) → findFree (w .blocks) (w .cursor) ≡ some p → PlacedFor c w (record { pbn = p; work = takeBlock c p w })
   unfolding takeBlock
   take-placed p e =
@@ -101,11 +108,11 @@ module _ (c : Change) (w : Work) where
         shows = f .1 ∙ ap some (same-equal (bytesOf (getD (w .blocks) p free)) (c .block) s);
       }
 
-  module _ (d : Placed) where
+  module _ (d : PlainPlaced) where
     free-placed : (o : Option ℕ) → findFree (w .blocks) (w .cursor) ≡ o → placeFree c w o ≡ accepted d → PlacedFor c w d
     unfolding placeFree
     free-placed none e a = absurd (let z : _≡_ {A = ℕ} 0 1 = cc in omega arith)
-    free-placed (some p) e a = subst (λ (x : Placed). PlacedFor c w x) (cc) (take-placed p e)
+    free-placed (some p) e a = subst (λ (x : PlainPlaced). PlacedFor c w x) (cc) (take-placed p e)
 
     held-placed : (o : Option ℕ) → findHeld (w .blocks) (c .print) ≡ o → placeHeld c w o ≡ accepted d → PlacedFor c w d
     unfolding placeHeld
@@ -114,7 +121,7 @@ module _ (c : Change) (w : Work) where
       where
         go : (t : Bool) → same (bytesOf (getD (w .blocks) p free)) (c .block) ≡ t
             → (if t then accepted (record { pbn = p; work = w }) else refused 11) ≡ accepted d → PlacedFor c w d
-        go true s a = subst (λ (x : Placed). PlacedFor c w x) (cc) (find-placed p e s)
+        go true s a = subst (λ (x : PlainPlaced). PlacedFor c w x) (cc) (find-placed p e s)
         go false s a = absurd (let z : _≡_ {A = ℕ} 0 1 = cc in omega arith)
 
     pub place-placed : place c w ≡ accepted d → PlacedFor c w d

@@ -14,7 +14,7 @@ use Rattle.book.specs.Form.{sizesOk}
 use Rattle.book.proofs.SizesIn.{sizes-facts}
 use Rattle.model.specs.Days.{kept}
 use Rattle.model.specs.Plain
-use Rattle.model.specs.Plain.{Plain, Volume, noVolume, free, start, volumeAt, isEnrolled, daysOf, bytesOf, cell}
+use Rattle.model.specs.Plain.{Plain, Volume, unenrolled, free, start, volumeAt, isEnrolled, daysOf, bytesOf, cell}
 use Rattle.model.specs.Calls.{Call}
 use Rattle.model.specs.Runs.{answersOf, endOf, readAnswer, plain}
 use Rattle.model.specs.History.{Sent, History, historyOf, dayOf, sentBlock, isNone, blockOr, historyNumber, historyRead}
@@ -30,7 +30,7 @@ module _ {l d : ℕ} {q : Plain} {h : ℕ → History} (a : AllRecall l d q h) (
 
   -- number 5
   same-enrolled : (ltb 7 v || not (isEnrolled q v)) ≡ eqb (h v .retention) 0
-  unfolding noVolume
+  unfolding unenrolled
   same-enrolled = go (ltb 7 v) refl
     where
       not-not : (t : Bool) → not (not t) ≡ t
@@ -40,7 +40,7 @@ module _ {l d : ℕ} {q : Plain} {h : ℕ → History} (a : AllRecall l d q h) (
       go : (t : Bool) → ltb 7 v ≡ t → (t || not (isEnrolled q v)) ≡ eqb (h v .retention) 0
       go true e =
           let past : length (q .volumes) ≤ v = omega (arith, a .volumeCount, ltb-true 7 v e) in
-          let z : u .retention ≡ 0 = ap (λ (x : Volume). x .retention) (List·getD-eq-default (q .volumes) noVolume past) in
+          let z : u .retention ≡ 0 = ap (λ (x : Volume). x .retention) (List·getD-eq-default (q .volumes) unenrolled past) in
           sym (eq-eqb (h v .retention) 0 (sym (a .each v .retention) ∙ z))
       go false e = not-not (eqb (u .retention) 0) ∙ ap (λ (r : ℕ). eqb r 0) (a .each v .retention)
 
@@ -48,7 +48,8 @@ module _ {l d : ℕ} {q : Plain} {h : ℕ → History} (a : AllRecall l d q h) (
   same-count : (k : ℕ) → (eqb k 0 || ltb (length (u .images)) k) ≡ (eqb k 0 || ltb (length (h v .sent)) k)
   same-count k = rw (as-many (a .each v))
 
-  same-kept : (k : ℕ) → kept (daysOf (u .images)) (u .retention) (q .day) k ≡ kept (map (λ (s : Sent). s .day) (h v .sent)) (h v .retention) d k
+  same-kept : (k : ℕ) → kept (daysOf (u .images)) (u .retention) (q .day) k
+      ≡ kept (map (λ (s : Sent). s .day) (h v .sent)) (h v .retention) d k
   same-kept k = rw (a .each v .days, a .each v .retention, a .day)
 
   same-logical : (lbn : ℕ) → leb (q .sizes .l) lbn ≡ leb l lbn

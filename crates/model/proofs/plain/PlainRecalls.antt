@@ -15,7 +15,7 @@ use Rattle.words.specs.Lists.{lastOf}
 use Rattle.words.proofs.Appends.{map-append}
 use Rattle.book.specs.Book.{volumes, Sizes}
 use Rattle.model.specs.Days.{kept}
-use Rattle.model.specs.Plain.{Block, Image, Volume, noVolume, Plain, volumeAt, daysOf, mapsOf, noMap, current}
+use Rattle.model.specs.Plain.{Block, Image, Volume, unenrolled, Plain, volumeAt, daysOf, mapsOf, noMap, current}
 use Rattle.model.specs.History.{Sent, History, sentBlock}
 use Rattle.model.proofs.plain.HistoryLaws.{kept-earlier}
 use Rattle.model.proofs.plain.PlainShows.{shownAt, Maps, Carries, carries-over}
@@ -59,15 +59,19 @@ current-image z u = last-at (noMap z) (noMap z) (mapsOf (u .images)) ∙ rw leng
 module _ (l : ℕ) (is : List Image) (i : Image) where
   pub image-earlier : (k : ℕ) → k ≤ length is → imageAt l (is ++ (i ∷ [])) k ≡ imageAt l is k
   image-earlier k h =
-      rw map-append (List·getD-append (replicate l unmapped ∷ mapsOf is) (i .cells ∷ []) (replicate l unmapped) k (rw length-map (omega arith)))
+      rw map-append (List·getD-append (replicate l unmapped ∷ mapsOf is) (i .cells ∷ []) (replicate l unmapped) k
+      (rw length-map (omega arith)))
 
   pub image-newest : imageAt l (is ++ (i ∷ [])) (suc (length is)) ≡ i .cells
-  image-newest = rw map-append (getD-at (mapsOf is) (i .cells) [] (replicate l unmapped) (length is) (length-map is (λ (x : Image). x .cells)))
+  image-newest =
+      rw map-append (getD-at (mapsOf is) (i .cells) [] (replicate l unmapped) (length is)
+      (length-map is (λ (x : Image). x .cells)))
 
 -- ---- a later day, and blocks that hold what the maps kept then show
 pub recalls-later : (l d t : ℕ) (bs bs′ : List Block) (u : Volume) (h : History) → d ≤ t → length bs′ ≤ unmapped
     → ((k lbn : ℕ) (b : List ℕ) → k ≤ length (u .images) → kept (daysOf (u .images)) (u .retention) t k ≡ true → sentBlock h k lbn ≡ some b
-    → shownAt bs (getD (imageAt l (u .images) k) lbn unmapped) ≡ some b → shownAt bs′ (getD (imageAt l (u .images) k) lbn unmapped) ≡ some b)
+    → shownAt bs (getD (imageAt l (u .images) k) lbn unmapped) ≡ some b
+    → shownAt bs′ (getD (imageAt l (u .images) k) lbn unmapped) ≡ some b)
     → Recalls l d bs u h → Recalls l t bs′ u h
 recalls-later l d t bs bs′ u h later room keeps r = record {
   retention = r .retention;
@@ -82,13 +86,14 @@ recalls-later l d t bs bs′ u h later room keeps r = record {
 }
 
 -- ---- one volume replaced, and its history
-pub recalls-set : (l d : ℕ) (bs : List Block) (vs : List Volume) (v : ℕ) (u : Volume) (h : ℕ → History) (f : History → History) → v < length vs
-    → ((w : ℕ) → Recalls l d bs (getD vs w noVolume) (h w)) → Recalls l d bs u (f (h v))
-    → (w : ℕ) → Recalls l d bs (getD (set vs v u) w noVolume) (if eqb v w && true then f (h w) else h w)
+pub recalls-set : (l d : ℕ) (bs : List Block) (vs : List Volume) (v : ℕ) (u : Volume) (h : ℕ → History)
+    (f : History → History) → v < length vs
+    → ((w : ℕ) → Recalls l d bs (getD vs w unenrolled) (h w)) → Recalls l d bs u (f (h v))
+    → (w : ℕ) → Recalls l d bs (getD (set vs v u) w unenrolled) (if eqb v w && true then f (h w) else h w)
 recalls-set l d bs vs v u h f inside each new w = go (eqb v w) refl
   where
-    go : (t : Bool) → eqb v w ≡ t → Recalls l d bs (getD (set vs v u) w noVolume) (if t && true then f (h w) else h w)
+    go : (t : Bool) → eqb v w ≡ t → Recalls l d bs (getD (set vs v u) w unenrolled) (if t && true then f (h w) else h w)
     go true e =
-        subst (λ (x : ℕ). Recalls l d bs (getD (set vs v u) x noVolume) (f (h x))) (eqb-true v w e)
-        (rw (getD-set-same vs v u noVolume inside) new)
-    go false e = rw (getD-set-other vs v w u noVolume (λ q. eqb-false v w e (sym q))) (each w)
+        subst (λ (x : ℕ). Recalls l d bs (getD (set vs v u) x unenrolled) (f (h x))) (eqb-true v w e)
+        (rw (getD-set-same vs v u unenrolled inside) new)
+    go false e = rw (getD-set-other vs v w u unenrolled (λ q. eqb-false v w e (sym q))) (each w)

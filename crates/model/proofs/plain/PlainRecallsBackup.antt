@@ -15,24 +15,25 @@ use Rattle.words.specs.Blocks.{unmapped}
 use Rattle.words.specs.Choice.{if_then_else_}
 use Rattle.words.proofs.Appends.{map-append}
 use Rattle.words.specs.Outcome.{accepted}
-use Rattle.list.specs.Changes.{Change}
+use Rattle.runs.specs.Changes.{Change}
 use Rattle.book.specs.Book.{volumes}
 use Rattle.model.specs.Days.{kept}
-use Rattle.model.specs.Plain.{Block, Image, Volume, Plain, withDay, withBlocks, withVolume, volumeAt, daysOf, current, currentMaps}
-use Rattle.model.specs.PlainBackup.{Work, runChanges, begun, withImage, closed}
+use Rattle.model.specs.Plain.{Block, Image, Volume, Plain, atDay, withBlocks, withVolume, volumeAt, daysOf, current, currentMaps}
+use Rattle.model.specs.PlainBackup.{PlainWork, runChanges, begun, withImage, closed}
 use Rattle.model.specs.History.{Sent, History, withSent, sentBlock}
 use Rattle.model.proofs.kept.DayLaws.{kept-newest}
 use Rattle.model.proofs.plain.HistoryLaws.{sent-earlier, sent-newest, kept-shorter}
 use Rattle.model.proofs.plain.PlainShows.{Maps, Carries, maps-same, carries-same}
 use Rattle.model.proofs.plain.PlainPlacing.{grown-self}
 use Rattle.model.proofs.plain.PlainChanges.{sentOver, Copies, run-copies}
-use Rattle.model.proofs.plain.PlainRecalls.{imageAt, Recalls, AllRecall, as-many, current-image, image-earlier, image-newest, recalls-later, recalls-set}
+use Rattle.model.proofs.plain.PlainRecalls.{imageAt, Recalls, AllRecall, as-many, current-image, image-earlier, image-newest}
+use Rattle.model.proofs.plain.PlainRecalls.{recalls-later, recalls-set}
 
 -- ---- one more image, which shows what its changes sent, or else what the one before it shows
 
 module _ (l t n : ℕ) (bs : List Block) (u : Volume) (h : History) (cells : List ℕ) (cs : List Change) (r : Recalls l t bs u h) where
   abbrev added : Image
-  added = record { day = t; cells = cells; changes = n }
+  added = record { day = t; cells = cells; changed = n }
 
   abbrev sending : Sent
   sending = record { day = t; changes = cs }
@@ -117,13 +118,15 @@ module _ {l d : ℕ} {q : Plain} {h : ℕ → History} (a : AllRecall l d q h) (
       record {
         grown = grown-self (q .blocks);
         wide = ap length copy-begun ∙ r .wide;
-        maps = maps-same l (imageAt l images (length images)) (current (q .sizes) (volumeAt q v)) was was (sym copy-begun) (λ lbn. refl) maps;
+        maps =
+            maps-same l (imageAt l images (length images)) (current (q .sizes) (volumeAt q v)) was was (sym copy-begun)
+            (λ lbn. refl) maps;
         carries =
             carries-same l (imageAt l images (length images)) (current (q .sizes) (volumeAt q v)) was was (sym copy-begun) (λ lbn. refl)
             (q .blocks) carries;
       }
 
-  module _ (t n : ℕ) (cs : List Change) (w : Work) (later : d ≤ t) (c : Copies l (q .blocks) (sentOver cs was) w) where
+  module _ (t n : ℕ) (cs : List Change) (w : PlainWork) (later : d ≤ t) (c : Copies l (q .blocks) (sentOver cs was) w) where
     enough : length (w .blocks) ≤ unmapped
     enough = rw (c .grown .long) (a .room)
 
@@ -135,7 +138,7 @@ module _ {l d : ℕ} {q : Plain} {h : ℕ → History} (a : AllRecall l d q h) (
 
     closed-recalls : v < volumes → (volumeAt q v .retention ≡ 0 → ⊥)
         → AllRecall l t (closed q v t n w .store) (λ x. if eqb v x && true then withSent (record { day = t; changes = cs }) (h x) else h x)
-    unfolding closed withDay withBlocks withVolume
+    unfolding closed atDay withBlocks withVolume
     closed-recalls inside used =
         let inside′ : v < length (q .volumes) = rw (a .volumeCount) inside in
         record {
@@ -144,12 +147,12 @@ module _ {l d : ℕ} {q : Plain} {h : ℕ → History} (a : AllRecall l d q h) (
           room = enough;
           volumeCount = length-set (q .volumes) v _ ∙ a .volumeCount;
           each =
-              recalls-set l t (w .blocks) (q .volumes) v (withImage (record { day = t; cells = w .copy; changes = n }) (volumeAt q v)) h
+              recalls-set l t (w .blocks) (q .volumes) v (withImage (record { day = t; cells = w .copy; changed = n }) (volumeAt q v)) h
               (withSent (record { day = t; changes = cs })) inside′ others-recall
               (recalls-added l t n (w .blocks) (volumeAt q v) (h v) (w .copy) cs (others-recall v) used (c .wide) (c .maps) (c .carries));
         }
 
-  pub backup-recalls : (t n : ℕ) (cs : List Change) (w : Work) → d ≤ t → v < volumes → (volumeAt q v .retention ≡ 0 → ⊥)
+  pub backup-recalls : (t n : ℕ) (cs : List Change) (w : PlainWork) → d ≤ t → v < volumes → (volumeAt q v .retention ≡ 0 → ⊥)
       → runChanges (currentMaps q) v cs (begun q v) ≡ accepted w
       → AllRecall l t (closed q v t n w .store) (λ x. if eqb v x && true then withSent (record { day = t; changes = cs }) (h x) else h x)
   backup-recalls t n cs w later inside used e =

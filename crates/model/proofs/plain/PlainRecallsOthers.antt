@@ -13,7 +13,8 @@ use Rattle.words.specs.Choice.{if_then_else_}
 use Rattle.words.proofs.Places.{getD-replicated}
 use Rattle.book.specs.Book.{volumes, Sizes}
 use Rattle.model.specs.Days.{kept}
-use Rattle.model.specs.Plain.{Block, free, Volume, noVolume, Plain, start, withDay, withBlocks, withVolume, volumeAt, daysOf, mapsOf, marked, swept, collected}
+use Rattle.model.specs.Plain.{Block, free, Volume, unenrolled, Plain, start, atDay, withBlocks, withVolume, volumeAt, daysOf, mapsOf}
+use Rattle.model.specs.Plain.{marked, swept, collected}
 use Rattle.model.specs.History.{Sent, History, noHistory, withEnrol, sentBlock}
 use Rattle.model.proofs.plain.PlainShows.{heldBytes, shownAt, shown-past, Maps, Carries}
 use Rattle.model.proofs.kept.KeptNames.{cell-names}
@@ -52,7 +53,7 @@ module _ (l d r : ℕ) (bs : List Block) (h : History) (room : length bs ≤ unm
 -- ---- the start
 
 pub start-recalls : (z : Sizes) → z .n ≤ unmapped → AllRecall (z .l) 0 (start z) (λ v. noHistory)
-unfolding start noVolume noHistory
+unfolding start unenrolled noHistory
 start-recalls z room =
     let enough : length (replicate (z .n) free) ≤ unmapped = rw length-replicate room in
     record {
@@ -60,20 +61,20 @@ start-recalls z room =
       day = refl;
       room = enough;
       volumeCount = refl;
-      each = λ v. rw (getD-replicated volumes noVolume v) (none-recalls (z .l) 0 0 (replicate (z .n) free) noHistory enough refl refl);
+      each = λ v. rw (getD-replicated volumes unenrolled v) (none-recalls (z .l) 0 0 (replicate (z .n) free) noHistory enough refl refl);
     }
 
 -- ---- collect
 
 -- a volume that isn't there has no images
 volume-there : (q : Plain) (v k : ℕ) → k < length (volumeAt q v .images) → v < length (q .volumes)
-unfolding noVolume
+unfolding unenrolled
 volume-there q v k h = go (ltb v (length (q .volumes))) refl
   where
     go : (t : Bool) → ltb v (length (q .volumes)) ≡ t → v < length (q .volumes)
     go true e = ltb-true v (length (q .volumes)) e
     go false e =
-        let z : volumeAt q v ≡ noVolume = List·getD-eq-default (q .volumes) noVolume (ltb-false v (length (q .volumes)) e) in
+        let z : volumeAt q v ≡ unenrolled = List·getD-eq-default (q .volumes) unenrolled (ltb-false v (length (q .volumes)) e) in
         absurd (omega (arith, ap (λ (u : Volume). length (u .images)) z))
 
 module _ {l d : ℕ} {q : Plain} {h : ℕ → History} (a : AllRecall l d q h) where
@@ -97,7 +98,7 @@ module _ {l d : ℕ} {q : Plain} {h : ℕ → History} (a : AllRecall l d q h) w
           let y : _≡_ {A = ℕ} 0 1 = cc in omega arith
 
   pub collect-recalls : (t : ℕ) → d ≤ t → AllRecall l t (collected q t .store) h
-  unfolding collected withDay withBlocks
+  unfolding collected atDay withBlocks
   collect-recalls t later =
       let room : length (swept (marked q t) 0 (q .blocks)) ≤ unmapped = rw length-swept (a .room) in
       record {
@@ -106,7 +107,8 @@ module _ {l d : ℕ} {q : Plain} {h : ℕ → History} (a : AllRecall l d q h) w
         room = room;
         volumeCount = a .volumeCount;
         each = λ v.
-            recalls-later l d t (q .blocks) (swept (marked q t) 0 (q .blocks)) (volumeAt q v) (h v) later room (marked-stays t v) (a .each v);
+            recalls-later l d t (q .blocks) (swept (marked q t) 0 (q .blocks)) (volumeAt q v) (h v) later room
+            (marked-stays t v) (a .each v);
       }
 
   -- ---- enrol

@@ -49,8 +49,10 @@ module _ (l : ℕ) (m m′ : List ℕ) (s s′ : ℕ → Option (List ℕ)) (e :
   carries-same bs carries lbn h = rw (← e) (carries lbn h ∙ f lbn)
 
 -- other blocks do as well, if they hold what the mapped cells' blocks held
-pub carries-over : (l : ℕ) (bs bs′ : List Block) (m : List ℕ) (s : ℕ → Option (List ℕ)) → length bs′ ≤ unmapped → Maps l m s → Carries l bs m s
-    → ((lbn : ℕ) (b : List ℕ) → lbn < l → s lbn ≡ some b → shownAt bs (getD m lbn unmapped) ≡ some b → shownAt bs′ (getD m lbn unmapped) ≡ some b)
+pub carries-over : (l : ℕ) (bs bs′ : List Block) (m : List ℕ) (s : ℕ → Option (List ℕ)) → length bs′ ≤ unmapped
+    → Maps l m s → Carries l bs m s
+    → ((lbn : ℕ) (b : List ℕ) → lbn < l → s lbn ≡ some b → shownAt bs (getD m lbn unmapped) ≡ some b
+    → shownAt bs′ (getD m lbn unmapped) ≡ some b)
     → Carries l bs′ m s
 carries-over l bs bs′ m s room maps carries keeps lbn h = go (s lbn) refl
   where

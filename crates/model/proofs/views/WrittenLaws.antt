@@ -16,7 +16,8 @@ pub written-refused : (k : ℕ) (o : Outcome (List ℕ)) (out : List ℕ) {r : �
 written-refused zero o out e n = absurd (n e)
 written-refused (suc k) o out e n = record { number = e; output = refl }
 
-pub written-past : {k : ℕ} (o : Outcome (List ℕ)) {out out′ : List ℕ} {r : ℕ} → k ≡ 0 → Written o out r out′ → Written (unless k o) out r out′
+pub written-past : {k : ℕ} (o : Outcome (List ℕ)) {out out′ : List ℕ} {r : ℕ} → k ≡ 0 → Written o out r out′
+    → Written (unless k o) out r out′
 written-past o e w = rw e w
 
 -- ---- the output has no room, or is written from its front
@@ -25,6 +26,7 @@ pub written-short : (c out : List ℕ) → length out < length c → Written (wi
 unfolding withRoom outputNumber
 written-short c out h = rw (lt-ltb (length out) (length c) h) (record { number = refl; output = refl })
 
-pub written-whole : (c out : List ℕ) {out′ : List ℕ} → length c ≤ length out → out′ ≡ sets out 0 c → Written (withRoom c (length out)) out 0 out′
+pub written-whole : (c out : List ℕ) {out′ : List ℕ} → length c ≤ length out → out′ ≡ sets out 0 c
+    → Written (withRoom c (length out)) out 0 out′
 unfolding withRoom outputNumber
 written-whole c out h e = rw (le-ltb (length out) (length c) h) (record { number = refl; output = e ∙ sets-front c out h })

@@ -47,22 +47,26 @@ line1 c =
 line2 : (c : tie.After-put-line2) → LeftFrom (entry2 c) 2 (c .put-line2 .last .0) (c .put-line2 .result)
 line2 c =
     let a = entry2 c .args in
-    left-more (line1 (c .before .before .before .before .before)) (line heldWord (a .t .held)) (from (entry2 c) 2) refl (c .put-line2 .ensures)
+    let before = line1 (c .before .before .before .before .before) in
+    left-more before (line heldWord (a .t .held)) (from (entry2 c) 2) refl (c .put-line2 .ensures)
 
 line3 : (c : tie.After-put-line3) → LeftFrom (entry3 c) 3 (c .put-line3 .last .0) (c .put-line3 .result)
 line3 c =
     let a = entry3 c .args in
-    left-more (line2 (c .before .before .before .before .before)) (line freeWord (a .t .free)) (from (entry3 c) 3) refl (c .put-line3 .ensures)
+    let before = line2 (c .before .before .before .before .before) in
+    left-more before (line freeWord (a .t .free)) (from (entry3 c) 3) refl (c .put-line3 .ensures)
 
 line4 : (c : tie.After-put-line4) → LeftFrom (entry4 c) 4 (c .put-line4 .last .0) (c .put-line4 .result)
 line4 c =
     let a = entry4 c .args in
-    left-more (line3 (c .before .before .before .before .before)) (line waitingWord (a .t .waiting)) (from (entry4 c) 4) refl (c .put-line4 .ensures)
+    let before = line3 (c .before .before .before .before .before) in
+    left-more before (line waitingWord (a .t .waiting)) (from (entry4 c) 4) refl (c .put-line4 .ensures)
 
 line5 : (c : tie.After-put-line5) → LeftFrom (entry5 c) 5 (c .put-line5 .last .0) (c .put-line5 .result)
 line5 c =
     let a = entry5 c .args in
-    left-more (line4 (c .before .before .before .before .before)) (line referencesWord (a .t .references)) (from (entry5 c) 5) refl (c .put-line5 .ensures)
+    let before = line4 (c .before .before .before .before .before) in
+    left-more before (line referencesWord (a .t .references)) (from (entry5 c) 5) refl (c .put-line5 .ensures)
 
 put-line-requires : tie.Need-put-line-requires
 put-line-requires c κs =

@@ -13,4 +13,4 @@ returns-2 : tie.Need-returns-2
 returns-2 c = c .form-number .ensures ∙ sym (short-number (c .before .before .before .args .input .now) (omega arith))
 
 pub refusal-spec : {M : Type 1} → statement M
-refusal-spec = tie.close (tie.spec returns (λ c κs. search needs) (λ c. search needs) returns-2)
+refusal-spec = tie.close (tie.spec (λ c. search needs) returns (λ c κs. search needs) (λ c. search needs) returns-2)

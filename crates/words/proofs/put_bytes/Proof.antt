@@ -26,7 +26,17 @@ loop-holds c = (omega arith, refl, refl)
 -- src/lib.rt:161:5
 -- src/lib.rt:161:5
 loop-again : tie.Need-loop-again Inv-loop μ-loop
-loop-again c = let l = c .before .before .loop in let a = c .before .before .before .args in (omega arith, ap (λ (x : List ℕ). set x (a .at + l .i) (getD (now (a .src)) (l .i) 0)) (l .inv .1) ∙ sets-more (now (a .src)) (now (a .b)) (a .at) (l .i) (c .before .loop-test .taken), simp length-set (l .inv .2))
+loop-again c =
+    let l =
+    c .before .before .loop in let a =
+    c .before .before .before .args
+    in (
+      omega arith,
+      ap (λ (x : List ℕ). set x (a .at + l .i) (getD (now (a .src)) (l .i) 0)) (l .inv .1)
+          ∙ sets-more (now (a .src)) (now (a .b)) (a .at) (l .i) (c .before .loop-test .taken),
+      simp
+          length-set (l .inv .2),
+    )
 
 -- src/lib.rt:156:1
 same-length : tie.Need-same-length Inv-loop μ-loop
@@ -34,7 +44,12 @@ same-length c = c .before .loop .inv .2
 
 -- src/lib.rt:156:1
 returns : tie.Need-returns Inv-loop μ-loop
-returns c = let a = c .before .before .args in let l = c .before .loop in let e : l .i ≡ length (now (a .src)) = omega arith in l .inv .1 ∙ ap (λ (k : ℕ). sets (now (a .b)) (a .at) (take k (now (a .src)))) e ∙ ap (λ (x : List ℕ). sets (now (a .b)) (a .at) x) (take-length (now (a .src)))
+returns c =
+    let a =
+    c .before .before .args in let l =
+    c .before .loop in let e : l .i ≡ length (now (a .src)) =
+    omega arith in l .inv .1 ∙ ap (λ (k : ℕ). sets (now (a .b)) (a .at) (take k (now (a .src)))) e
+    ∙ ap (λ (x : List ℕ). sets (now (a .b)) (a .at) x) (take-length (now (a .src)))
 
 pub put-bytes-spec : {M : Type 1} → statement M
 put-bytes-spec =

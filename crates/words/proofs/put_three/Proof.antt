@@ -6,11 +6,12 @@ use Rattle.words.proofs.put_three.Tie as tie
 
 returns : tie.Need-returns
 returns c =
-    let a = c .before .before .before .before .before .before .before .before .before .before .before .before .before .args in
-    puts-three (a .b .now) (a .at) (a .x) (a .y) (a .z)
-    (c .before .before .before .before .before .before .before .before .before .before .put-u16 .ensures)
-    (c .before .before .before .before .before .before .put-u162 .ensures)
-    (c .before .before .put-u163 .ensures)
+    let third = c .before .before in
+    let second = third .before .before .before .before in
+    let first = second .before .before .before .before in
+    let a = first .before .before .before .args in
+    puts-three (a .b .now) (a .at) (a .x) (a .y) (a .z) (first .put-u16 .ensures) (second .put-u162 .ensures)
+    (third .put-u163 .ensures)
 
 pub put-three-spec : {M : Type 1} → statement M
 put-three-spec =

@@ -1,42 +1,47 @@
 -- `aspen_write_list`: the refusals 19 and 20, and the list.
-use mathlib.Core.Path.{_≡_}
+use mathlib.Core.Path.{_≡_, refl}
 use mathlib.Core.Bool.{true}
 use lib.ListN.{length}
 use native.Mathlib.Omega.{arith}
 use borrow.Author.Needs.{needs}
 use Rattle.words.proofs.ChoiceLaws.{failed, passed}
-use Rattle.writer.specs.Writer.{inputOk, markedList}
+use Rattle.runs.specs.Writer.{inputOk, markedList}
 use Rattle.writer.proofs.Lengths.{length-list}
 use Rattle.writer.proofs.Whole.{Fit, input-fits, wrote-none, wrote-short, wrote-list}
 use Rattle.writer.proofs.aspen_write_list.Statement.{statement}
 use Rattle.writer.proofs.aspen_write_list.Tie as tie
 
-abbrev entry : tie.Else1 → tie.Start
-entry c = c .before .before .before .before .before .before
+abbrev start : tie.After-input-ok → tie.Start
+start c = c .before .before .before .before .before
 
-accepted : (c : tie.Else1) → (let a = entry c .args in inputOk (a .l) (a .marks .now) (a .prints .now) (a .image .now) ≡ true)
+accepted : (c : tie.Else1)
+    → (let a = start (c .before) .args in inputOk (a .l) (a .marks .now) (a .prints .now) (a .image .now) ≡ true)
 accepted c = passed (c .before .input-ok .ensures) (c .if1 .left)
 
-fit : (c : tie.Else1) → (let a = entry c .args in Fit (a .marks .now) (a .prints .now) (a .image .now))
+fit : (c : tie.Else1) → (let a = start (c .before) .args in Fit (a .marks .now) (a .prints .now) (a .image .now))
 fit c = input-fits _ _ _ _ (accepted c)
 
 -- the length that the code compares is the list's
-long : (c : tie.After-list-len) → (let a = entry (c .before .before) .args in c .list-len .result ≡ length (markedList (a .marks .now) (a .prints .now) (a .image .now)))
+long : (c : tie.After-list-len)
+    → (let a = start (c .before .before .before) .args in
+    c .list-len .result ≡ length (markedList (a .marks .now) (a .prints .now) (a .image .now)))
 long c =
-    let a = entry (c .before .before) .args in
+    let a = start (c .before .before .before) .args in
     let f = fit (c .before .before) in
     let n = c .before .count-marks .ensures in
-    omega (arith, c .list-len .ensures, n .runs, n .changes, length-list (a .prints .now) (a .image .now) (a .marks .now) (f .prints) (f .image))
+    let e = length-list (a .prints .now) (a .image .now) (a .marks .now) (f .prints) (f .image) in
+    omega (arith, c .list-len .ensures, n .runs, n .changes, e)
 
 returns : tie.Need-returns
-returns c = wrote-none _ _ _ _ _ _ (failed (c .before .input-ok .ensures) (c .if1 .taken))
+returns c = wrote-none _ _ _ _ _ _ refl refl (failed (c .before .input-ok .ensures) (c .if1 .taken))
 
 count-marks-requires : tie.Need-count-marks-requires
 count-marks-requires c κs = fit c .most
 
 returns-2 : tie.Need-returns-2
 returns-2 c =
-    wrote-short _ _ _ _ _ _ (accepted (c .before .before .before)) (omega (arith, c .if2 .taken, long (c .before)))
+    wrote-short _ _ _ _ _ _ refl refl (accepted (c .before .before .before))
+    (omega (arith, c .if2 .taken, long (c .before)))
 
 put-list-requires : tie.Need-put-list-requires
 put-list-requires c κs =

@@ -8,7 +8,9 @@ returns : tie.Need-returns
 returns c = counted-marked _ _ _ (c .before .before .before .row-after .ensures) (c .before .if1 .taken)
 
 returns-2 : tie.Need-returns-2
-returns-2 c = counted-none _ _ _ (c .before .before .before .before .row-after .ensures) (c .before .before .if1 .left) (c .if2 .taken)
+returns-2 c =
+    let k = c .before .before in
+    counted-none _ _ _ (k .before .before .row-after .ensures) (k .if1 .left) (c .if2 .taken)
 
 returns-3 : tie.Need-returns-3
 returns-3 c =

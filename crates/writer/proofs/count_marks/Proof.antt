@@ -24,7 +24,8 @@ count-mark-requires c κs = (omega arith, omega arith, omega arith)
 loop-again : tie.Need-loop-again Inv-loop μ-loop
 loop-again c =
     let l = c .before .before .before .loop in
-    (counting-more _ (l .t) _ (l .passed) (c .before .before .loop-test .taken) (c .count-mark .ensures) (l .inv .0), omega arith)
+    let more = c .before .before .loop-test .taken in
+    (counting-more _ (l .t) _ (l .passed) more (c .count-mark .ensures) (l .inv .0), omega arith)
 
 count-mark-requires-2 : tie.Need-count-mark-requires-2 Inv-loop μ-loop
 count-mark-requires-2 c κs = (omega arith, omega arith, omega arith)
@@ -32,7 +33,8 @@ count-mark-requires-2 c κs = (omega arith, omega arith, omega arith)
 returns : tie.Need-returns Inv-loop μ-loop
 returns c =
     let l = c .before .before .loop in
-    counting-end _ (l .t) _ (l .passed) _ (c .before .loop-test .left) (λ e. omega arith) (c .count-mark2 .ensures) (l .inv .0)
+    counting-end _ (l .t) _ (l .passed) _ (c .before .loop-test .left) (λ e. omega arith) (c .count-mark2 .ensures)
+    (l .inv .0)
 
 pub count-marks-spec : {M : Type 1} → statement M
 count-marks-spec =

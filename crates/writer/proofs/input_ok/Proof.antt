@@ -1,7 +1,7 @@
 -- `input_ok`: the tests of `inputOk` in their order.
 use borrow.Author.Needs.{needs}
 use borrow.Author.Tests.{le-leb, lt-leb, eq-eqb, ne-eqb}
-use Rattle.writer.specs.Writer.{inputOk}
+use Rattle.runs.specs.Writer.{inputOk}
 use Rattle.writer.proofs.input_ok.Statement.{statement}
 use Rattle.writer.proofs.input_ok.Tie as tie
 
@@ -15,13 +15,20 @@ returns-2 c = rw (le-leb 1 _ (c .before .if1 .left), lt-leb _ 1024 (c .if2 .take
 
 returns-3 : tie.Need-returns-3
 unfolding inputOk
-returns-3 c = rw (le-leb 1 _ (c .before .before .if1 .left), le-leb _ 1024 (c .before .if2 .left), ne-eqb _ _ (c .if3 .taken))
+returns-3 c =
+    let e = c .before in
+    rw (le-leb 1 _ (e .before .if1 .left), le-leb _ 1024 (e .if2 .left), ne-eqb _ _ (c .if3 .taken))
 
 returns-4 : tie.Need-returns-4
 unfolding inputOk
 returns-4 c =
     let e = c .before in
-    rw (le-leb 1 _ (e .before .before .if1 .left), le-leb _ 1024 (e .before .if2 .left), eq-eqb _ _ (e .if3 .left), ne-eqb _ _ (c .if4 .taken))
+    rw (
+      le-leb 1 _ (e .before .before .if1 .left),
+      le-leb _ 1024 (e .before .if2 .left),
+      eq-eqb _ _ (e .if3 .left),
+      ne-eqb _ _ (c .if4 .taken),
+    )
 
 returns-5 : tie.Need-returns-5
 unfolding inputOk
@@ -50,5 +57,5 @@ returns-6 c =
 
 pub input-ok-spec : {M : Type 1} → statement M
 input-ok-spec =
-    tie.close (tie.spec returns returns-2 returns-3 (λ c. search needs) returns-4 (λ c. search needs) returns-5
-    (λ c κs. search needs) returns-6)
+    tie.close (tie.spec returns (λ c. search needs) returns-2 returns-3 (λ c. search needs) returns-4
+    (λ c. search needs) returns-5 (λ c κs. search needs) returns-6)

@@ -28,13 +28,15 @@ returns : tie.Need-returns Inv-loop μ-loop
 returns c =
     let ms = c .before .before .before .before .args .marks .now in
     let l = c .before .before .before .loop in
-    sym (l .inv .1 ∙ all-stop isMark ms (l .i) (c .before .before .loop-test .taken) (lt-leb (getD ms (l .i) 0) 1 (omega arith)))
+    let other = lt-leb (getD ms (l .i) 0) 1 (omega arith) in
+    sym (l .inv .1 ∙ all-stop isMark ms (l .i) (c .before .before .loop-test .taken) other)
 
 loop-again : tie.Need-loop-again Inv-loop μ-loop
 loop-again c =
     let ms = c .before .before .before .before .args .marks .now in
     let l = c .before .before .before .loop in
-    (omega arith, l .inv .1 ∙ all-more isMark ms (l .i) (c .before .before .loop-test .taken) (le-leb (getD ms (l .i) 0) 1 (omega arith)))
+    let mark = le-leb (getD ms (l .i) 0) 1 (omega arith) in
+    (omega arith, l .inv .1 ∙ all-more isMark ms (l .i) (c .before .before .loop-test .taken) mark)
 
 returns-2 : tie.Need-returns-2 Inv-loop μ-loop
 returns-2 c =

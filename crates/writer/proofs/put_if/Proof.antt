@@ -14,9 +14,10 @@ put-bytes-requires c κs = rw (marked-bytes _ _ (c .before .if1 .left)) at (c .b
 
 returns-2 : tie.Need-returns-2
 returns-2 c =
-    let a = c .before .before .before .before .before .before .before .args in
-    rw (marked-bytes (a .mark) (a .bytes .now) (c .before .before .before .before .if1 .left))
-    (record { list = c .before .before .put-bytes .ensures; place = refl })
+    let w = c .before .before in
+    let e = w .before .before in
+    let a = e .before .before .before .args in
+    rw (marked-bytes (a .mark) (a .bytes .now) (e .if1 .left)) (record { list = w .put-bytes .ensures; place = refl })
 
 pub put-if-spec : {M : Type 1} → statement M
 put-if-spec = tie.close (tie.spec returns put-bytes-requires (λ c. search needs) (λ c. search needs) returns-2)

@@ -10,19 +10,19 @@ use Rattle.writer.proofs.Marks.{row-grows, row-stops, ended-marked, end
 use Rattle.writer.proofs.put_mark.Statement.{statement}
 use Rattle.writer.proofs.put_mark.Tie as tie
 
-abbrev entry : tie.Else1 → tie.Start
-entry c = c .before .before .before .before
+abbrev start : tie.Else1 → tie.Start
+start c = c .before .before .before .before
 
 -- where the row doesn't grow, the block isn't marked
-unmarked : (c : tie.Else1) → entry c .args .mark ≡ 1 → ⊥
+unmarked : (c : tie.Else1) → start c .args .mark ≡ 1 → ⊥
 unmarked c = row-stops _ _ _ (c .before .before .row-after .ensures) (c .if1 .left)
 
 -- a run that ends has room for its pair
-room : (c : tie.Else2) → (let a = entry (c .before .before) .args in a .p .at + 4 ≤ length (a .list .now))
+room : (c : tie.Else2) → (let a = start (c .before .before) .args in a .p .at + 4 ≤ length (a .list .now))
 room c =
     let k = c .before .before in
-    let a = entry k .args in
-    pair-room (a .list .now) (a .p .at) (a .lbn) (a .p .row) (a .mark) (unmarked k) (c .if2 .left) (entry k .pre .2)
+    let a = start k .args in
+    pair-room (a .list .now) (a .p .at) (a .lbn) (a .p .row) (a .mark) (unmarked k) (c .if2 .left) (start k .pre .2)
 
 returns : tie.Need-returns
 returns c =
@@ -34,26 +34,30 @@ returns c =
 returns-2 : tie.Need-returns-2
 returns-2 c =
     let k = c .before .before in
-    let a = entry k .args in
+    let a = start k .args in
     let n = ended-none (a .lbn) (a .p .row) (a .mark) (unmarked k) (c .if2 .taken) in
-    record { pair = pair-none _ _ _ _ _ n; row = omega (arith, c .if2 .taken, k .if1 .left, k .before .before .row-after .ensures) }
+    let e = k .before .before .row-after .ensures in
+    record { pair = pair-none _ _ _ _ _ n; row = omega (arith, c .if2 .taken, k .if1 .left, e) }
 
 put-u16-requires : tie.Need-put-u16-requires
 put-u16-requires c κs = omega (arith, room (c .before .before))
 
 put-u16-requires-2 : tie.Need-put-u16-requires-2
-put-u16-requires-2 c κs = omega (arith, room (c .before .before .before .before .before .before), c .before .before .before .put-u16 .kept .0)
+put-u16-requires-2 c κs =
+    let w = c .before .before .before in
+    omega (arith, room (w .before .before .before), w .put-u16 .kept .0)
 
 returns-3 : tie.Need-returns-3
 returns-3 c =
-    let e = c .before .before .before .before .before .before .before .before .before in
+    let w = c .before .before in
+    let v = w .before .before .before .before in
+    let e = v .before .before .before in
     let k = e .before .before in
-    let a = entry k .args in
+    let a = start k .args in
     record {
       pair =
           pair-put (a .list .now) (a .p .at) (a .lbn) (a .p .row) (a .mark) (unmarked k) (e .if2 .left)
-          (c .before .before .put-u162 .ensures
-          ∙ ap (λ (x : List ℕ). put x (a .p .at + 2) (a .p .row)) (c .before .before .before .before .before .before .put-u16 .ensures));
+          (w .put-u162 .ensures ∙ ap (λ (x : List ℕ). put x (a .p .at + 2) (a .p .row)) (v .put-u16 .ensures));
       row = k .before .before .row-after .ensures;
     }
 

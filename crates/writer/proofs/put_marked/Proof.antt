@@ -24,12 +24,18 @@ abbrev μ-loop : tie.MeasureT-loop
 loop-holds : tie.Need-loop-holds Inv-loop μ-loop
 loop-holds c = (omega arith, sym (zero-mul _), left-all (c .before .before .before .pre .1))
 
+abbrev start : tie.At-loop Inv-loop μ-loop → tie.Start Inv-loop μ-loop
+start c = c .before .before .before .before
+
 -- the part that a turn takes lies within the elements
-end : (c : tie.In-loop Inv-loop μ-loop) → c .before .loop .from + c .before .before .before .before .before .args .size ≤ length (c .before .before .before .before .before .args .elements .now)
+end : (c : tie.In-loop Inv-loop μ-loop)
+    → (let a = start (c .before) .args in c .before .loop .from + a .size ≤ length (a .elements .now))
 end c =
-    let a = c .before .before .before .before .before in
+    let s = start (c .before) in
+    let a = s .args in
     let l = c .before .loop in
-    element-room (a .args .size) (a .args .elements .now) (a .args .marks .now) (l .from) (l .i) (a .pre .0) (c .loop-test .taken) (l .inv .1)
+    element-room (a .size) (a .elements .now) (a .marks .now) (l .from) (l .i) (s .pre .0) (c .loop-test .taken)
+    (l .inv .1)
 
 add-to : tie.Need-add-to Inv-loop μ-loop
 add-to c = omega (arith, end c)
@@ -48,12 +54,13 @@ put-if-requires c κs =
 loop-again : tie.Need-loop-again Inv-loop μ-loop
 loop-again c =
     let k = c .before .before in
-    let l = k .before .before .before .before .before .loop in
-    let a = k .before .before .before .before .before .before .before .before .before .args in (
+    let turn = k .before .before .before .before in
+    let l = turn .before .loop in
+    let a = start (turn .before) .args in (
       omega arith,
       element-next (a .size) (l .from) (l .i) (l .inv .1),
       part-stored (a .size) (a .elements .now) (a .marks .now) (l .next) (l .from) (l .i) (l .inv .1) (l .inv .2)
-          (k .before .before .before .before .loop-test .taken) (k .put-if .ensures),
+          (turn .loop-test .taken) (k .put-if .ensures),
     )
 
 returns : tie.Need-returns Inv-loop μ-loop

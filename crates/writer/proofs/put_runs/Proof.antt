@@ -13,7 +13,9 @@ use Rattle.writer.proofs.put_runs.Tie as tie
 
 abbrev Inv-loop : tie.InvT-loop
 Inv-loop list₀ at marks p₀ lbn₀ list p lbn =
-    (lbn ≤ length marks) × (p .row ≤ lbn) × Left list₀ at (pairsFrom 0 0 marks) list (p .at) (pairsFrom lbn (p .row) (drop lbn marks))
+    (lbn ≤ length marks)
+    × (p .row ≤ lbn)
+    × Left list₀ at (pairsFrom 0 0 marks) list (p .at) (pairsFrom lbn (p .row) (drop lbn marks))
 
 abbrev μ-loop : tie.MeasureT-loop
 μ-loop list₀ at marks p₀ lbn₀ list p lbn = length marks - lbn
@@ -38,13 +40,15 @@ loop-again c =
 put-mark-requires-2 : tie.Need-put-mark-requires-2 Inv-loop μ-loop
 put-mark-requires-2 c κs =
     let l = c .before .before .loop in
-    (omega arith, omega arith, last-room _ (l .p) (l .lbn) (l .inv .2) _ (c .before .loop-test .left) (λ e. omega arith))
+    let end = c .before .loop-test .left in
+    (omega arith, omega arith, last-room _ (l .p) (l .lbn) (l .inv .2) _ end (λ e. omega arith))
 
 returns : tie.Need-returns Inv-loop μ-loop
 returns c =
     let k = c .before .before in
     let l = k .before .before .before .loop in
-    last-stored _ (l .p) (l .lbn) (l .inv .2) (k .before .before .loop-test .left) (λ e. omega arith) (k .put-mark2 .ensures)
+    last-stored _ (l .p) (l .lbn) (l .inv .2) (k .before .before .loop-test .left) (λ e. omega arith)
+    (k .put-mark2 .ensures)
 
 same-length : tie.Need-same-length Inv-loop μ-loop
 same-length c = ap length (returns c .list) ∙ simp length-sets

@@ -7,8 +7,8 @@ use lib.Seq.{take-all}
 use Rattle.book.specs.Layout.{bookOf}
 use Rattle.auditor.specs.Counts.{Counted}
 use Rattle.auditor.proofs.CountLaws.{counted-none, counted-cell, counted-le}
-use Rattle.auditor.proofs.MatchingLaws.{matching-none, matching-grow}
-use Rattle.auditor.specs.Table.{rowSize}
+use Rattle.replay.proofs.MatchingLaws.{matching-none, matching-grow}
+use Rattle.replay.specs.Table.{rowSize}
 use Rattle.auditor.specs.TableMaps.{rowMatches}
 use borrow.Author.Needs.{needs}
 use native.Mathlib.Omega.{arith}
@@ -17,10 +17,18 @@ use Rattle.auditor.proofs.maps.take_row.Tie as tie
 
 abbrev Inv-loop : tie.InvT-loop
 Inv-loop book cells counts₀ v row wide good₀ l₀ counts good l =
-    (l ≤ wide) × (good ≡ rowMatches (bookOf book .maps) l cells v) × Counted counts₀ (take l (getD (bookOf book .maps) v [])) counts
+    (l ≤ wide)
+    × (good ≡ rowMatches (bookOf book .maps) l cells v)
+    × Counted counts₀ (take l (getD (bookOf book .maps) v [])) counts
 
 abbrev μ-loop : tie.MeasureT-loop
 μ-loop book cells counts₀ v row wide good₀ l₀ counts good l = wide - l
+
+abbrev start : tie.At-loop Inv-loop μ-loop → tie.Start Inv-loop μ-loop
+start c = c .before .before .before
+
+abbrev turn : tie.After-count-one-arg Inv-loop μ-loop → tie.At-loop Inv-loop μ-loop
+turn c = c .before .before .before .before .before
 
 cells-requires : tie.Need-cells-requires Inv-loop μ-loop
 cells-requires c κs = c .before .pre .0 .holds
@@ -30,36 +38,41 @@ unfolding rowMatches
 loop-holds c = (omega arith, matching-none _ _, counted-none _)
 
 cell-requires : tie.Need-cell-requires Inv-loop μ-loop
-cell-requires c κs = let s = c .before .before .before .before in (s .pre .0 .holds, (s .pre .1 .0, omega arith))
+cell-requires c κs = let s = start (c .before) in (s .pre .0 .holds, (s .pre .1 .0, omega arith))
 
 count-one-requires : tie.Need-count-one-requires Inv-loop μ-loop
 count-one-requires c κs =
-    let s = c .before .before .before .before .before .before .before .before in
-    let l = c .before .before .before .before .before .loop in
+    let s = start (turn c) in
+    let l = turn c .loop in
     let p = c .before .before .before .cell .result .0 in
-    let m = getD (bookOf (s .args .book .now) .maps) (s .args .v) [] in
-    (l .inv .2 .long ∙ s .pre .1 .1, λ h. omega (arith, counted-le (s .args .v * rowSize) p h (s .pre .1 .2 p h) (l .inv .2), length-take (l .l) m))
+    let m = getD (bookOf (s .args .book .now) .maps) (s .args .v) [] in (
+      l .inv .2 .long ∙ s .pre .1 .1,
+      λ h. omega (arith, counted-le (s .args .v * rowSize) p h (s .pre .1 .2 p h) (l .inv .2), length-take (l .l) m),
+    )
 
 loop-again : tie.Need-loop-again Inv-loop μ-loop
 unfolding rowMatches
 loop-again c =
-    let s = c .before .before .before .before .before .before .before .before .before in
-    let l = c .before .before .before .before .before .before .loop in
+    let s = start (turn (c .before)) in
+    let l = turn (c .before) .loop in
     let e = c .before .before .before .before .cell in
     let m = getD (bookOf (s .args .book .now) .maps) (s .args .v) [] in (
       omega arith,
       matching-grow _ _ (l .l) (l .inv .1) (e .ensures) refl,
-      counted-cell m (l .l) (e .result .0) (omega (arith, s .pre .0 .holds .sized .cells (s .args .v) (s .pre .1 .0))) (e .ensures) (l .inv .2) (c .count-one .ensures),
+      counted-cell m (l .l) (e .result .0)
+          (omega (arith, s .pre .0 .holds .sized .cells (s .args .v) (s .pre .1 .0))) (e .ensures) (l .inv .2)
+          (c .count-one .ensures),
     )
 
 returns : tie.Need-returns Inv-loop μ-loop
 returns c =
-    let s = c .before .before .before .before in
+    let s = start (c .before) in
     let l = c .before .loop in
     let x = bookOf (s .args .book .now) in
     let m = getD (x .maps) (s .args .v) [] in
     let all : l .l ≡ x .sizes .l = omega arith in
-    let whole : take (l .l) m ≡ m = take-all (l .l) m (omega (arith, s .pre .0 .holds .sized .cells (s .args .v) (s .pre .1 .0))) in
+    let wide = s .pre .0 .holds .sized .cells (s .args .v) (s .pre .1 .0) in
+    let whole : take (l .l) m ≡ m = take-all (l .l) m (omega (arith, wide)) in
     record { test = rw all at (l .inv .1); counts = rw whole at (l .inv .2) }
 
 pub take-row-spec : {M : Type 1} → statement M

@@ -1,11 +1,11 @@
 -- `calendar::backups::backups` meets its contract, by what each way out leaves.
 use Prim.Native.Nat.{_≤_}
-use mathlib.Core.Path.{_≡_, sym, _∙_}
+use mathlib.Core.Path.{_≡_, refl, sym, _∙_}
 use native.Mathlib.Omega.{arith}
 use lib.ListN.{length}
 use denote.Ref.{now}
-use Rattle.book.specs.Formed.{Formed}
-use Rattle.book.proofs.FormedLaws.{formed}
+use Rattle.book.specs.FormFacts.{FormFacts}
+use Rattle.book.proofs.FormFactLaws.{form-facts}
 use Rattle.book.specs.Layout.{bookOf}
 use Rattle.model.proofs.views.EnrolledNumber.{passed-enrolled}
 use Rattle.model.proofs.views.ViewLaws.{length-backupsOf}
@@ -15,14 +15,18 @@ use borrow.Author.Needs.{needs}
 use Rattle.calendar.proofs.backups.backups.Statement.{statement}
 use Rattle.calendar.proofs.backups.backups.Tie as tie
 
-passed : (c : tie.Else1) → let s = c .before .before .before .before .args in enrolledNumber (now (s .book)) (s .volume) ≡ 0
+abbrev start : tie.Else1 → tie.Start
+start c = c .before .before .before .before
+
+passed : (c : tie.Else1) → enrolledNumber (now (start c .args .book)) (start c .args .volume) ≡ 0
 passed c = sym (c .before .enrolled-number .ensures) ∙ c .if1 .left
 
-formed-book : (c : tie.Else1) → Formed (now (c .before .before .before .before .args .book))
-formed-book c = formed _ (λ i. c .before .before .before .shared-slice-known .given i .fits) (passed-enrolled _ _ (passed c) .form)
+formed-book : (c : tie.Else1) → FormFacts (now (start c .args .book))
+formed-book c =
+    form-facts _ (λ i. c .before .before .before .shared-slice-known .given i .fits) (passed-enrolled _ _ (passed c) .form)
 
 returns : tie.Need-returns
-returns c = told-refused _ _ _ _ (c .before .enrolled-number .ensures) (c .if1 .taken)
+returns c = told-refused _ _ _ _ refl refl (c .before .enrolled-number .ensures) (c .if1 .taken)
 
 count-backups-requires : tie.Need-count-backups-requires
 count-backups-requires c κs = formed-book c .holds
@@ -31,15 +35,16 @@ returns-2 : tie.Need-returns-2
 returns-2 c =
     let k = c .before in
     let e = k .before in
-    let s = e .before .before .before .before .args in
-    told-short _ _ _ _ (passed e) (omega (arith, length-backupsOf (bookOf (now (s .book))) (s .volume), k .count-backups .ensures))
+    let s = start e .args in
+    let rows = length-backupsOf (bookOf (now (s .book))) (s .volume) in
+    told-short _ _ _ _ refl refl (passed e) (omega (arith, rows, k .count-backups .ensures))
 
 room : (c : tie.Else2)
-    → let s = c .before .before .before .before .before .before .args in
+    → let s = start (c .before .before) .args in
     length (backupsOf (bookOf (now (s .book))) (s .volume)) ≤ length (now (s .out))
 room c =
     let k = c .before in
-    let s = k .before .before .before .before .before .args in
+    let s = start (k .before) .args in
     omega (arith, length-backupsOf (bookOf (now (s .book))) (s .volume), k .count-backups .ensures)
 
 put-rows-requires : tie.Need-put-rows-requires

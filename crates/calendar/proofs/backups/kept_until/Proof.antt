@@ -17,7 +17,8 @@ add-result c =
     let k = c .before in
     let s = k .before .before .before .before in
     let p = s .pre .0 .parts in
-    omega (arith, slot-in (bookOf (now (s .args .book))) p (s .args .at) (omega arith) .1, p .day, k .slot-at .ensures .day)
+    let replaced = slot-in (bookOf (now (s .args .book))) p (s .args .at) (omega arith) .1 in
+    omega (arith, replaced, p .day, k .slot-at .ensures .day)
 
 returns-2 : tie.Need-returns-2
 returns-2 c =

@@ -35,7 +35,8 @@ loop-again c =
     let k = c .before .before in
     let l = k .before .before .loop in
     let a = k .before .before .before .before .before .args in
-    let other = from-other (bookOf (now (a .book))) (a .v) (l .r) (omega arith) (λ e. c .if1 .left (k .slot-at .ensures .volume ∙ e)) in
+    let x = bookOf (now (a .book)) in
+    let other = from-other x (a .v) (l .r) (omega arith) (λ e. c .if1 .left (k .slot-at .ensures .volume ∙ e)) in
     (omega arith, l .inv .1 ∙ other)
 
 returns-2 : tie.Need-returns-2 Inv-loop μ-loop

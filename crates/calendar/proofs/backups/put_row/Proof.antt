@@ -16,8 +16,8 @@ returns c =
     let i = k .before .before in
     let s = i .before .before .before .before .before in
     row-stored (bookOf (now (s .args .book))) (s .args .q) (s .args .next) (s .args .days)
-    (i .before .before .slot-at .ensures) (i .before .kept-until .ensures) (ap (λ (t : Bool). bit t) (i .is-kept .ensures))
-    (k .put-three .ensures) (u .put-u16 .ensures)
+    (i .before .before .slot-at .ensures) (i .before .kept-until .ensures)
+    (ap (λ (t : Bool). bit t) (i .is-kept .ensures)) (k .put-three .ensures) (u .put-u16 .ensures)
 
 pub put-row-spec : {M : Type 1} → statement M
 put-row-spec =

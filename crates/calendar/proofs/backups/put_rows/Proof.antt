@@ -38,38 +38,45 @@ loop-holds c =
     let p = c .before .before .before .before .before .pre in
     (rows-left (c .next-own .ensures) (p .1 .1), c .next-own .ensures .own)
 
+abbrev start : tie.After-retention Inv-loop μ-loop → tie.Start Inv-loop μ-loop
+start c = c .before .before .before .before
+
+-- where the volume's retention was read
+abbrev limited : tie.After-next-own2 Inv-loop μ-loop → tie.After-retention Inv-loop μ-loop
+limited c = c .before .before .before .before
+
 next-own-requires-2 : tie.Need-next-own-requires-2 Inv-loop μ-loop
-next-own-requires-2 c κs = c .before .before .before .before .before .before .before .pre .0 .holds
+next-own-requires-2 c κs = start (c .before .before .before) .pre .0 .holds
 
 -- the row of slot q, and those that are left after it
 abbrev row : tie.After-next-own2 Inv-loop μ-loop → List ℕ
 row c =
-    let d = c .before .before .before .before in
-    let a = d .before .before .before .before .args in
+    let d = limited c in
+    let a = start d .args in
     rowFrom (bookOf (now (a .book))) (c .before .before .loop .q) (c .next-own2 .result) (d .retention .result)
 
 abbrev after : tie.After-next-own2 Inv-loop μ-loop → List ℕ
 after c =
-    let a = c .before .before .before .before .before .before .before .before .args in
+    let a = start (limited c) .args in
     rowsFrom (bookOf (now (a .book))) (a .v) (c .next-own2 .result)
 
 next-row : (c : tie.After-next-own2 Inv-loop μ-loop)
-    → let a = c .before .before .before .before .before .before .before .before .args in
+    → let a = start (limited c) .args in
     rowsFrom (bookOf (now (a .book))) (a .v) (c .before .before .loop .q) ≡ row c ++ after c
 next-row c =
     let l = c .before .before .loop in
-    let d = c .before .before .before .before in
-    let p = d .before .before .before .before .pre .0 .parts in
+    let d = limited c in
+    let p = start d .pre .0 .parts in
     rows-next (p .pairs) (omega arith) (l .inv .1 (omega arith)) (d .retention .ensures) (c .next-own2 .ensures)
 
 put-row-requires : tie.Need-put-row-requires Inv-loop μ-loop
 put-row-requires c κs =
     let k = c .before in
     let l = k .before .before .loop in
-    let d = k .before .before .before .before in
-    let s = d .before .before .before .before in
-    let x = bookOf (now (s .args .book)) in
-    let few : d .retention .result ≤ 5000 = omega (arith, retention-in x (s .pre .0 .parts) (s .args .v), d .retention .ensures) in
+    let d = limited k in
+    let s = start d in
+    let most = retention-in (bookOf (now (s .args .book))) (s .pre .0 .parts) (s .args .v) in
+    let few : d .retention .result ≤ 5000 = omega (arith, most, d .retention .ensures) in
     (s .pre .0, ((omega arith, few), left-room (l .inv .0) (row k) (after k) (next-row k)))
 
 loop-less : tie.Need-loop-less Inv-loop μ-loop
@@ -79,7 +86,8 @@ loop-again : tie.Need-loop-again Inv-loop μ-loop
 loop-again c =
     let r = c .before .before in
     let k = r .before .before in
-    (left-more (k .before .before .loop .inv .0) (row k) (after k) (next-row k) (r .put-row .ensures), k .next-own2 .ensures .own)
+    let l = k .before .before .loop in
+    (left-more (l .inv .0) (row k) (after k) (next-row k) (r .put-row .ensures), k .next-own2 .ensures .own)
 
 returns : tie.Need-returns Inv-loop μ-loop
 returns c = left-none (c .before .loop .inv .0) (rows-end _ _ (c .before .loop .q) (omega arith)) .list

@@ -16,7 +16,8 @@ abbrev μ-loop : tie.MeasureT-loop
 μ-loop book₀ day n freed₀ p₀ book freed p = n - p
 
 -- the arm that was taken adds what the block's answer says
-counted : (c : tie.Joined1 Inv-loop μ-loop) → c .if1 .freed ≡ c .before .before .before .before .before .before .loop .freed + bit (c .before .before .before .free-over .result)
+counted : (c : tie.Joined1 Inv-loop μ-loop)
+    → let d = c .before .before .before in c .if1 .freed ≡ d .before .before .before .loop .freed + bit (d .free-over .result)
 counted c = ⊎-elim (λ w. rw (w .0 .taken) (w .1)) (λ w. rw (w .0 .left) (omega (arith, w .1))) (c .if1 .came)
 
 loop-holds : tie.Need-loop-holds Inv-loop μ-loop
@@ -29,7 +30,8 @@ loop-again : tie.Need-loop-again Inv-loop μ-loop
 loop-again c =
     let d = c .before .before .before in
     let l = d .before .before .before in
-    sweeping-more _ (l .before .before .before .before .pre) (l .loop .inv) (omega arith) (d .free-over .ensures .0) (d .free-over .ensures .1) (d .free-over .kept .0) (counted c)
+    sweeping-more _ (l .before .before .before .before .pre) (l .loop .inv) (omega arith) (d .free-over .ensures .0)
+    (d .free-over .ensures .1) (d .free-over .kept .0) (counted c)
 
 same-length : tie.Need-same-length Inv-loop μ-loop
 same-length c = c .before .loop .inv .len

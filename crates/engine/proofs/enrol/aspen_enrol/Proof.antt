@@ -1,40 +1,46 @@
 -- `engine::enrol::aspen_enrol` meets its contract: each way out is one of the definition.
-use mathlib.Core.Path.{_≡_, sym, _∙_}
+use mathlib.Core.Path.{_≡_, refl, sym, _∙_}
 use denote.Ref.{now}
 use borrow.Author.Needs.{needs}
 use Rattle.book.specs.Layout.{bookOf, Holds}
 use Rattle.book.specs.Form.{formNumber}
-use Rattle.book.proofs.InForm.{holds-form}
+use Rattle.book.proofs.FormBytes.{holds-form}
 use Rattle.model.specs.Enrol.{enrolNumber}
 use Rattle.model.proofs.agreement.EnrolAgree.{enrol-volume}
 use Rattle.engine.proofs.EnrolExits.{enrol-misformed, enrol-refused, enrol-done}
 use Rattle.engine.proofs.enrol.aspen_enrol.Statement.{statement}
 use Rattle.engine.proofs.enrol.aspen_enrol.Tie as tie
 
+abbrev start : tie.Else1 → tie.Start
+start c = c .before .before .before .before
+
 -- what the check of form says
-formed : (c : tie.Else1) → formNumber (now (c .before .before .before .before .args .book)) ≡ 0
+formed : (c : tie.Else1) → formNumber (now (start c .args .book)) ≡ 0
 formed c = sym (c .before .form-number .ensures) ∙ c .if1 .left
 
-holds : (c : tie.Else1) → Holds (now (c .before .before .before .before .args .book))
+holds : (c : tie.Else1) → Holds (now (start c .args .book))
 holds c = holds-form _ (λ i. c .before .before .before .slice-known .given i .fits) (formed c)
 
-allowed : (c : tie.Else2) → enrolNumber (bookOf (now (c .before .before .before .before .before .before .before .args .book)))
-    (c .before .before .before .before .before .before .before .args .volume)
-    (c .before .before .before .before .before .before .before .args .retention)
-    ≡ 0
+allowed : (c : tie.Else2)
+    → (let a = start (c .before .before .before) .args in
+    enrolNumber (bookOf (now (a .book))) (a .volume) (a .retention) ≡ 0)
 allowed c = sym (c .before .enrol-number .ensures) ∙ c .if2 .left
 
 returns : tie.Need-returns
-returns c = enrol-misformed _ _ _ _ (c .before .form-number .ensures) (c .if1 .taken)
+returns c = enrol-misformed _ _ _ refl _ (c .before .form-number .ensures) (c .if1 .taken)
 
 enrol-number-requires : tie.Need-enrol-number-requires
 enrol-number-requires c κs = holds (c .before)
 
 returns-2 : tie.Need-returns-2
-returns-2 c = enrol-refused _ _ _ (formed (c .before .before .before)) _ (c .before .enrol-number .ensures) (c .if2 .taken)
+returns-2 c =
+    let k = c .before in
+    enrol-refused _ _ _ refl (formed (k .before .before)) _ (k .enrol-number .ensures) (c .if2 .taken)
 
 set-retention-requires : tie.Need-set-retention-requires
-set-retention-requires c κs = let d = c .before in (holds (d .before .before .before), enrol-volume _ _ _ (allowed d) .0)
+set-retention-requires c κs =
+    let d = c .before in
+    (holds (d .before .before .before), enrol-volume _ _ _ (allowed d) .0)
 
 returns-3 : tie.Need-returns-3
 returns-3 c =

@@ -10,7 +10,8 @@ use Rattle.engine.proofs.enrol.enrol_number.Statement.{statement}
 use Rattle.engine.proofs.enrol.enrol_number.Tie as tie
 
 -- the volume has no retention yet
-none : (c : tie.Else2) → retentionOf (bookOf (now (c .before .before .before .before .args .book))) (c .before .before .before .before .args .volume) ≡ 0
+none : (c : tie.Else2)
+    → (let a = c .before .before .before .before .args in retentionOf (bookOf (now (a .book))) (a .volume) ≡ 0)
 none c = sym (c .before .retention .ensures) ∙ c .if2 .left
 
 returns : tie.Need-returns

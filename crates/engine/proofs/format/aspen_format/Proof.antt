@@ -1,5 +1,6 @@
--- `engine::format::aspen_format` meets its contract: the two tests are those of number 1, and each way out leaves what the definition says.
-use mathlib.Core.Path.{_≡_}
+-- `engine::format::aspen_format` meets its contract: the two tests are those of number 1, and each way out leaves what
+-- the definition says.
+use mathlib.Core.Path.{_≡_, refl}
 use mathlib.Core.Bool.{true}
 use denote.Ref.{now}
 use lib.ListN.{length}
@@ -15,31 +16,39 @@ use Rattle.engine.proofs.format.aspen_format.Statement.{statement}
 use Rattle.engine.proofs.format.aspen_format.Tie as tie
 
 -- the sizes that were given
+abbrev start : tie.Else1 → tie.Start
+start c = c .before .before .before
+
 abbrev given : tie.Start → Sizes
 given s = record { n = s .args .n; l = s .args .l; s = s .args .s; j = s .args .j }
 
 -- what each test passed says
-sizes : (c : tie.Else1) → sizesOk (given (c .before .before .before)) ≡ true
+sizes : (c : tie.Else1) → sizesOk (given (start c)) ≡ true
 sizes c = passed (c .before .sizes-ok .ensures) (c .if1 .left)
 
-fits : (c : tie.Else2) → length (now (c .before .before .before .before .before .args .book)) ≡ bookSize (given (c .before .before .before .before .before))
+fits : (c : tie.Else2)
+    → (let s = start (c .before .before) in length (now (s .args .book)) ≡ bookSize (given s))
 fits c = omega arith
 
 returns : tie.Need-returns
-returns c = format-sizes _ (given (c .before .before .before)) (failed (c .before .sizes-ok .ensures) (c .if1 .taken))
+returns c =
+    let k = c .before in
+    format-sizes _ (given (k .before .before)) refl (failed (k .sizes-ok .ensures) (c .if1 .taken))
 
 returns-2 : tie.Need-returns-2
-returns-2 c = format-length _ (given (c .before .before .before .before .before)) (λ e. omega arith)
+returns-2 c = format-length _ (given (start (c .before .before))) refl (λ e. omega arith)
 
 format-requires : tie.Need-format-requires
 format-requires c κs =
     let d = c .before in
-    (bounds-ok (given (d .before .before .before .before .before)) (sizes (d .before .before)), fits d)
+    let k = d .before .before in
+    (bounds-ok (given (start k)) (sizes k), fits d)
 
 returns-3 : tie.Need-returns-3
 returns-3 c =
     let d = c .before .before .before .before in
-    format-done _ (given (d .before .before .before .before .before)) (sizes (d .before .before)) (fits d) (c .before .before .format .ensures)
+    let k = d .before .before in
+    format-done _ (given (start k)) (sizes k) (fits d) (c .before .before .format .ensures)
 
 pub aspen-format-spec : {M : Type 1} → statement M
 aspen-format-spec =

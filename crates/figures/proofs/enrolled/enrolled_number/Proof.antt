@@ -4,7 +4,7 @@ use native.Mathlib.Omega.{arith}
 use borrow.Author.Needs.{needs}
 use denote.Ref.{now}
 use Rattle.book.specs.Form.{formNumber}
-use Rattle.book.proofs.InForm.{holds-form}
+use Rattle.book.proofs.FormBytes.{holds-form}
 use Rattle.model.proofs.views.EnrolledNumber.{enrolled-misformed, enrolled-above, enrolled-not, enrolled-passed}
 use Rattle.figures.proofs.enrolled.enrolled_number.Statement.{statement}
 use Rattle.figures.proofs.enrolled.enrolled_number.Tie as tie
@@ -24,7 +24,9 @@ retention-requires c κs =
     (holds-form _ (λ i. f .before .before .shared-slice-known .given i .fits) (in-form f), omega arith)
 
 returns-3 : tie.Need-returns-3
-returns-3 c = let k = c .before in enrolled-not _ _ (in-form (k .before .before)) (sym (k .retention .ensures) ∙ c .if3 .taken)
+returns-3 c =
+    let k = c .before in
+    enrolled-not _ _ (in-form (k .before .before)) (sym (k .retention .ensures) ∙ c .if3 .taken)
 
 returns-4 : tie.Need-returns-4
 returns-4 c =

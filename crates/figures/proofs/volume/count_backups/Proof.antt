@@ -1,4 +1,5 @@
--- `figures::volume::count_backups` meets its contract: the backups counted, and those in the slots left, are all of the volume's.
+-- `figures::volume::count_backups` meets its contract: the backups counted, and those in the slots left, are all of the
+-- volume's.
 use Prim.Native.Nat.{_-_, _≤_, _<_}
 use mathlib.Core.Logic.{⊎-elim}
 use native.Mathlib.Omega.{arith}

@@ -1,8 +1,8 @@
 -- `figures::volume::volume` meets its contract: each way out is one of the definition.
-use mathlib.Core.Path.{_≡_, sym, _∙_}
+use mathlib.Core.Path.{_≡_, refl, sym, _∙_}
 use borrow.Author.Needs.{needs}
 use denote.Ref.{now}
-use Rattle.book.proofs.InForm.{holds-form}
+use Rattle.book.proofs.FormBytes.{holds-form}
 use Rattle.book.specs.Layout.{Holds}
 use Rattle.model.proofs.views.EnrolledNumber.{passed-enrolled}
 use Rattle.model.specs.Views.{enrolledNumber}
@@ -14,10 +14,11 @@ passed : (c : tie.Else1) → let s = c .before .before .before .args in enrolled
 passed c = sym (c .before .enrolled-number .ensures) ∙ c .if1 .left
 
 holds : (c : tie.Else1) → Holds (now (c .before .before .before .args .book))
-holds c = holds-form _ (λ i. c .before .before .shared-slice-known .given i .fits) (passed-enrolled _ _ (passed c) .form)
+holds c =
+    holds-form _ (λ i. c .before .before .shared-slice-known .given i .fits) (passed-enrolled _ _ (passed c) .form)
 
 returns : tie.Need-returns
-returns c = volume-refused _ _ (c .before .enrolled-number .ensures) (c .if1 .taken)
+returns c = volume-refused _ _ _ _ refl refl (c .before .enrolled-number .ensures) (c .if1 .taken)
 
 retention-requires : tie.Need-retention-requires
 retention-requires c κs = (holds c, passed-enrolled _ _ (passed c) .inside)
@@ -26,7 +27,9 @@ count-backups-requires : tie.Need-count-backups-requires
 count-backups-requires c κs = holds (c .before)
 
 returns-2 : tie.Need-returns-2
-returns-2 c = let k = c .before in volume-told _ _ (passed (k .before)) (k .retention .ensures) (c .count-backups .ensures)
+returns-2 c =
+    let k = c .before in
+    volume-told _ _ _ _ (passed (k .before)) (k .retention .ensures) (c .count-backups .ensures)
 
 pub volume-spec : {M : Type 1} → statement M
 volume-spec = tie.close (tie.spec (λ c κs. search needs) returns retention-requires count-backups-requires returns-2)

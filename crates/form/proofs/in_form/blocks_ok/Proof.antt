@@ -9,7 +9,8 @@ returns : tie.Need-returns
 returns c =
     let r = c .before .before in
     let s = r .before .before .before .before in
-    blocks-tests (now (s .args .b)) (r .before .before .u16-at .ensures) (r .before .u16-at2 .ensures) (r .retentions-ok .ensures) (c .before .entries-ok .ensures) (c .maps-ok .ensures)
+    blocks-tests (now (s .args .b)) (r .before .before .u16-at .ensures) (r .before .u16-at2 .ensures)
+    (r .retentions-ok .ensures) (c .before .entries-ok .ensures) (c .maps-ok .ensures)
 
 pub blocks-ok-spec : {M : Type 1} → statement M
 blocks-ok-spec =

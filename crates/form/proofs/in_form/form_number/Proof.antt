@@ -1,4 +1,4 @@
--- `form::in_form::form_number` meets its contract: each way out decides the sections' tests, which are those of the definition.
+-- `form::in_form::form_number` meets its contract: each way out decides the sections' tests, which are those defined.
 use mathlib.Core.Path.{_≡_, sym}
 use mathlib.Core.Bool.{true}
 use borrow.Author.Needs.{needs}
@@ -6,24 +6,30 @@ use denote.Ref.{now}
 use Rattle.words.proofs.ChoiceLaws.{failed, passed}
 use Rattle.book.specs.Form.{layoutOk}
 use Rattle.book.proofs.FormNumber.{number-1, layout-facts}
-use Rattle.form.specs.Checks.{headOk}
-use Rattle.form.proofs.CheckLaws.{head-facts}
+use Rattle.sections.specs.Checks.{headOk}
+use Rattle.sections.proofs.CheckLaws.{head-facts}
 use Rattle.form.specs.Passes.{blocksOk, slotsOk}
 use Rattle.form.proofs.PassLaws.{out-of-form, in-form}
 use Rattle.form.proofs.in_form.form_number.Statement.{statement}
 use Rattle.form.proofs.in_form.form_number.Tie as tie
 
+abbrev start : tie.Else1 → tie.Start
+start c = c .before .before .before
+
+abbrev started : tie.Else3 → tie.Start
+started c = start (c .before .before .before .before)
+
 -- what each test passed says
-laid : (c : tie.Else1) → layoutOk (now (c .before .before .before .args .book)) ≡ true
+laid : (c : tie.Else1) → layoutOk (now (start c .args .book)) ≡ true
 laid c = passed (c .before .layout-ok .ensures) (c .if1 .left)
 
-head : (c : tie.Else2) → headOk (now (c .before .before .before .before .before .args .book)) ≡ true
+head : (c : tie.Else2) → headOk (now (start (c .before .before) .args .book)) ≡ true
 head c = passed (c .before .head-ok .ensures) (c .if2 .left)
 
-blocks : (c : tie.Else3) → blocksOk (now (c .before .before .before .before .before .before .before .args .book)) ≡ true
+blocks : (c : tie.Else3) → blocksOk (now (started c .args .book)) ≡ true
 blocks c = passed (c .before .blocks-ok .ensures) (c .if3 .left)
 
-slots : (c : tie.Else4) → slotsOk (now (c .before .before .before .before .before .before .before .before .before .args .book)) ≡ true
+slots : (c : tie.Else4) → slotsOk (now (started (c .before .before) .args .book)) ≡ true
 slots c = passed (c .before .slots-ok .ensures) (c .if4 .left)
 
 returns : tie.Need-returns
@@ -56,7 +62,8 @@ returns-4 c =
     let k = c .before .before in
     let h = k .before .before in
     let l = laid (h .before .before) in
-    out-of-form _ (layout-facts _ l .len) l (rw (head h, blocks k, failed (c .before .slots-ok .ensures) (c .if4 .taken)))
+    let no = failed (c .before .slots-ok .ensures) (c .if4 .taken) in
+    out-of-form _ (layout-facts _ l .len) l (rw (head h, blocks k, no))
 
 journal-ok-requires : tie.Need-journal-ok-requires
 journal-ok-requires c κs =
@@ -69,7 +76,8 @@ returns-5 c =
     let k = s .before .before in
     let h = k .before .before in
     let l = laid (h .before .before) in
-    out-of-form _ (layout-facts _ l .len) l (rw (head h, blocks k, slots s) (failed (c .before .journal-ok .ensures) (c .if5 .taken)))
+    let no = failed (c .before .journal-ok .ensures) (c .if5 .taken) in
+    out-of-form _ (layout-facts _ l .len) l (rw (head h, blocks k, slots s) no)
 
 returns-6 : tie.Need-returns-6
 returns-6 c =
@@ -77,7 +85,8 @@ returns-6 c =
     let k = s .before .before in
     let h = k .before .before in
     let l = laid (h .before .before) in
-    in-form _ (layout-facts _ l .len) l (rw (head h, blocks k, slots s) (passed (c .before .journal-ok .ensures) (c .if5 .left)))
+    let yes = passed (c .before .journal-ok .ensures) (c .if5 .left) in
+    in-form _ (layout-facts _ l .len) l (rw (head h, blocks k, slots s) yes)
 
 pub form-number-spec : {M : Type 1} → statement M
 form-number-spec =

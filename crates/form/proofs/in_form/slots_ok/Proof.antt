@@ -9,7 +9,8 @@ returns : tie.Need-returns
 returns c =
     let u = c .before .before .before in
     let f = u .before .before .before in
-    slots-tests (now (f .before .before .args .b)) (f .slots-from .ensures) (u .before .before .u16-at .ensures) (u .u16-at3 .ensures) (c .before .used-slots-ok .ensures) (c .zeros .ensures)
+    slots-tests (now (f .before .before .args .b)) (f .slots-from .ensures) (u .before .before .u16-at .ensures)
+    (u .u16-at3 .ensures) (c .before .used-slots-ok .ensures) (c .zeros .ensures)
 
 pub slots-ok-spec : {M : Type 1} → statement M
 slots-ok-spec =

@@ -4,7 +4,7 @@ use mathlib.Core.Path.{_≡_}
 use native.Mathlib.Omega.{arith}
 use borrow.Author.Needs.{needs}
 use Rattle.book.specs.Layout.{bookOf}
-use Rattle.index.specs.Indexed.{IndexedFrom}
+use Rattle.finder.specs.Indexed.{IndexedFrom}
 use Rattle.index.proofs.linking.build.Statement.{statement}
 use Rattle.index.proofs.linking.build.Tie as tie
 
@@ -13,6 +13,13 @@ Inv-loop book heads₀ nexts₀ p₀ heads nexts p = (p ≤ p₀) × IndexedFrom
 
 abbrev μ-loop : tie.MeasureT-loop
 μ-loop book heads₀ nexts₀ p₀ heads nexts p = p
+
+-- the call's start, from the loop's head
+abbrev cleared : tie.At-loop Inv-loop μ-loop → tie.After-clear Inv-loop μ-loop
+cleared c = c .before .before
+
+abbrev start : tie.At-loop Inv-loop μ-loop → tie.Start Inv-loop μ-loop
+start c = cleared c .before .before .before .before
 
 blocks-requires : tie.Need-blocks-requires Inv-loop μ-loop
 blocks-requires c κs = c .before .before .before .before .pre
@@ -25,7 +32,7 @@ link-requires c κs =
     let l = c .before .before .before .loop in
     let n = c .before .before .before .before .blocks2 in
     let e : l .p - 1 + 1 ≡ l .p = omega arith in
-    (c .before .before .before .before .before .before .before .before .before .pre, (omega (arith, n .ensures, l .inv .0), rw e (l .inv .1)))
+    (start (c .before .before .before) .pre, (omega (arith, n .ensures, l .inv .0), rw e (l .inv .1)))
 
 loop-again : tie.Need-loop-again Inv-loop μ-loop
 loop-again c = (omega arith, c .link .ensures)

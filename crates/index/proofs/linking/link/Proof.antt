@@ -5,7 +5,7 @@ use native.Mathlib.Omega.{arith}
 use lib.ListN.{length}
 use Rattle.words.proofs.ChoiceLaws.{failed, passed}
 use Rattle.book.specs.Layout.{bookOf}
-use Rattle.index.specs.Bucket.{bucketOf}
+use Rattle.finder.specs.Bucket.{bucketOf}
 use Rattle.index.proofs.LinkLaws.{linked-free, linked-held}
 use borrow.Author.Needs.{needs}
 use Rattle.index.proofs.linking.link.Statement.{statement}

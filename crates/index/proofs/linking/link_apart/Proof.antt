@@ -1,4 +1,5 @@
--- A free block is passed; a held one becomes the first of its bucket, and what the search of the blocks above finds decides.
+-- A free block is passed; a held one becomes the first of its bucket, and what the search of the blocks above finds
+-- decides.
 use Prim.Native.Nat.{_+_, _<_}
 use mathlib.Core.Path.{_≡_, sym, ap, _∙_}
 use mathlib.Core.Bool.{true}
@@ -7,9 +8,9 @@ use lib.ListN.{length}
 use Rattle.words.proofs.ChoiceLaws.{failed, passed}
 use Rattle.book.specs.Book.{entryAt}
 use Rattle.book.specs.Layout.{bookOf}
-use Rattle.index.specs.Bucket.{bucketOf}
-use Rattle.index.proofs.BucketLaws.{apart-free, apart-held}
-use Rattle.index.proofs.FindingLaws.{chain-start, search-start}
+use Rattle.finder.specs.Bucket.{bucketOf}
+use Rattle.finder.proofs.BucketLaws.{apart-free, apart-held}
+use Rattle.finder.proofs.FindingLaws.{chain-start, search-start}
 use Rattle.index.proofs.LinkLaws.{linked-free, linked-held}
 use borrow.Author.Needs.{needs}
 use Rattle.index.proofs.linking.link_apart.Statement.{statement}
@@ -21,7 +22,9 @@ inside s = omega (arith, s .pre .0 .sized .entries)
 abbrev start : tie.After-bucket-of → tie.Start
 start c = c .before .before .before .before .before
 
-held : (c : tie.After-bucket-of) → entryAt (bookOf (start c .args .book .now) .entries) (start c .args .p .0) .held ≡ true
+held : (c : tie.After-bucket-of) →
+    let a = start c .args in
+    entryAt (bookOf (a .book .now) .entries) (a .p .0) .held ≡ true
 held c = passed (c .before .before .before .is-held .ensures) (c .before .before .if1 .left)
 
 returns : tie.Need-returns
@@ -39,11 +42,13 @@ bucket-of-requires c κs =
 search-requires : tie.Need-search-requires
 search-requires c κs =
     let b = c .before .before in
+    let h = b .bucket-of in
     let s = start b in (
       s .pre .0,
       (
         ap length (b .before .print-of .ensures) ∙ s .pre .0 .sized .prints (s .args .p .0) (s .pre .1 .0),
-        chain-start _ _ (s .args .p .0 + 1) (s .pre .1 .1) (omega (arith, inside s)) (b .bucket-of .result) (b .bucket-of .ensures .0) (b .bucket-of .ensures .1),
+        chain-start _ _ (s .args .p .0 + 1) (s .pre .1 .1) (omega (arith, inside s))
+            (h .result) (h .ensures .0) (h .ensures .1),
       ),
     )
 
@@ -51,13 +56,17 @@ returns-2 : tie.Need-returns-2
 returns-2 c =
     let f = c .before .before .before .before in
     let b = f .before .before .before in
+    let h = b .bucket-of in
+    let print = b .before .print-of .ensures in
     let s = start b in
+    let p = s .args .p .0 in
     let es = bookOf (s .args .book .now) .entries in
-    let first = search-start es _ (s .args .p .0 + 1) (s .pre .1 .1) (omega (arith, inside s)) (b .bucket-of .result) (b .bucket-of .ensures .0) (b .bucket-of .ensures .1) in (
-      apart-held es (s .args .p .0) (inside s) (held b) (b .before .print-of .ensures) (f .search .ensures ∙ first) (c .blocks2 .ensures ∙ sym (s .pre .0 .sized .entries)),
+    let first = search-start es _ (p + 1) (s .pre .1 .1) (omega (arith, inside s)) (h .result) (h .ensures .0) in (
+      apart-held es p (inside s) (held b) print (f .search .ensures ∙ first (h .ensures .1))
+          (c .blocks2 .ensures ∙ sym (s .pre .0 .sized .entries)),
       rw (c .before .prepend .ensures .0, c .before .prepend .ensures .1)
-          (linked-held es (s .args .p .0) (inside s) _ _ (s .pre .1 .1) (b .bucket-of .result) (b .bucket-of .ensures .1) (held b)
-          (b .bucket-of .ensures .0 ∙ ap bucketOf (b .before .print-of .ensures))),
+          (linked-held es p (inside s) _ _ (s .pre .1 .1) (h .result) (h .ensures .1) (held b)
+          (h .ensures .0 ∙ ap bucketOf print)),
     )
 
 pub link-apart-spec : {M : Type 1} → statement M

@@ -6,7 +6,9 @@ use Rattle.intake.proofs.AllowLaws.{lent-first, lent-four, lent-none}
 use Rattle.intake.proofs.allowing.lent_number.Statement.{statement}
 use Rattle.intake.proofs.allowing.lent_number.Tie as tie
 
-good : (c : tie.Else1) → buffersNumber (c .before .before .before .before .args .book .now) (c .before .before .before .before .args .pool .now) ≡ 0
+good : (c : tie.Else1) →
+    let a = c .before .before .before .before .args in
+    buffersNumber (a .book .now) (a .pool .now) ≡ 0
 good c = sym (c .before .buffers-number .ensures) ∙ c .if1 .left
 
 returns : tie.Need-returns

@@ -32,8 +32,16 @@ loop-again c =
     let t = k .slot-at .result in
     let s = k .slot-at .ensures in
     ⊎-elim
-    (λ w. (omega arith, omega arith, rw (w .1, w .2) (passed-own _ _ (l .q) (l .count) (l .last) (l .inv .2) t s h (omega arith))))
-    (λ w. (omega arith, omega arith, rw (w .1, w .2) (passed-other _ _ (l .q) (l .count) (l .last) (l .inv .2) t s h (λ e. omega arith))))
+    (λ w. (
+      omega arith,
+      omega arith,
+      rw (w .1, w .2) (passed-own _ _ (l .q) (l .count) (l .last) (l .inv .2) t s h (omega arith)),
+    ))
+    (λ w. (
+      omega arith,
+      omega arith,
+      rw (w .1, w .2) (passed-other _ _ (l .q) (l .count) (l .last) (l .inv .2) t s h (λ e. omega arith)),
+    ))
     (c .if1 .came)
 
 returns : tie.Need-returns Inv-loop μ-loop

@@ -6,7 +6,10 @@ use Rattle.intake.proofs.storing.copy.Statement.{statement}
 use Rattle.intake.proofs.storing.copy.Tie as tie
 
 returns : tie.Need-returns
-returns c = c .before .before .put-bytes .ensures ∙ sets-whole (c .before .before .before .before .before .before .args .src .now) (c .before .before .before .before .before .before .args .dst .now) (sym (c .before .before .before .before .before .before .pre))
+returns c =
+    let p = c .before .before in
+    let s = p .before .before .before .before in
+    p .put-bytes .ensures ∙ sets-whole (s .args .src .now) (s .args .dst .now) (sym (s .pre))
 
 pub copy-spec : {M : Type 1} → statement M
 copy-spec = tie.close (tie.spec (λ c κs. search needs) (λ c. search needs) returns)

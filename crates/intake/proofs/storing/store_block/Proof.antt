@@ -9,7 +9,7 @@ use Rattle.words.specs.Blocks.{blockSize}
 use Rattle.words.proofs.ChoiceLaws.{failed, passed}
 use Rattle.words.proofs.Parts.{length-part}
 use Rattle.words.proofs.Lending.{lent, spliced}
-use Rattle.list.proofs.Laws.{length-block}
+use Rattle.list.proofs.AnswerLaws.{length-block}
 use Rattle.book.specs.Book.{entryAt}
 use Rattle.book.specs.Layout.{bookOf}
 use Rattle.model.specs.Pool.{withBlock}
@@ -18,47 +18,73 @@ use borrow.Author.Needs.{needs}
 use Rattle.intake.proofs.storing.store_block.Statement.{statement}
 use Rattle.intake.proofs.storing.store_block.Tie as tie
 
-free : (c : tie.Else1) → entryAt (bookOf (c .before .before .before .before .before .before .args .book .now) .entries) (c .before .before .before .before .before .before .args .p .0) .held ≡ false
+abbrev start : tie.After-is-held → tie.Start
+start c = c .before .before .before .before .before
+
+-- the block was free, and is held now
+abbrev old : tie.Else2 → tie.Else1
+old c = c .before .before
+
+abbrev new : tie.After-copy-arg → tie.Else2
+new c = c .before .before .before
+
+free : (c : tie.Else1) →
+    let a = start (c .before) .args in
+    entryAt (bookOf (a .book .now) .entries) (a .p .0) .held ≡ false
 free c = sym (c .before .is-held .ensures) ∙ c .if1 .left
 
-held : (c : tie.Else2) → entryAt (bookOf (c .before .before .before .before .before .before .before .before .args .work .now) .entries) (c .before .before .before .before .before .before .before .before .args .p .0) .held ≡ true
+held : (c : tie.Else2) →
+    let a = start (old c .before) .args in
+    entryAt (bookOf (a .work .now) .entries) (a .p .0) .held ≡ true
 held c = passed (c .before .is-held2 .ensures) (c .if2 .left)
 
 -- the block was taken by a change of the list
-mark : (c : tie.Else2) → getD (c .before .before .before .before .before .before .before .before .args .by .now) (c .before .before .before .before .before .before .before .before .args .p .0) 0 < c .before .before .before .before .before .before .before .before .args .shape .changes
-mark c = c .before .before .before .before .before .before .before .before .pre .1 .1 (free (c .before .before)) (held c)
+mark : (c : tie.Else2) →
+    let a = start (old c .before) .args in
+    getD (a .taker .now) (a .p .0) 0 < a .shape .changes
+mark c = start (old c .before) .pre .1 .1 (free (old c)) (held c)
 
 returns : tie.Need-returns
 returns c =
-    let a = c .before .before .before .before .before .before .args in
-    stored-old (bookOf (a .book .now) .entries) (bookOf (a .work .now) .entries) (a .by .now) (a .list .now) (a .pool .now) (a .p .0) (sym (c .before .is-held .ensures) ∙ c .if1 .taken)
+    let a = start (c .before) .args in
+    stored-old (bookOf (a .book .now) .entries) (bookOf (a .work .now) .entries) (a .taker .now) (a .list .now)
+    (a .pool .now) (a .p .0) (sym (c .before .is-held .ensures) ∙ c .if1 .taken)
 
 returns-2 : tie.Need-returns-2
 returns-2 c =
-    let a = c .before .before .before .before .before .before .before .before .args in
-    stored-free (bookOf (a .book .now) .entries) (bookOf (a .work .now) .entries) (a .by .now) (a .list .now) (a .pool .now) (a .p .0) (free (c .before .before)) (failed (c .before .is-held2 .ensures) (c .if2 .taken))
+    let e = c .before .before in
+    let a = start (e .before) .args in
+    stored-free (bookOf (a .book .now) .entries) (bookOf (a .work .now) .entries) (a .taker .now) (a .list .now)
+    (a .pool .now) (a .p .0) (free e) (failed (c .before .is-held2 .ensures) (c .if2 .taken))
 
 cast-i : tie.Need-cast-i
-cast-i c = omega (arith, mark (c .before .before), c .before .before .before .before .before .before .before .before .before .before .pre .0 .2 .size)
+cast-i c =
+    let e = c .before .before in
+    omega (arith, mark e, start (old e .before) .pre .0 .2 .size)
 
 block-of-requires : tie.Need-block-of-requires
-block-of-requires c κs = (c .before .before .before .before .before .before .before .before .before .before .before .pre .0 .2, mark (c .before .before .before))
+block-of-requires c κs = (start (old (new c) .before) .pre .0 .2, mark (new c))
 
 copy-requires : tie.Need-copy-requires
 copy-requires c κs =
-    let s = c .before .before .before .before .before .before .before .before .before .before .before .before in
+    let e = new (c .before) in
+    let s = start (old e .before) in
     let a = s .args in
     let at = a .p .0 * blockSize in
     ap length (lent (a .pool .now) at blockSize)
     ∙ length-part (a .pool .now) at blockSize (omega (arith, s .pre .1 .0 .0, s .pre .1 .0 .2))
-    ∙ sym (ap length (c .block-of .ensures) ∙ length-block (a .list .now) (a .shape) (s .pre .0 .2) _ (omega (arith, mark (c .before .before .before .before), s .pre .0 .2 .changes)))
+    ∙ sym (ap length (c .block-of .ensures)
+    ∙ length-block (a .list .now) (a .shape) (s .pre .0 .2) _ (omega (arith, mark e, s .pre .0 .2 .changes)))
 
 returns-3 : tie.Need-returns-3
 returns-3 c =
-    let a = c .before .before .before .before .before .before .before .before .before .before .before .before .before .before .before .args in
-    spliced (a .pool .now) (c .before .before .copy .last .0) (a .p .0 * blockSize) blockSize
-    ∙ ap (λ (m : List ℕ). withBlock (a .pool .now) (a .p .0) m) (c .before .before .copy .ensures ∙ c .before .before .before .block-of .ensures)
-    ∙ stored-new (bookOf (a .book .now) .entries) (bookOf (a .work .now) .entries) (a .by .now) (a .list .now) (a .pool .now) (a .p .0) (free (c .before .before .before .before .before .before .before .before .before)) (held (c .before .before .before .before .before .before .before))
+    let k = c .before .before in
+    let e = new (k .before .before) in
+    let a = start (old e .before) .args in
+    spliced (a .pool .now) (k .copy .last .0) (a .p .0 * blockSize) blockSize
+    ∙ ap (λ (m : List ℕ). withBlock (a .pool .now) (a .p .0) m) (k .copy .ensures ∙ k .before .block-of .ensures)
+    ∙ stored-new (bookOf (a .book .now) .entries) (bookOf (a .work .now) .entries) (a .taker .now) (a .list .now)
+    (a .pool .now) (a .p .0) (free (old e)) (held e)
 
 pub store-block-spec : {M : Type 1} → statement M
 store-block-spec =

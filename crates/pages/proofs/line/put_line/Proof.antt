@@ -27,12 +27,15 @@ put-decimal-requires c κs =
     simp length-set (omega (arith, line-length (s .args .word .now) (s .args .n), s .pre, k .put-bytes .kept .0))
 
 -- the newline has room
-room : (c : tie.After-slice-known3) → c .before .before .put-decimal .result < length (c .before .before .put-decimal .last .0)
+room : (c : tie.After-slice-known3)
+    → c .before .before .put-decimal .result < length (c .before .before .put-decimal .last .0)
 room c =
     let d = c .before .before in
     let k = d .before .before .before .before in
     let s = k .before .before .before .before in
-    omega (arith, line-length (s .args .word .now) (s .args .n), s .pre, k .put-bytes .kept .0, d .put-decimal .ensures .place, simp length-set at (d .put-decimal .kept .0))
+    let long = line-length (s .args .word .now) (s .args .n) in
+    let same = simp length-set at (d .put-decimal .kept .0) in
+    omega (arith, long, s .pre, k .put-bytes .kept .0, d .put-decimal .ensures .place, same)
 
 slice-write-page-2 : tie.Need-slice-write-page-2
 slice-write-page-2 c = room c

@@ -11,7 +11,7 @@ returns c spare pool =
     let aspen-audit = if1 .before in
     let start = aspen-audit .before .before .before .before in
     let a = start .args in
-    audit-refused spare (a .book .now) pool (a .answers .now) (a .to) _ _ _ (aspen-audit .aspen-audit .ensures) (if1 .if1 .taken)
+    audit-refused spare _ pool (a .answers .now) (a .to) _ _ (aspen-audit .aspen-audit .ensures) (if1 .if1 .taken)
     (tell .tell .ensures)
 
 returns-2 : tie.Need-returns-2
@@ -21,7 +21,7 @@ returns-2 c spare pool =
     let aspen-audit = if1 .before in
     let start = aspen-audit .before .before .before .before in
     let a = start .args in
-    audit-done spare (a .book .now) pool (a .answers .now) (a .to) _ _ _ (aspen-audit .aspen-audit .ensures) (if1 .if1 .left)
+    audit-done spare _ pool (a .answers .now) (a .to) _ _ (aspen-audit .aspen-audit .ensures) (if1 .if1 .left)
     (tell2 .tell2 .ensures)
 
 pub answer-audit-spec : {M : Type 1} → statement M

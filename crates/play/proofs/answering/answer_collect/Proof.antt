@@ -11,7 +11,7 @@ returns c spare pool =
     let aspen-collect = if1 .before .before .before in
     let start = aspen-collect .before .before .before .before .before in
     let a = start .args in
-    collect-refused spare (a .book .now) pool (a .answers .now) (a .to) (a .day) _ _ _ (aspen-collect .aspen-collect .ensures)
+    collect-refused spare _ pool (a .answers .now) (a .to) (a .day) _ _ (aspen-collect .aspen-collect .ensures)
     (if1 .if1 .taken) (tell .tell .ensures)
 
 returns-2 : tie.Need-returns-2
@@ -21,7 +21,7 @@ returns-2 c spare pool =
     let aspen-collect = if1 .before .before .before in
     let start = aspen-collect .before .before .before .before .before in
     let a = start .args in
-    collect-done spare (a .book .now) pool (a .answers .now) (a .to) (a .day) _ _ _ (aspen-collect .aspen-collect .ensures)
+    collect-done spare _ pool (a .answers .now) (a .to) (a .day) _ _ (aspen-collect .aspen-collect .ensures)
     (if1 .if1 .left) (tell2 .tell2 .ensures)
 
 pub answer-collect-spec : {M : Type 1} → statement M

@@ -10,7 +10,7 @@ returns c spare pool =
     let aspen-enrol = tell .before .before .before .before in
     let start = aspen-enrol .before .before .before .before in
     let a = start .args in
-    enrol-did spare (a .book .now) pool (a .answers .now) (a .to) (a .v) (a .retention) _ (aspen-enrol .aspen-enrol .ensures)
+    enrol-did spare _ pool (a .answers .now) (a .to) (a .v) (a .retention) _ (aspen-enrol .aspen-enrol .ensures)
     (tell .tell .ensures)
 
 pub answer-enrol-spec : {M : Type 1} → statement M

@@ -5,7 +5,7 @@ use lib.ListN.{length-set}
 use borrow.Author.Needs.{needs}
 use Rattle.play.proofs.Blocks.{located-inside}
 use Rattle.play.proofs.Doing.{read-refused, read-done}
-use Rattle.play.proofs.Storing.{lent-length}
+use Rattle.play.proofs.AnswersLaid.{lent-length}
 use Rattle.play.proofs.answering.answer_read.Statement.{statement}
 use Rattle.play.proofs.answering.answer_read.Tie as tie
 
@@ -16,17 +16,14 @@ returns c spare =
     let aspen-read = if1 .before in
     let start = aspen-read .before .before .before .before .before in
     let a = start .args in
-    read-refused spare (a .book .now) (a .pool .now) (a .answers .now) (a .to) (a .v) (a .number) (a .lbn) _ _ _
-    (aspen-read .aspen-read .ensures) (if1 .if1 .taken) (tell .tell .ensures)
+    read-refused spare _ _ (a .answers .now) (a .to) (a .v) (a .number) (a .lbn) _ _ (aspen-read .aspen-read .ensures)
+    (if1 .if1 .taken) (tell .tell .ensures)
 
 part-put-bytes-end : tie.Need-part-put-bytes-end
 part-put-bytes-end c =
     let if1 = c .before .before in
     let aspen-read = if1 .before in
-    let start = aspen-read .before .before .before .before .before in
-    let a = start .args in
-    let in-pool = located-inside (a .book .now) (a .pool .now) (a .v) (a .number) (a .lbn) _ _ _ (aspen-read .aspen-read .ensures)
-    (if1 .if1 .left) in
+    let in-pool = located-inside _ _ _ _ _ _ _ (aspen-read .aspen-read .ensures) (if1 .if1 .left) in
     omega arith
 
 put-bytes-requires : tie.Need-put-bytes-requires
@@ -35,8 +32,7 @@ put-bytes-requires c κs =
     let aspen-read = if1 .before in
     let start = aspen-read .before .before .before .before .before in
     let a = start .args in
-    let in-pool = located-inside (a .book .now) (a .pool .now) (a .v) (a .number) (a .lbn) _ _ _ (aspen-read .aspen-read .ensures)
-    (if1 .if1 .left) in
+    let in-pool = located-inside _ _ _ _ _ _ _ (aspen-read .aspen-read .ensures) (if1 .if1 .left) in
     omega (arith, length-set (a .answers .now) (a .to) 3, lent-length (a .pool .now) _ in-pool)
 
 same-length-2 : tie.Need-same-length-2
@@ -49,8 +45,8 @@ returns-2 c spare =
     let aspen-read = if1 .before in
     let start = aspen-read .before .before .before .before .before in
     let a = start .args in
-    read-done spare (a .book .now) (a .pool .now) (a .answers .now) (a .to) (a .v) (a .number) (a .lbn) _ _ _
-    (aspen-read .aspen-read .ensures) (if1 .if1 .left) (put-bytes .put-bytes .ensures)
+    read-done spare _ _ (a .answers .now) (a .to) (a .v) (a .number) (a .lbn) _ _ (aspen-read .aspen-read .ensures)
+    (if1 .if1 .left) (put-bytes .put-bytes .ensures)
 
 pub answer-read-spec : {M : Type 1} → statement M
 answer-read-spec =

@@ -3,7 +3,7 @@ use mathlib.Core.Path.{_∙_}
 use native.Mathlib.Omega.{arith}
 use lib.ListN.{length-set}
 use borrow.Author.Needs.{needs}
-use Rattle.play.proofs.Storing.{told}
+use Rattle.play.proofs.AnswersLaid.{answered}
 use Rattle.play.proofs.answering.tell.Statement.{statement}
 use Rattle.play.proofs.answering.tell.Tie as tie
 
@@ -17,7 +17,7 @@ returns : tie.Need-returns
 returns c =
     let put-u16 = c .before .before in
     let start = put-u16 .before .before .before in
-    let a = start .args in told (a .answers .now) (a .to) (a .tag) (a .v) (put-u16 .put-u16 .ensures)
+    let a = start .args in answered (a .answers .now) (a .to) (a .tag) (a .v) (put-u16 .put-u16 .ensures)
 
 pub tell-spec : {M : Type 1} → statement M
 tell-spec =

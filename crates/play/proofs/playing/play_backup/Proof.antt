@@ -19,7 +19,8 @@ abbrev calls : tie.After-slice-known4 → List ℕ
 calls c = start c .args .calls .now
 
 inside : (c : tie.After-slice-known4)
-    → (start c .args .at + 14 ≤ length (calls c)) × (start c .args .at + 14 + dataSize (calls c) (start c .args .at) ≤ length (calls c))
+    → (let at = start c .args .at in
+    (at + 14 ≤ length (calls c)) × (at + 14 + dataSize (calls c) at ≤ length (calls c)))
 inside c = call-inside (calls c) (start c .args .at) (start c .pre .0)
 
 add-from : tie.Need-add-from
@@ -48,18 +49,23 @@ part-answer-backup-end c =
     let before = c .before .before .before .before .before in
     let i = inside (before .before) in omega (arith, before .data-size .ensures .0)
 
+-- the day was read
+abbrev read : tie.After-answer-backup → tie.After-u16-at2
+read c = let list = c .before .before .before in list .before .before .before
+
 returns : tie.Need-returns
 returns c =
-    let answer-backup = c .before .before .before .before .before .before .before .before in
-    let u16-at2 = answer-backup .before .before .before .before .before .before in
+    let pool = c .before .before .before .before in
+    let answer-backup = pool .before .before .before .before in
+    let u16-at2 = read answer-backup in
     let u16-at = u16-at2 .before in
     let data-size = u16-at .before in
-    let start = data-size .before .before .before .before .before .before in
-    let a = start .args in
+    let a = start (data-size .before) .args in
+    let from = a .at + 14 in
+    let b = a .calls .now in
     let k = data-size .data-size in
-    let list : take (a .at + 14 + k .result - (a .at + 14)) (drop (a .at + 14) (a .calls .now)) ≡ part (a .calls .now) (a .at + 14)
-    (dataSize (a .calls .now) (a .at)) =
-    lent (a .calls .now) (a .at + 14) (k .result) ∙ ap (λ (n : ℕ). part (a .calls .now) (a .at + 14) n) (k .ensures .0)
+    let list : take (from + k .result - from) (drop from b) ≡ part b from (dataSize b (a .at)) =
+    lent b from (k .result) ∙ ap (λ (n : ℕ). part b from n) (k .ensures .0)
     in
     rw (← u16-at .u16-at .ensures, ← u16-at2 .u16-at2 .ensures, ← list) (answer-backup .answer-backup .ensures)
 

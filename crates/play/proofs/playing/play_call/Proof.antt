@@ -1,53 +1,58 @@
 -- `play::playing::play_call`: the kind decides which call it is, and that call was made.
-use mathlib.Core.Path.{ap}
+use Prim.Native.Nat.{_+_, _≤_}
+use mathlib.Core.Path.{_≡_, ap}
 use native.Mathlib.Omega.{arith}
 use lib.ListN.{length}
 use borrow.Author.Needs.{needs}
+use Rattle.words.specs.Numbers.{num}
+use Rattle.model.specs.Calls.{read, audit}
 use Rattle.calls.specs.Answers.{longest}
+use Rattle.calls.specs.Coding.{dataSize, callAt}
 use Rattle.calls.proofs.ReadingLaws.{call-inside, call-enrol, call-backup, call-collect, call-read, call-audit}
 use Rattle.play.proofs.playing.play_call.Statement.{statement}
 use Rattle.play.proofs.playing.play_call.Tie as tie
 
+abbrev start : tie.After-slice-known4 → tie.Start
+start c = c .before .before .before .before .before
+
+-- from where the head was read
+abbrev entry : tie.After-u16-at3 → tie.Start
+entry c = start (c .before .before .before .before)
+
+-- head and data lie within the bytes
+inside : (s : tie.Start)
+    → (let b = s .args .calls .now in
+    let at = s .args .at in
+    (at + 14 ≤ length b) × (at + 14 + dataSize b at ≤ length b))
+inside s = call-inside (s .args .calls .now) (s .args .at) (s .pre .0)
+
 shared-slice-read-kind : tie.Need-shared-slice-read-kind
-shared-slice-read-kind c =
-    let start = c .before .before .before .before .before .before in
-    let i = call-inside (start .args .calls .now) (start .args .at) (start .pre .0) in omega arith
+shared-slice-read-kind c = let i = inside (start (c .before)) in omega arith
 
 add-u16-at : tie.Need-add-u16-at
-add-u16-at c =
-    let start = c .before .before .before .before .before .before in
-    let i = call-inside (start .args .calls .now) (start .args .at) (start .pre .0) in omega arith
+add-u16-at c = let i = inside (start (c .before)) in omega arith
 
 u16-at-requires : tie.Need-u16-at-requires
-u16-at-requires c κs =
-    let start = c .before .before .before .before .before .before in
-    let i = call-inside (start .args .calls .now) (start .args .at) (start .pre .0) in omega arith
+u16-at-requires c κs = let i = inside (start (c .before)) in omega arith
 
 add-u16-at-2 : tie.Need-add-u16-at-2
-add-u16-at-2 c =
-    let start = c .before .before .before .before .before .before .before in
-    let i = call-inside (start .args .calls .now) (start .args .at) (start .pre .0) in omega arith
+add-u16-at-2 c = let i = inside (start (c .before .before)) in omega arith
 
 u16-at-requires-2 : tie.Need-u16-at-requires-2
-u16-at-requires-2 c κs =
-    let start = c .before .before .before .before .before .before .before in
-    let i = call-inside (start .args .calls .now) (start .args .at) (start .pre .0) in omega arith
+u16-at-requires-2 c κs = let i = inside (start (c .before .before)) in omega arith
 
 add-u16-at-3 : tie.Need-add-u16-at-3
-add-u16-at-3 c =
-    let start = c .before .before .before .before .before .before .before .before in
-    let i = call-inside (start .args .calls .now) (start .args .at) (start .pre .0) in omega arith
+add-u16-at-3 c = let i = inside (start (c .before .before .before)) in omega arith
 
 u16-at-requires-3 : tie.Need-u16-at-requires-3
-u16-at-requires-3 c κs =
-    let start = c .before .before .before .before .before .before .before .before in
-    let i = call-inside (start .args .calls .now) (start .args .at) (start .pre .0) in omega arith
+u16-at-requires-3 c κs = let i = inside (start (c .before .before .before)) in omega arith
 
 answer-enrol-requires : tie.Need-answer-enrol-requires
 answer-enrol-requires c κs =
-    let a = c .before .before .before .before .before .before .before .before .before .before .before .before .args in
-    let e = ap longest (call-enrol (a .calls .now) (a .at) (c .before .before .if1 .taken)) in
-    omega (arith, c .before .before .before .before .before .before .before .before .before .before .before .before .pre .1)
+    let if1 = c .before .before in
+    let s = entry (if1 .before) in
+    let e = ap longest (call-enrol (s .args .calls .now) (s .args .at) (if1 .if1 .taken)) in
+    omega (arith, s .pre .1)
 
 returns : tie.Need-returns
 returns c =
@@ -55,8 +60,7 @@ returns c =
     let if1 = answer-enrol .before .before .before in
     let u16-at2 = if1 .before .before in
     let u16-at = u16-at2 .before in
-    let start = u16-at .before .before .before .before .before .before .before in
-    let a = start .args in
+    let a = entry (if1 .before) .args in
     rw (call-enrol (a .calls .now) (a .at) (if1 .if1 .taken), ← u16-at .u16-at .ensures, ← u16-at2 .u16-at2 .ensures)
     (answer-enrol .answer-enrol .ensures (length (a .spare .now)) (a .pool .now))
 
@@ -64,18 +68,17 @@ play-backup-requires : tie.Need-play-backup-requires
 play-backup-requires c κs =
     let if2 = c .before .before .before .before in
     let if1 = if2 .before in
-    let start = if1 .before .before .before .before .before .before .before .before .before .before in
-    let a = start .args in
-    let e = ap longest (call-backup (a .calls .now) (a .at) (if1 .if1 .left) (if2 .if2 .taken)) in
-    (start .pre .0, omega (arith, start .pre .1))
+    let s = entry (if1 .before) in
+    let e = ap longest (call-backup (s .args .calls .now) (s .args .at) (if1 .if1 .left) (if2 .if2 .taken)) in
+    (s .pre .0, omega (arith, s .pre .1))
 
 returns-2 : tie.Need-returns-2
 returns-2 c =
-    let play-backup = c .before .before .before .before .before .before .before .before in
+    let pool = c .before .before .before .before in
+    let play-backup = pool .before .before .before .before in
     let if2 = play-backup .before .before .before .before .before in
     let if1 = if2 .before in
-    let start = if1 .before .before .before .before .before .before .before .before .before .before in
-    let a = start .args in
+    let a = entry (if1 .before) .args in
     rw (call-backup (a .calls .now) (a .at) (if1 .if1 .left) (if2 .if2 .taken)) (play-backup .play-backup .ensures)
 
 answer-collect-requires : tie.Need-answer-collect-requires
@@ -83,10 +86,10 @@ answer-collect-requires c κs =
     let if3 = c .before .before in
     let if2 = if3 .before in
     let if1 = if2 .before in
-    let start = if1 .before .before .before .before .before .before .before .before .before .before in
-    let a = start .args in
+    let s = entry (if1 .before) in
+    let a = s .args in
     let e = ap longest (call-collect (a .calls .now) (a .at) (if1 .if1 .left) (if2 .if2 .left) (if3 .if3 .taken)) in
-    omega (arith, start .pre .1)
+    omega (arith, s .pre .1)
 
 returns-3 : tie.Need-returns-3
 returns-3 c =
@@ -95,65 +98,63 @@ returns-3 c =
     let if2 = if3 .before in
     let if1 = if2 .before in
     let u16-at = if1 .before .before .before in
-    let start = u16-at .before .before .before .before .before .before .before in
-    let a = start .args in
-    rw (call-collect (a .calls .now) (a .at) (if1 .if1 .left) (if2 .if2 .left) (if3 .if3 .taken), ← u16-at .u16-at .ensures)
+    let a = entry (if1 .before) .args in
+    rw (
+      call-collect (a .calls .now) (a .at) (if1 .if1 .left) (if2 .if2 .left) (if3 .if3 .taken),
+      ← u16-at .u16-at .ensures,
+    )
     (answer-collect .answer-collect .ensures (length (a .spare .now)) (a .pool .now))
+
+-- which call it is, where none of the first three kinds is
+is-read : (c : tie.Then4)
+    → (let a = entry (c .before .before .before .before) .args in
+    let b = a .calls .now in
+    callAt b (a .at) ≡ read (num b (a .at + 2)) (num b (a .at + 4)) (num b (a .at + 6)))
+is-read c =
+    let if3 = c .before in
+    let if2 = if3 .before in
+    let if1 = if2 .before in
+    call-read _ _ (if1 .if1 .left) (if2 .if2 .left) (if3 .if3 .left) (c .if4 .taken)
+
+is-audit : (c : tie.Else4)
+    → (let a = entry (c .before .before .before .before) .args in callAt (a .calls .now) (a .at) ≡ audit)
+is-audit c =
+    let if3 = c .before in
+    let if2 = if3 .before in
+    let if1 = if2 .before in
+    call-audit _ _ (if1 .if1 .left) (if2 .if2 .left) (if3 .if3 .left) (c .if4 .left)
 
 answer-read-requires : tie.Need-answer-read-requires
 answer-read-requires c κs =
     let if4 = c .before .before .before in
-    let if3 = if4 .before in
-    let if2 = if3 .before in
-    let if1 = if2 .before in
-    let start = if1 .before .before .before .before .before .before .before .before .before .before in
-    let a = start .args in
-    let e = ap longest (call-read (a .calls .now) (a .at) (if1 .if1 .left) (if2 .if2 .left) (if3 .if3 .left) (if4 .if4 .taken)) in
-    omega (arith, start .pre .1)
+    let s = entry (if4 .before .before .before .before) in
+    let e = ap longest (is-read if4) in
+    omega (arith, s .pre .1)
 
 returns-4 : tie.Need-returns-4
 returns-4 c =
     let answer-read = c .before .before in
     let if4 = answer-read .before .before .before .before in
-    let if3 = if4 .before in
-    let if2 = if3 .before in
-    let if1 = if2 .before in
-    let u16-at3 = if1 .before in
+    let u16-at3 = if4 .before .before .before .before in
     let u16-at2 = u16-at3 .before in
     let u16-at = u16-at2 .before in
-    let start = u16-at .before .before .before .before .before .before .before in
-    let a = start .args in
-    rw (
-      call-read (a .calls .now) (a .at) (if1 .if1 .left) (if2 .if2 .left) (if3 .if3 .left)
-          (if4 .if4 .taken),
-      ← u16-at .u16-at .ensures,
-      ← u16-at2 .u16-at2 .ensures,
-      ← u16-at3 .u16-at3 .ensures,
-    )
+    let a = entry u16-at3 .args in
+    rw (is-read if4, ← u16-at .u16-at .ensures, ← u16-at2 .u16-at2 .ensures, ← u16-at3 .u16-at3 .ensures)
     (answer-read .answer-read .ensures (length (a .spare .now)))
 
 answer-audit-requires : tie.Need-answer-audit-requires
 answer-audit-requires c κs =
     let if4 = c .before .before in
-    let if3 = if4 .before in
-    let if2 = if3 .before in
-    let if1 = if2 .before in
-    let start = if1 .before .before .before .before .before .before .before .before .before .before in
-    let a = start .args in
-    let e = ap longest (call-audit (a .calls .now) (a .at) (if1 .if1 .left) (if2 .if2 .left) (if3 .if3 .left) (if4 .if4 .left)) in
-    omega (arith, start .pre .1)
+    let s = entry (if4 .before .before .before .before) in
+    let e = ap longest (is-audit if4) in
+    omega (arith, s .pre .1)
 
 returns-5 : tie.Need-returns-5
 returns-5 c =
     let answer-audit = c .before .before in
     let if4 = answer-audit .before .before .before in
-    let if3 = if4 .before in
-    let if2 = if3 .before in
-    let if1 = if2 .before in
-    let start = if1 .before .before .before .before .before .before .before .before .before .before in
-    let a = start .args in
-    rw (call-audit (a .calls .now) (a .at) (if1 .if1 .left) (if2 .if2 .left) (if3 .if3 .left) (if4 .if4 .left))
-    (answer-audit .answer-audit .ensures (length (a .spare .now)) (a .pool .now))
+    let a = entry (if4 .before .before .before .before) .args in
+    rw (is-audit if4) (answer-audit .answer-audit .ensures (length (a .spare .now)) (a .pool .now))
 
 pub play-call-spec : {M : Type 1} → statement M
 play-call-spec =

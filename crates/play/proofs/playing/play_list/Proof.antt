@@ -1,5 +1,5 @@
 -- `play::playing::play_list`: what is left of the list, from where the loop stands, ends and answers as the whole does.
-use Prim.Native.Nat.{ℕ, _+_, _-_, _≤_}
+use Prim.Native.Nat.{_+_, _-_, _≤_}
 use mathlib.Core.Path.{_≡_, refl, ap, _∙_}
 use native.Mathlib.Nat.{zero-add}
 use native.Mathlib.Omega.{arith}
@@ -9,7 +9,7 @@ use Rattle.calls.specs.Answers.{mostOf}
 use Rattle.calls.specs.Contracts.{at}
 use Rattle.calls.proofs.Playing.{Playing, playing-all, playing-more, playing-none}
 use Rattle.calls.specs.Reading.{restOf, Good}
-use Rattle.calls.proofs.ReadingLaws.{rest-end, next-good}
+use Rattle.calls.proofs.ReadingLaws.{Next, rest-end, next-good}
 use Rattle.calls.proofs.Short.{answer-short}
 use Rattle.play.proofs.playing.play_list.Statement.{statement}
 use Rattle.play.proofs.playing.play_list.Tie as tie
@@ -28,41 +28,48 @@ Inv-loop book₀ pool₀ spare₀ calls answers₀ at₀ to₀ book pool spare a
 abbrev μ-loop : tie.MeasureT-loop
 μ-loop book₀ pool₀ spare₀ calls answers₀ at₀ to₀ book pool spare answers at to = length calls - at
 
+abbrev start : tie.After-slice-known4 Inv-loop μ-loop → tie.Start Inv-loop μ-loop
+start c = c .before .before .before .before .before
+
+-- a call was played, from where its buffers came back; and the turn that it is of
+abbrev played : tie.After-slice-known8 Inv-loop μ-loop → tie.After-play-call Inv-loop μ-loop
+played c = let pool = c .before .before .before .before in pool .before .before .before .before
+
+abbrev turn : tie.After-play-call Inv-loop μ-loop → tie.In-loop Inv-loop μ-loop
+turn c = c .before .before .before .before .before
+
+-- the call where a turn starts, and those behind it
+next : (c : tie.In-loop Inv-loop μ-loop) → Next (start (c .before .before) .args .calls .now) (c .before .loop .at)
+next c =
+    let top = c .before in
+    next-good (start (top .before) .args .calls .now) (top .loop .at) (c .loop-test .taken) (top .loop .inv .1)
+
 loop-holds : tie.Need-loop-holds Inv-loop μ-loop
 loop-holds c =
-    let start = c .before .before .before .before .before in
-    let p = start .pre in (playing-all, p .0, rw zero-add (p .1), omega arith, refl, refl, refl, refl)
+    let p = start c .pre in (playing-all, p .0, rw zero-add (p .1), omega arith, refl, refl, refl, refl)
 
 play-call-requires : tie.Need-play-call-requires Inv-loop μ-loop
 play-call-requires c κs =
-    let turn = c .before .before .before .before in
-    let top = turn .before in
-    let start = top .before .before .before .before .before .before in
-    let l = top .loop in
-    let n = next-good (start .args .calls .now) (top .loop .at) (turn .loop-test .taken) (top .loop .inv .1) in
+    let t = c .before .before .before .before in
+    let l = t .before .loop in
+    let n = next t in
     let most = ap mostOf (n .split) in
     (n .is, omega (arith, l .inv .2, l .inv .7))
 
 call-end-requires : tie.Need-call-end-requires Inv-loop μ-loop
-call-end-requires c κs =
-    let turn = c .before .before .before .before .before .before .before .before .before .before .before .before .before in
-    let top = turn .before in
-    let start = top .before .before .before .before .before .before in
-    next-good (start .args .calls .now) (top .loop .at) (turn .loop-test .taken) (top .loop .inv .1) .is
+call-end-requires c κs = next (turn (played c)) .is
 
 loop-less : tie.Need-loop-less Inv-loop μ-loop
 loop-less c = omega (arith, c .call-end .ensures)
 
 loop-again : tie.Need-loop-again Inv-loop μ-loop
 loop-again c =
-    let play-call = c .before .before .before .before .before .before .before .before .before in
-    let turn = play-call .before .before .before .before .before in
-    let top = turn .before in
-    let start = top .before .before .before .before .before .before in
-    let a = start .args in
+    let call = played (c .before) in
+    let top = turn call .before in
+    let a = start (top .before) .args in
     let l = top .loop in
-    let k = play-call .play-call in
-    let n = next-good (start .args .calls .now) (top .loop .at) (turn .loop-test .taken) (top .loop .inv .1) in
+    let k = call .play-call in
+    let n = next (turn call) in
     let past = c .call-end .ensures .0 in
     let did = rw (l .inv .6) at (k .ensures) in
     let short = answer-short (length (a .spare .now)) (at (l .book) (l .pool)) (callAt (a .calls .now) (l .at)) in
@@ -92,24 +99,11 @@ same-length-4 c = c .before .loop .inv .7
 returns : tie.Need-returns Inv-loop μ-loop
 returns c =
     let top = c .before in
-    let start = top .before .before .before .before .before .before in
-    let a = start .args in
+    let s = start (top .before) in
     let l = top .loop in
-    playing-none (rw (rest-end (a .calls .now) (l .at) (c .loop-test .left)) at (l .inv .0)) (start .pre .1)
+    playing-none (rw (rest-end (s .args .calls .now) (l .at) (c .loop-test .left)) at (l .inv .0)) (s .pre .1)
 
 pub play-list-spec : {M : Type 1} → statement M
 play-list-spec =
-    tie.close
-    (tie.spec
-    Inv-loop
-    μ-loop
-    loop-holds
-    play-call-requires
-    call-end-requires
-    loop-less
-    loop-again
-    same-length
-    same-length-2
-    same-length-3
-    same-length-4
-    returns)
+    tie.close (tie.spec Inv-loop μ-loop loop-holds play-call-requires call-end-requires loop-less loop-again same-length
+    same-length-2 same-length-3 same-length-4 returns)

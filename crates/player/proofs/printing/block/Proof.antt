@@ -1,6 +1,5 @@
 -- `player::printing::block`: the loop stays within the bytes.
 use Prim.Native.Nat.{_≤_, _-_}
-use native.Mathlib.Omega.{arith}
 use lib.ListN.{length}
 use borrow.Author.Needs.{needs}
 use Rattle.player.proofs.printing.block.Statement.{statement}

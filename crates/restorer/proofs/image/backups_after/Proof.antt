@@ -1,11 +1,12 @@
--- `restorer::image::backups_after` meets its contract: each turn passes one slot, until the volume's next backup after k.
+-- `restorer::image::backups_after` meets its contract: a turn passes one slot, until the volume's next backup after k.
 use Prim.Native.Nat.{_-_, _≤_, _<_}
 use mathlib.Core.Logic.{⊎-elim}
 use native.Mathlib.Omega.{arith}
 use lib.ListN.{length}
 use denote.Ref.{now}
 use Rattle.book.specs.Layout.{bookOf}
-use Rattle.restorer.proofs.AfterLaws.{Skipped, skipped-none, skipped-own, skipped-other, skipped-stop, skipped-end}
+use Rattle.restorer.proofs.AfterLaws.{Skipped, skipped-none, skipped-own, skipped-other, skipped-stop}
+use Rattle.restorer.proofs.AfterLaws.{skipped-end}
 use Rattle.restorer.proofs.image.backups_after.Statement.{statement}
 use Rattle.restorer.proofs.image.backups_after.Tie as tie
 
@@ -28,7 +29,8 @@ returns : tie.Need-returns Inv-loop μ-loop
 returns c =
     let k = c .before .before .before in
     let l = k .before .before .loop in
-    skipped-stop _ _ _ (l .q) (l .missing) (l .inv .1) (k .slot-at .result) (k .slot-at .ensures) (omega arith) (omega arith)
+    skipped-stop _ _ _ (l .q) (l .missing) (l .inv .1) (k .slot-at .result) (k .slot-at .ensures) (omega arith)
+    (omega arith)
 
 loop-again : tie.Need-loop-again Inv-loop μ-loop
 loop-again c =
@@ -37,15 +39,17 @@ loop-again c =
     let h : l .q < length (bookOf (now (k .before .before .before .before .before .args .book)) .slots) = omega arith in
     let t = k .slot-at .result in
     let s = k .slot-at .ensures in
+    let i = l .inv .1 in
     ⊎-elim
-    (λ w. (omega arith, rw (w .2) (skipped-own _ _ _ (l .q) (l .missing) (l .inv .1) t s h (omega arith) (omega arith))))
-    (λ w. (omega arith, rw (w .1) (skipped-other _ _ _ (l .q) (l .missing) (l .inv .1) t s h (λ e. omega arith))))
+    (λ w. (omega arith, rw (w .2) (skipped-own _ _ _ (l .q) (l .missing) i t s h (omega arith) (omega arith))))
+    (λ w. (omega arith, rw (w .1) (skipped-other _ _ _ (l .q) (l .missing) i t s h (λ e. omega arith))))
     (c .if1 .came)
 
 returns-2 : tie.Need-returns-2 Inv-loop μ-loop
 returns-2 c =
     let l = c .before .loop in
-    skipped-end _ _ _ (l .q) (l .missing) (l .inv .1) (c .before .before .used-slots .result) (c .before .before .used-slots .ensures) (omega arith)
+    let used = c .before .before .used-slots in
+    skipped-end _ _ _ (l .q) (l .missing) (l .inv .1) (used .result) (used .ensures) (omega arith)
 
 pub backups-after-spec : {M : Type 1} → statement M
 backups-after-spec =

@@ -11,7 +11,9 @@ use Rattle.restorer.proofs.image.first_before.Tie as tie
 
 abbrev Inv-loop : tie.InvT-loop
 Inv-loop book first number lbn end q₀ q =
-    (first ≤ q) × (q ≤ end) × (beforeSpan (lbn .0) (bookOf book .records) first end ≡ beforeSpan (lbn .0) (bookOf book .records) q end)
+    (first ≤ q)
+    × (q ≤ end)
+    × (beforeSpan (lbn .0) (bookOf book .records) first end ≡ beforeSpan (lbn .0) (bookOf book .records) q end)
 
 abbrev μ-loop : tie.MeasureT-loop
 μ-loop book first number lbn end q₀ q = end - q
@@ -28,8 +30,10 @@ returns c =
     let l = k .before .before .loop in
     let a = k .before .before .before .before .args in
     let rs = bookOf (now (a .book)) .records in
-    let here = span-here (a .lbn .0) rs (l .q) (a .first + a .number) (omega arith) (omega arith) (sym (k .record-at .ensures .lbn) ∙ c .before .if1 .taken) in
-    ap (λ (n : ℕ). At (record { 0 = n })) (k .record-at .ensures .before) ∙ sym (sym (span-whole (a .lbn .0) (a .first) (a .number) rs) ∙ l .inv .2 ∙ here)
+    let its = sym (k .record-at .ensures .lbn) ∙ c .before .if1 .taken in
+    let here = span-here (a .lbn .0) rs (l .q) (a .first + a .number) (omega arith) (omega arith) its in
+    let whole = span-whole (a .lbn .0) (a .first) (a .number) rs in
+    ap (λ (n : ℕ). At (record { 0 = n })) (k .record-at .ensures .before) ∙ sym (sym whole ∙ l .inv .2 ∙ here)
 
 loop-again : tie.Need-loop-again Inv-loop μ-loop
 loop-again c =
@@ -37,7 +41,10 @@ loop-again c =
     let l = k .before .before .loop in
     let a = k .before .before .before .before .args in
     let rs = bookOf (now (a .book)) .records in
-    let next = span-next (a .lbn .0) rs (l .q) (a .first + a .number) (omega arith) (omega arith) (λ e. c .if1 .left (k .record-at .ensures .lbn ∙ e)) in
+    let next =
+    span-next (a .lbn .0) rs (l .q) (a .first + a .number) (omega arith) (omega arith)
+    (λ e. c .if1 .left (k .record-at .ensures .lbn ∙ e))
+    in
     (omega arith, omega arith, l .inv .2 ∙ next)
 
 returns-2 : tie.Need-returns-2 Inv-loop μ-loop
@@ -45,7 +52,8 @@ returns-2 c =
     let l = c .before .loop in
     let a = c .before .before .before .args in
     let rs = bookOf (now (a .book)) .records in
-    sym (sym (span-whole (a .lbn .0) (a .first) (a .number) rs) ∙ l .inv .2 ∙ span-none (a .lbn .0) rs (l .q) (a .first + a .number) (omega arith))
+    let whole = span-whole (a .lbn .0) (a .first) (a .number) rs in
+    sym (sym whole ∙ l .inv .2 ∙ span-none (a .lbn .0) rs (l .q) (a .first + a .number) (omega arith))
 
 pub first-before-spec : {M : Type 1} → statement M
 first-before-spec =

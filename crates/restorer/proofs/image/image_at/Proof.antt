@@ -18,7 +18,8 @@ returns-2 : tie.Need-returns-2
 returns-2 c =
     let k = c .before .before .before in
     let a = k .before .before .args in
-    sym (image-before (bookOf (now (a .book))) (a .v) (a .at) (a .lbn .0) _ (sym (k .later-before .ensures) ∙ c .before .found .given .1))
+    let found = sym (k .later-before .ensures) ∙ c .before .found .given .1 in
+    sym (image-before (bookOf (now (a .book))) (a .v) (a .at) (a .lbn .0) _ found)
 
 pub image-at-spec : {M : Type 1} → statement M
 image-at-spec =

@@ -11,7 +11,8 @@ use Rattle.restorer.proofs.image.later_before.Statement.{statement}
 use Rattle.restorer.proofs.image.later_before.Tie as tie
 
 abbrev Inv-loop : tie.InvT-loop
-Inv-loop book v at lbn used q₀ q = (at ≤ q) × (beforeFrom (bookOf book) v at (lbn .0) ≡ beforeFrom (bookOf book) v q (lbn .0))
+Inv-loop book v at lbn used q₀ q =
+    (at ≤ q) × (beforeFrom (bookOf book) v at (lbn .0) ≡ beforeFrom (bookOf book) v q (lbn .0))
 
 abbrev μ-loop : tie.MeasureT-loop
 μ-loop book v at lbn used q₀ q = used - q
@@ -31,14 +32,17 @@ returns c =
     let l = k .before .before .loop in
     let a = k .before .before .before .before .before .args in
     let e = c .enum-told2 .given .1 in
-    e ∙ sym (l .inv .1 ∙ later-here (bookOf (now (a .book))) (a .v) (l .q) (a .lbn .0) _ (omega arith) (sym (k .slot-before .ensures) ∙ e))
+    let x = bookOf (now (a .book)) in
+    let here = later-here x (a .v) (l .q) (a .lbn .0) _ (omega arith) (sym (k .slot-before .ensures) ∙ e) in
+    e ∙ sym (l .inv .1 ∙ here)
 
 loop-again : tie.Need-loop-again Inv-loop μ-loop
 loop-again c =
     let k = c .before .before in
     let l = k .before .before .loop in
     let a = k .before .before .before .before .before .args in
-    (omega arith, l .inv .1 ∙ later-next (bookOf (now (a .book))) (a .v) (l .q) (a .lbn .0) (omega arith) (sym (k .slot-before .ensures) ∙ c .enum-told .given .1))
+    let none = sym (k .slot-before .ensures) ∙ c .enum-told .given .1 in
+    (omega arith, l .inv .1 ∙ later-next (bookOf (now (a .book))) (a .v) (l .q) (a .lbn .0) (omega arith) none)
 
 returns-2 : tie.Need-returns-2 Inv-loop μ-loop
 returns-2 c =

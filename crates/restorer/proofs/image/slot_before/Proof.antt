@@ -20,7 +20,8 @@ first-before-requires c κs =
     let k = c .before .before in
     let p = k .before .before .pre in
     let x = bookOf (now (k .before .before .args .book)) in
-    (p .0 .holds, omega (arith, pairs-in (x .slots) 0 (length (x .records)) (p .0 .parts .pairs) (k .before .before .args .q) (p .1)))
+    let q = k .before .before .args .q in
+    (p .0 .holds, omega (arith, pairs-in (x .slots) 0 (length (x .records)) (p .0 .parts .pairs) q (p .1)))
 
 returns-2 : tie.Need-returns-2
 returns-2 c =
@@ -28,7 +29,8 @@ returns-2 c =
     let a = k .before .before .args in
     let p = k .before .before .pre in
     let own =
-    slot-own (bookOf (now (a .book))) (a .v) (a .q) (a .lbn .0) (k .slot-at .result) (k .slot-at .ensures) (p .0 .parts .pairs) (p .1) (omega arith)
+    slot-own (bookOf (now (a .book))) (a .v) (a .q) (a .lbn .0) (k .slot-at .result) (k .slot-at .ensures)
+    (p .0 .parts .pairs) (p .1) (omega arith)
     in
     rw own (c .first-before .ensures)
 

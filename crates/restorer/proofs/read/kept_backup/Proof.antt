@@ -1,8 +1,9 @@
--- `restorer::read::kept_backup` meets its contract: each way out gives its number, and the last one the slots after the backup.
+-- `restorer::read::kept_backup` meets its contract: each way out gives its number, the last one the slots after it.
 use borrow.Author.Needs.{needs}
 use native.Mathlib.Omega.{arith}
 use Rattle.words.proofs.ChoiceLaws.{failed, passed}
-use Rattle.restorer.proofs.ReadingLaws.{backup-above, backup-unenrolled, backup-zero, backup-missing, backup-lapsed, backup-kept}
+use Rattle.restorer.proofs.ReadingLaws.{backup-above, backup-unenrolled, backup-zero, backup-missing}
+use Rattle.restorer.proofs.ReadingLaws.{backup-lapsed, backup-kept}
 use Rattle.restorer.proofs.read.kept_backup.Statement.{statement}
 use Rattle.restorer.proofs.read.kept_backup.Tie as tie
 

@@ -3,8 +3,8 @@ use borrow.Author.Needs.{needs}
 use mathlib.Core.Path.{_≡_, sym, _∙_, subst}
 use denote.Ref.{now}
 use Rattle.book.specs.Layout.{bookOf}
-use Rattle.book.specs.Formed.{Formed}
-use Rattle.book.proofs.FormedLaws.{formed}
+use Rattle.book.specs.FormFacts.{FormFacts}
+use Rattle.book.proofs.FormFactLaws.{form-facts}
 use Rattle.buffers.specs.Buffers.{buffersNumber}
 use Rattle.buffers.proofs.BuffersLaws.{buffers-facts}
 use Rattle.restorer.specs.Reading.{KeptIs}
@@ -13,17 +13,21 @@ use Rattle.restorer.proofs.ReadCalls.{sought-stopped, sought-on}
 use Rattle.restorer.proofs.read.locate.Statement.{statement}
 use Rattle.restorer.proofs.read.locate.Tie as tie
 
+abbrev start : tie.Else1 → tie.Start
+start c = c .before .before .before .before
+
 -- past numbers 1 to 3 the book is in form
-none : (c : tie.Else1) → buffersNumber (now (c .before .before .before .before .args .book)) (now (c .before .before .before .before .args .pool)) ≡ 0
+none : (c : tie.Else1) → buffersNumber (now (start c .args .book)) (now (start c .args .pool)) ≡ 0
 none c = sym (c .before .buffers-number .ensures) ∙ c .if1 .left
 
-ready : (c : tie.Else1) → Formed (now (c .before .before .before .before .args .book))
-ready c = formed _ (λ i. c .before .before .before .shared-slice-known .given i .fits) (buffers-facts _ _ (none c) .0)
+ready : (c : tie.Else1) → FormFacts (now (start c .args .book))
+ready c = form-facts _ (λ i. c .before .before .before .shared-slice-known .given i .fits) (buffers-facts _ _ (none c) .0)
 
 returns : tie.Need-returns
 returns c =
     let a = c .before .before .before .before .args in
-    sought-stopped (now (a .book)) (now (a .pool)) (a .volume) (a .number) (a .lbn .0) (c .before .buffers-number .result) (c .before .buffers-number .ensures) (c .if1 .taken)
+    sought-stopped (now (a .book)) (now (a .pool)) (a .volume) (a .number) (a .lbn .0)
+    (c .before .buffers-number .result) (c .before .buffers-number .ensures) (c .if1 .taken)
 
 kept-backup-requires : tie.Need-kept-backup-requires
 kept-backup-requires c κs = ready c .holds
@@ -36,7 +40,7 @@ block-before-requires c κs =
 returns-2 : tie.Need-returns-2
 returns-2 c =
     let k = c .before .before .before .before in
-    let a = k .before .before .before .before .before .args in
+    let a = start (k .before) .args in
     let x = bookOf (now (a .book)) in
     let on = sought-on (now (a .book)) (now (a .pool)) (a .volume) (a .number) (a .lbn .0) (none (k .before)) in
     let is = subst (KeptIs x (a .volume) (a .number)) (c .before .before .at .given .1) (k .kept-backup .ensures) in
@@ -45,7 +49,7 @@ returns-2 c =
 returns-3 : tie.Need-returns-3
 returns-3 c =
     let k = c .before .before .before in
-    let a = k .before .before .before .before .before .args in
+    let a = start (k .before) .args in
     let x = bookOf (now (a .book)) in
     let on = sought-on (now (a .book)) (now (a .pool)) (a .volume) (a .number) (a .lbn .0) (none (k .before)) in
     let is = subst (KeptIs x (a .volume) (a .number)) (c .before .n .given .1) (k .kept-backup .ensures) in

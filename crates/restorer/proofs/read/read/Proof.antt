@@ -18,16 +18,21 @@ part-result-end : tie.Need-part-result-end
 part-result-end c =
     let k = c .before .before .before .before in
     let a = k .before .before .before .args in
-    omega (arith, block-inside (now (a .book)) (now (a .pool)) (a .volume) (a .number) (a .lbn .0) (k .locate .result) (k .locate .ensures) _ (c .before .before .sought .given .1))
+    let inside =
+    block-inside (now (a .book)) (now (a .pool)) (a .volume) (a .number) (a .lbn .0) (k .locate .result)
+    (k .locate .ensures) _ (c .before .before .sought .given .1)
+    in
+    omega (arith, inside)
 
 returns-2 : tie.Need-returns-2
 returns-2 c =
     let k = c .before .before .before .before .before in
     let a = k .before .before .before .args in
-    let n = c .before .block-place .result in
+    let n = c .before .block-offset .result in
     let size : n + blockSize - n ≡ blockSize = omega arith in
-    rw (size, c .before .block-place .ensures)
-    (block-at (now (a .book)) (now (a .pool)) (a .volume) (a .number) (a .lbn .0) (k .locate .result) (k .locate .ensures) _ (c .before .before .before .sought .given .1))
+    rw (size, c .before .block-offset .ensures)
+    (block-at (now (a .book)) (now (a .pool)) (a .volume) (a .number) (a .lbn .0) (k .locate .result)
+    (k .locate .ensures) _ (c .before .before .before .sought .given .1))
 
 pub read-spec : {M : Type 1} → statement M
 read-spec =

@@ -7,7 +7,7 @@ use denote.Ref.{now}
 use lib.ListN.{length}
 use borrow.Author.Needs.{needs}
 use Rattle.book.specs.Form.{formNumber}
-use Rattle.book.proofs.InForm.{holds-form}
+use Rattle.book.proofs.FormBytes.{holds-form}
 use Rattle.book.specs.Layout.{Holds, bookOf}
 use Rattle.model.proofs.views.RowLaws.{blocks-length}
 use Rattle.model.specs.Views.{blocksOf}

@@ -11,15 +11,22 @@ use Rattle.rows.proofs.Rows.{row-stored}
 use Rattle.rows.proofs.blocks.put_block.Statement.{statement}
 use Rattle.rows.proofs.blocks.put_block.Tie as tie
 
+abbrev counted : tie.After-print-of → tie.After-count
+counted c = c .before .before .before
+
+abbrev start : tie.After-print-of → tie.Start
+start c = counted c .before .before .before .before
+
 -- the fingerprint has 16 bytes
-print-length : (s : tie.Start) → length (entryAt (bookOf (s .args .book .now) .entries) (s .args .p .0) .print) ≡ printSize
+print-length : (s : tie.Start)
+    → length (entryAt (bookOf (s .args .book .now) .entries) (s .args .p .0) .print) ≡ printSize
 print-length s = s .pre .0 .sized .prints (s .args .p .0) (s .pre .1 .0)
 
 put-bytes-requires : tie.Need-put-bytes-requires
 put-bytes-requires c κs =
     let w = c .before .before .before in
     let r = w .before .before in
-    let s = r .before .before .before .before .before .before .before in
+    let s = start r in
     omega (arith, print-length s, ap length (r .print-of .ensures), w .put-three .kept .0, s .pre .1 .1)
 
 returns : tie.Need-returns
@@ -28,14 +35,12 @@ returns c =
     let w = b .before .before .before .before in
     let r = w .before .before in
     let d = r .before in
-    let n = d .before in
-    let k = n .before in
-    let h = k .before in
-    let s = h .before .before .before in
+    let k = counted r in
+    let s = start r in
     row-stored {out = s .args .out .now} {at = s .args .at}
     (entryAt (bookOf (s .args .book .now) .entries) (s .args .p .0)) (print-length s)
-    (ap bit (h .is-held .ensures)) (n .wide .ensures .0 ∙ k .count .ensures) (d .expiry .ensures) (r .print-of .ensures)
-    (w .put-three .ensures) (b .put-bytes .ensures)
+    (ap bit (k .before .is-held .ensures)) (d .before .wide .ensures .0 ∙ k .count .ensures) (d .expiry .ensures)
+    (r .print-of .ensures) (w .put-three .ensures) (b .put-bytes .ensures)
 
 pub put-block-spec : {M : Type 1} → statement M
 put-block-spec =

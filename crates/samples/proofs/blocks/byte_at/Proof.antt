@@ -7,7 +7,7 @@ use Rattle.samples.proofs.blocks.byte_at.Statement.{statement}
 use Rattle.samples.proofs.blocks.byte_at.Tie as tie
 
 -- the product is at most 255 times 255
-product : (c : tie.After-wide2) → c .before .before .args .place % 256 * c .wide2 .result ≤ 255 * c .wide2 .result
+product : (c : tie.After-wide2) → c .before .before .args .offset % 256 * c .wide2 .result ≤ 255 * c .wide2 .result
 product c = mul-le-mul-right (c .wide2 .result) (omega arith)
 
 mul-result : tie.Need-mul-result

@@ -7,7 +7,8 @@ use Rattle.samples.proofs.lists.paint_each.Statement.{statement}
 use Rattle.samples.proofs.lists.paint_each.Tie as tie
 
 abbrev Inv-loop : tie.InvT-loop
-Inv-loop bytes₀ size tags slope from₀ i₀ bytes from i = (length bytes ≡ length bytes₀) × (from ≤ length bytes) × (i ≤ length tags)
+Inv-loop bytes₀ size tags slope from₀ i₀ bytes from i =
+    (length bytes ≡ length bytes₀) × (from ≤ length bytes) × (i ≤ length tags)
 
 abbrev μ-loop : tie.MeasureT-loop
 μ-loop bytes₀ size tags slope from₀ i₀ bytes from i = length tags - i

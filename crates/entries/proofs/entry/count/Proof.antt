@@ -1,0 +1,14 @@
+-- `entries::entry::count`: the byte at its offset, by `count-at`.
+use Rattle.book.proofs.Read.{count-at}
+use borrow.Author.Needs.{needs}
+use Rattle.entries.proofs.entry.count.Statement.{statement}
+use Rattle.entries.proofs.entry.count.Tie as tie
+
+returns : tie.Need-returns
+returns c =
+    let s = c .before .before .before in
+    let at = c .before .entry-offset in
+    count-at (s .args .book .now) (s .args .p .0) (at .result) (s .pre .1) (at .ensures)
+
+pub count-spec : {M : Type 1} → statement M
+count-spec = tie.close (tie.spec (λ c κs. search needs) (λ c. search needs) returns)

@@ -1,0 +1,4 @@
+pub mod AnswerLaws
+pub mod FirstLaws
+pub mod BucketLaws
+pub mod FindingLaws

@@ -1,0 +1,5 @@
+pub mod Answers
+pub mod First
+pub mod Bucket
+pub mod Indexed
+pub mod Finding

@@ -1,0 +1,59 @@
+-- `heads::head::unused_zero`: a case for each kind.
+use native.Mathlib.Omega.{arith}
+use borrow.Author.Tests.{eq-eqb, ne-eqb}
+use Rattle.calls.specs.Coding.{unusedZero}
+use Rattle.heads.proofs.head.unused_zero.Statement.{statement}
+use Rattle.heads.proofs.head.unused_zero.Tie as tie
+
+returns : tie.Need-returns
+unfolding unusedZero
+returns c = rw (eq-eqb (c .before .args .kind) 0 (omega arith))
+
+returns-2 : tie.Need-returns-2
+unfolding unusedZero
+returns-2 c =
+    let k = c .before .before .args .kind in
+    rw (ne-eqb k 0 (c .before .if1 .left), eq-eqb k 1 (omega arith))
+
+returns-3 : tie.Need-returns-3
+unfolding unusedZero
+returns-3 c =
+    let if2 = c .before in
+    let if1 = if2 .before in
+    let start = if1 .before in
+    let k = start .args .kind in rw (ne-eqb k 0 (if1 .if1 .left), ne-eqb k 1 (if2 .if2 .left), eq-eqb k 2 (omega arith))
+
+returns-4 : tie.Need-returns-4
+unfolding unusedZero
+returns-4 c =
+    let if3 = c .before in
+    let if2 = if3 .before in
+    let if1 = if2 .before in
+    let start = if1 .before in
+    let k = start .args .kind in
+    rw (ne-eqb k 0 (if1 .if1 .left), ne-eqb k 1 (if2 .if2 .left), ne-eqb k 2 (if3 .if3 .left), eq-eqb k 3 (omega arith))
+
+returns-5 : tie.Need-returns-5
+unfolding unusedZero
+returns-5 c = let k = c .before .before .before .before .before .args .kind in
+    rw (
+      ne-eqb k 0 (c .before .before .before .before .if1 .left),
+      ne-eqb k 1 (c .before .before .before .if2 .left),
+      ne-eqb k 2 (c .before .before .if3 .left),
+      ne-eqb k 3 (c .before .if4 .left),
+      eq-eqb k 4 (omega arith),
+    )
+
+returns-6 : tie.Need-returns-6
+unfolding unusedZero
+returns-6 c = let k = c .before .before .before .before .before .args .kind in
+    rw (
+      ne-eqb k 0 (c .before .before .before .before .if1 .left),
+      ne-eqb k 1 (c .before .before .before .if2 .left),
+      ne-eqb k 2 (c .before .before .if3 .left),
+      ne-eqb k 3 (c .before .if4 .left),
+      ne-eqb k 4 (c .if5 .left),
+    )
+
+pub unused-zero-spec : {M : Type 1} → statement M
+unused-zero-spec = tie.close (tie.spec returns returns-2 returns-3 returns-4 returns-5 returns-6)

@@ -1,0 +1,26 @@
+-- `journal::slot::put_slot`: a slot's bytes are its volume, a zero and three numbers.
+use mathlib.Core.Path.{_∙_, ap}
+use lib.ListN.{length, length-set}
+use lib.Seq.{length-sets}
+use native.Mathlib.Numerals.{towards-suc}
+use native.Mathlib.Omega.{arith}
+use borrow.Author.Needs.{needs}
+use Rattle.journal.proofs.slot.put_slot.Statement.{statement}
+use Rattle.journal.proofs.slot.put_slot.Tie as tie
+
+slice-write-b-2 : tie.Need-slice-write-b-2
+slice-write-b-2 c = simp length-set (omega arith)
+
+put-three-requires : tie.Need-put-three-requires
+put-three-requires c κs = simp length-set (omega arith)
+
+same-length : tie.Need-same-length
+same-length c = ap length (c .before .before .put-three .ensures) ∙ simp (length-sets, length-set)
+
+returns : tie.Need-returns
+returns c = c .before .before .put-three .ensures ∙ simp towards-suc
+
+pub put-slot-spec : {M : Type 1} → statement M
+put-slot-spec =
+    tie.close (tie.spec (λ c. search needs) (λ c. search needs) (λ c. search needs) slice-write-b-2 (λ c. search needs)
+    put-three-requires same-length returns)

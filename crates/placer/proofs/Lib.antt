@@ -1,0 +1,5 @@
+pub mod SearchLaws
+pub mod Finding
+pub mod Indexing
+pub mod PoolLaws
+pub mod PlaceLaws

@@ -1,0 +1,28 @@
+-- An expiry for each block of the pool, raised record by record.
+use Prim.Native.Nat.{ℕ, _<_, max}
+use mathlib.Core.Path.{_≡_}
+use mathlib.Core.List.{List}
+use lib.Dec.{eqb}
+use lib.ListN.{length, getD}
+use Rattle.words.specs.Choice.{if_then_else_}
+use Rattle.book.specs.Book.{Entry, Rec, entryAt}
+use Rattle.model.specs.Audit.{hasBefore}
+use Rattle.replay.specs.Table.{poolBlocks}
+
+-- a′ is a with block p's expiry at least f p
+pub record Raised (a : List ℕ) (f : ℕ → ℕ) (a′ : List ℕ) : Type 0 where
+  pub long : length a′ ≡ length a
+  pub at : (p : ℕ) → p < poolBlocks → getD a′ p 0 ≡ max (getD a p 0) (f p)
+
+-- u for the block c alone
+abbrev pub untilOne : ℕ → ℕ → ℕ → ℕ
+untilOne u c p = if eqb c p then u else 0
+
+-- u for each before of the records
+abbrev pub untilEach : ℕ → List Rec → ℕ → ℕ
+untilEach u rs p = if hasBefore p rs then u else 0
+
+-- ---- "each expiry is the largest slot day plus retention over records with that before, 0 if none"
+
+abbrev pub expiryOfBlock : List Entry → ℕ → ℕ
+expiryOfBlock es p = entryAt es p .expiry

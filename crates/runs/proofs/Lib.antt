@@ -1,0 +1,9 @@
+pub mod Pairs
+pub mod Number
+pub mod Laws
+pub mod Cases
+pub mod ListBytes
+pub mod RunLaws
+pub mod Marked
+pub mod RoundTripLaws
+pub mod Example

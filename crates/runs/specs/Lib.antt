@@ -1,0 +1,4 @@
+pub mod Changes
+pub mod Writer
+pub mod Runs
+pub mod RoundTrip

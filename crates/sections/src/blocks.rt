@@ -1,0 +1,86 @@
+// Retentions, block entries and maps in form, each in one pass over its section.
+ghost use Prim.Native.Nat.{_+_, _*_, _≤_, _<_};
+ghost use mathlib.Core.Path.{_≡_};
+ghost use mathlib.Core.Bool.{_&&_};
+ghost use lib.ListN.{length};
+ghost use Rattle.book.specs.Layout.{entriesFrom, entryOffset, entrySize};
+ghost use Rattle.book.specs.Layout.{entryOf};
+ghost use Rattle.book.specs.Form.{stateOk, entryOk, pbnOk};
+ghost use Rattle.sections.specs.Checks.{retentionsOk, entriesOk, mapsOk};
+use super::zeros::zeros;
+use fields::header::HEADER_SIZE;
+use fields::offsets::ENTRIES_FROM;
+use fields::offsets::ENTRY_SIZE;
+use fields::offsets::VOLUMES;
+use words::UNMAPPED;
+use words::limits::MAX_EXPIRY;
+use words::limits::MAX_RETENTION;
+use words::u16_at;
+
+pub fn retentions_ok(b: &[u8]) -> bool
+    requires { ⌜ entriesFrom ≤ length (now b) ⌝ }
+    ensures { λ r. ⌜ r ≡ retentionsOk (now (b .entry)) ⌝ }
+{
+    let mut good = true;
+    let mut v = 0;
+    while v < VOLUMES {
+        good = good & (u16_at(b, HEADER_SIZE + v * 2) <= MAX_RETENTION);
+        v += 1;
+    }
+    good
+}
+
+fn entry_ok(b: &[u8], p: usize) -> bool
+    requires { ⌜ entryOffset p + entrySize ≤ length (now b) ⌝ }
+    ensures { λ r. ⌜ r ≡ (stateOk (now (b .entry)) p && entryOk (entryOf (now (b .entry)) p)) ⌝ }
+{
+    let at = ENTRIES_FROM + p * ENTRY_SIZE;
+    let state = b[at + 1];
+    if state > 1 {
+        return false;
+    }
+    if u16_at(b, at + 2) > MAX_EXPIRY {
+        return false;
+    }
+    if state == 1 {
+        return true;
+    }
+    if b[at] != 0 {
+        return false;
+    }
+    zeros(b, at + 4, at + ENTRY_SIZE)
+}
+
+pub fn entries_ok(b: &[u8], n: usize) -> bool
+    requires { ⌜ entryOffset n ≤ length (now b) ⌝ }
+    ensures { λ r. ⌜ r ≡ entriesOk (now (b .entry)) n ⌝ }
+{
+    let mut p = 0;
+    while p < n {
+        if !entry_ok(b, p) {
+            return false;
+        }
+        p += 1;
+    }
+    true
+}
+
+pub fn pbn_ok(p: u16, n: u16) -> bool
+    ensures { λ r. ⌜ r ≡ pbnOk n p ⌝ }
+{
+    (p < n) | (p == UNMAPPED)
+}
+
+// The PBNs of all maps, which stand one after the other. It never leaves early, as `zeros`.
+pub fn maps_ok(b: &[u8], from: usize, cells: usize, n: u16) -> bool
+    requires { ⌜ from + cells * 2 ≤ length (now b) ⌝ }
+    ensures { λ r. ⌜ r ≡ mapsOk (now (b .entry)) from cells n ⌝ }
+{
+    let mut good = true;
+    let mut c = 0;
+    while c < cells {
+        good = good & pbn_ok(u16_at(b, from + c * 2), n);
+        c += 1;
+    }
+    good
+}
