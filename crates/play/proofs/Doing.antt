@@ -14,8 +14,8 @@ use Rattle.words.specs.Outcome.{Outcome, refused, accepted}
 use Rattle.words.specs.Sections.{part}
 use Rattle.book.specs.Layout.{bookOf}
 use Rattle.model.specs.Calls.{enrol, backup, collect, read, audit}
-use Rattle.model.specs.OnBytes.{BackedBytes, CollectedBytes, numberOf, bookAfter, enrolBytes, backupBytes, backedBook, backedPool}
-use Rattle.model.specs.OnBytes.{backedNumber, backedTaken, backedTouched, collectBytes, collectedBook, collectedFreed, readBytes}
+use Rattle.model.specs.OnBytes.{BackedBytes, CollectedBytes, numberOf, bookAfter, enrolBytes, backupBytes, after}
+use Rattle.model.specs.OnBytes.{collectBytes, readBytes}
 use Rattle.model.specs.OnBytes.{readNumberBytes, auditBytes, soundAfter}
 use Rattle.model.specs.Pool.{blockAt}
 use Rattle.model.specs.Read.{image}
@@ -24,7 +24,7 @@ use Rattle.calls.specs.Answers.{answerBytes}
 use Rattle.calls.specs.Contracts.{at}
 use Rattle.calls.specs.Doing.{Did}
 use Rattle.calls.proofs.Proper.{Proper, not-refused, collect-proper, audit-proper, backup-proper}
-use Rattle.engine.specs.Contracts.{Enrolled}
+use Rattle.setup.specs.Contracts.{Enrolled}
 use Rattle.collector.specs.Contracts.{Swept}
 use Rattle.auditor.specs.Contracts.{Audited}
 use Rattle.restorer.specs.Contracts.{Located}
@@ -61,7 +61,7 @@ module _ (spare : ℕ) (book : Lent (List ℕ)) (pool out : List ℕ) (to : ℕ)
     unfolding ours oursCollected
     collect-refused h s = let g = go (collectBytes (was book) t) (e .number) (e .book) in record { next = g .0; answer = g .1 }
       where
-        go : (o : Outcome CollectedBytes) → k ≡ numberOf o → is book ≡ collectedBook o (was book)
+        go : (o : Outcome CollectedBytes) → k ≡ numberOf o → is book ≡ after (λ d. d .book) o (was book)
             → By (oursCollected (at (was book) pool) o) out to (is book) pool out′ r
         go (refused j) n m = (ap (λ (x : List ℕ). at x pool) m, rw n at s)
         go (accepted d) n m = absurd (h n)
@@ -74,8 +74,8 @@ module _ (spare : ℕ) (book : Lent (List ℕ)) (pool out : List ℕ) (to : ℕ)
         go (collectBytes (was book) t) (collect-proper (was book) t) (e .number) (e .book) (e .answer)
         in record { next = g .0; answer = g .1 }
       where
-        go : (o : Outcome CollectedBytes) → Proper o → k ≡ numberOf o → is book ≡ collectedBook o (was book)
-            → now (f .exit) ≡ collectedFreed o (now (f .entry))
+        go : (o : Outcome CollectedBytes) → Proper o → k ≡ numberOf o → is book ≡ after (λ d. d .book) o (was book)
+            → now (f .exit) ≡ after (λ d. d .freed) o (now (f .entry))
             → By (oursCollected (at (was book) pool) o) out to (is book) pool out′ r
         go (refused j) p n m a = absurd (not-refused j p (sym n ∙ z))
         go (accepted d) p n m a = (ap (λ (x : List ℕ). at x pool) m, rw a at s)
@@ -132,7 +132,8 @@ module _ (book pool room : Lent (List ℕ)) (v t : ℕ) (list : Lent (List ℕ))
       go (backupBytes (was book) (was pool) (length (was room)) v t (was list)) (e .refusal) (e .book) (e .stored)
       in record { next = g .0; answer = g .1 }
     where
-      go : (o : Outcome BackedBytes) → k ≡ numberOf o → is book ≡ backedBook o (was book) → is pool ≡ backedPool o (was pool)
+      go : (o : Outcome BackedBytes) → k ≡ numberOf o → is book ≡ after (λ d. d .book) o (was book)
+          → is pool ≡ after (λ d. d .pool) o (was pool)
           → By (oursBacked (at (was book) (was pool)) o) out to (is book) (is pool) out′ r
       go (refused j) n m q = (ap₂ at m q, rw n at s)
       go (accepted d) n m q = absurd (h n)
@@ -147,10 +148,11 @@ module _ (book pool room : Lent (List ℕ)) (v t : ℕ) (list : Lent (List ℕ))
       (backup-proper (was book) (was pool) (length (was room)) v t (was list)) (e .refusal) (e .book)
       (e .stored) (e .number) (e .taken) (e .touched) in record { next = g .0; answer = g .1 }
     where
-      go : (o : Outcome BackedBytes) → Proper o → k ≡ numberOf o → is book ≡ backedBook o (was book) → is pool ≡ backedPool o (was pool)
-          → now (n .exit) ≡ backedNumber o (now (n .entry))
-          → now (taken .exit) ≡ backedTaken o (now (taken .entry))
-          → now (touched .exit) ≡ backedTouched o (now (touched .entry))
+      go : (o : Outcome BackedBytes) → Proper o → k ≡ numberOf o → is book ≡ after (λ d. d .book) o (was book)
+          → is pool ≡ after (λ d. d .pool) o (was pool)
+          → now (n .exit) ≡ after (λ d. d .number) o (now (n .entry))
+          → now (taken .exit) ≡ after (λ d. d .taken) o (now (taken .entry))
+          → now (touched .exit) ≡ after (λ d. d .touched) o (now (touched .entry))
           → By (oursBacked (at (was book) (was pool)) o) out to (is book) (is pool) out′ r
       go (refused j) p n m q x y w = absurd (not-refused j p (sym n ∙ z))
       go (accepted d) p n m q x y w = (ap₂ at m q, rw (x, y, w) at s)

@@ -17,7 +17,7 @@ use Rattle.calls.proofs.BoundLaws.{played-did}
 use Rattle.calls.proofs.ChainLaws.{as-plain, goes-on}
 use Rattle.calls.specs.Chain.{freshPlayable, PlayedFresh}
 use Rattle.calls.specs.Contracts.{roomOf, playable, Played}
-use Rattle.engine.specs.Contracts.{Formatted}
+use Rattle.setup.specs.Contracts.{Formatted}
 
 module _ (book : Lent (List ℕ)) (pool spare calls out : List ℕ) (n l s j : ℕ) {k : ℕ} (f : Formatted book n l s j k) where
   abbrev b : List ℕ

@@ -15,7 +15,7 @@ use Rattle.book.specs.Form.{sizesOk}
 use Rattle.book.specs.Next.{fresh}
 use Rattle.book.proofs.Holding.{bytes-is}
 use Rattle.model.specs.OnBytes.{formatNumber, formatBytes}
-use Rattle.engine.specs.Contracts.{Formatted}
+use Rattle.setup.specs.Contracts.{Formatted}
 
 module _ (book : Lent (List ℕ)) (z : Sizes) where
   abbrev b : List ℕ

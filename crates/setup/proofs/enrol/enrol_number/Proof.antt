@@ -1,13 +1,13 @@
--- `engine::enrol::enrol_number` meets its contract: each way out decides the definition's tests.
+-- `setup::enrol::enrol_number` meets its contract: each way out decides the definition's tests.
 use mathlib.Core.Path.{_≡_, sym, _∙_}
 use native.Mathlib.Omega.{arith}
 use borrow.Author.Needs.{needs}
 use denote.Ref.{now}
 use Rattle.book.specs.Book.{retentionOf}
 use Rattle.book.specs.Layout.{bookOf}
-use Rattle.engine.proofs.EnrolExits.{number-above, number-enrolled, number-zero, number-long, number-none}
-use Rattle.engine.proofs.enrol.enrol_number.Statement.{statement}
-use Rattle.engine.proofs.enrol.enrol_number.Tie as tie
+use Rattle.setup.proofs.EnrolExits.{number-above, number-enrolled, number-zero, number-long, number-none}
+use Rattle.setup.proofs.enrol.enrol_number.Statement.{statement}
+use Rattle.setup.proofs.enrol.enrol_number.Tie as tie
 
 -- the volume has no retention yet
 none : (c : tie.Else2)

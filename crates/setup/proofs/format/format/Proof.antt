@@ -1,4 +1,4 @@
--- `engine::format::aspen_format` meets its contract: the two tests are those of number 1, and each way out leaves what
+-- `setup::format::format` meets its contract: the two tests are those of number 1, and each way out leaves what
 -- the definition says.
 use mathlib.Core.Path.{_≡_, refl}
 use mathlib.Core.Bool.{true}
@@ -11,9 +11,9 @@ use Rattle.book.specs.Book.{Sizes}
 use Rattle.book.specs.Layout.{bookSize}
 use Rattle.book.specs.Form.{sizesOk}
 use Rattle.book.proofs.Holding.{bounds-ok}
-use Rattle.engine.proofs.FormatExits.{format-sizes, format-length, format-done}
-use Rattle.engine.proofs.format.aspen_format.Statement.{statement}
-use Rattle.engine.proofs.format.aspen_format.Tie as tie
+use Rattle.setup.proofs.FormatExits.{format-sizes, format-length, format-done}
+use Rattle.setup.proofs.format.format.Statement.{statement}
+use Rattle.setup.proofs.format.format.Tie as tie
 
 -- the sizes that were given
 abbrev start : tie.Else1 → tie.Start
@@ -50,7 +50,7 @@ returns-3 c =
     let k = d .before .before in
     format-done _ (given (start k)) (sizes k) (fits d) (c .before .before .format .ensures)
 
-pub aspen-format-spec : {M : Type 1} → statement M
-aspen-format-spec =
+pub format-spec : {M : Type 1} → statement M
+format-spec =
     tie.close (tie.spec (λ c κs. search needs) returns (λ c κs. search needs) returns-2 format-requires
     (λ c. search needs) returns-3)

@@ -1,4 +1,4 @@
--- `engine::enrol::aspen_enrol` meets its contract: each way out is one of the definition.
+-- `setup::enrol::enrol` meets its contract: each way out is one of the definition.
 use mathlib.Core.Path.{_≡_, refl, sym, _∙_}
 use denote.Ref.{now}
 use borrow.Author.Needs.{needs}
@@ -7,9 +7,9 @@ use Rattle.book.specs.Form.{formNumber}
 use Rattle.book.proofs.FormBytes.{holds-form}
 use Rattle.model.specs.Enrol.{enrolNumber}
 use Rattle.model.proofs.agreement.EnrolAgree.{enrol-volume}
-use Rattle.engine.proofs.EnrolExits.{enrol-misformed, enrol-refused, enrol-done}
-use Rattle.engine.proofs.enrol.aspen_enrol.Statement.{statement}
-use Rattle.engine.proofs.enrol.aspen_enrol.Tie as tie
+use Rattle.setup.proofs.EnrolExits.{enrol-misformed, enrol-refused, enrol-done}
+use Rattle.setup.proofs.enrol.enrol.Statement.{statement}
+use Rattle.setup.proofs.enrol.enrol.Tie as tie
 
 abbrev start : tie.Else1 → tie.Start
 start c = c .before .before .before .before
@@ -47,7 +47,7 @@ returns-3 c =
     let d = c .before .before .before .before in
     enrol-done _ _ _ (formed (d .before .before .before)) (allowed d) (c .before .before .set-retention .ensures)
 
-pub aspen-enrol-spec : {M : Type 1} → statement M
-aspen-enrol-spec =
+pub enrol-spec : {M : Type 1} → statement M
+enrol-spec =
     tie.close (tie.spec (λ c κs. search needs) (λ c. search needs) returns enrol-number-requires (λ c. search needs)
     returns-2 set-retention-requires (λ c. search needs) returns-3)

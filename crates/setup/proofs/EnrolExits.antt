@@ -18,7 +18,7 @@ use Rattle.book.proofs.Holding.{bytes-is}
 use Rattle.model.specs.Days.{badRetention}
 use Rattle.model.specs.Enrol.{enrolNumber, enrol}
 use Rattle.model.specs.OnBytes.{enrolBytes}
-use Rattle.engine.specs.Contracts.{Enrolled}
+use Rattle.setup.specs.Contracts.{Enrolled}
 
 -- ---- numbers 5 and 6
 
