@@ -78,21 +78,6 @@ backupBytes b pool spare v t list =
     (unless (spareNumber b spare)
     (andThen (backup (bookOf b) pool v t list) (λ d. accepted (backedBytes d)))))
 
-abbrev pub backedBook : Outcome BackedBytes → List ℕ → List ℕ
-backedBook o b = after (λ d. d .book) o b
-
-abbrev pub backedPool : Outcome BackedBytes → List ℕ → List ℕ
-backedPool o b = after (λ d. d .pool) o b
-
-abbrev pub backedNumber : Outcome BackedBytes → ℕ → ℕ
-backedNumber o k = after (λ d. d .number) o k
-
-abbrev pub backedTaken : Outcome BackedBytes → ℕ → ℕ
-backedTaken o k = after (λ d. d .taken) o k
-
-abbrev pub backedTouched : Outcome BackedBytes → ℕ → ℕ
-backedTouched o k = after (λ d. d .touched) o k
-
 -- ---- collect
 
 pub record CollectedBytes : Type 0 where
@@ -104,12 +89,6 @@ collectedBytes d = record { book = bytes (d .book); freed = d .freed }
 
 unfoldable pub collectBytes : List ℕ → ℕ → Outcome CollectedBytes
 collectBytes b t = unless (formNumber b) (andThen (collect (bookOf b) t) (λ d. accepted (collectedBytes d)))
-
-abbrev pub collectedBook : Outcome CollectedBytes → List ℕ → List ℕ
-collectedBook o b = after (λ d. d .book) o b
-
-abbrev pub collectedFreed : Outcome CollectedBytes → ℕ → ℕ
-collectedFreed o k = after (λ d. d .freed) o k
 
 -- ---- read
 
