@@ -1,4 +1,4 @@
--- When bytes are a book in form (document 01, "A book is in form when"; numbers 1 and 2). Its clauses, in its order:
+-- When bytes are a book in form, or well-formed (document 01, "A book is in form when"; numbers 1 and 2). Its clauses, in its order:
 --   header numbers are in range: layout number and sizes        layoutOk (number 1; the others are number 2)
 --   B ≤ S, U ≤ J                                                rawOk
 --   day ≤ 60,000, cursor < N                                    bookOk

@@ -1,4 +1,4 @@
--- What a call knows of a book in form, in facts: the tests of Form.antt, clause by clause.
+-- What a call knows of a book in form (the representation invariant), in facts: the tests of Form.antt, clause by clause.
 use Prim.Native.Nat.{ℕ, _<_, _≤_}
 use mathlib.Core.Path.{_≡_}
 use mathlib.Core.List.{List}

@@ -1,4 +1,4 @@
--- The layout of a book in bytes (document 01, "The book"), read and written.
+-- The layout of a book in bytes (document 01, "The book"): `bytes` writes it, `bookOf` (the abstraction function) reads it.
 use Prim.Native.Nat.{ℕ, _+_, _*_, _≤_, _/_, _%_}
 use mathlib.Core.Path.{_≡_}
 use mathlib.Core.Bool.{Bool}

@@ -7,102 +7,88 @@ use Rattle.words.specs.Blocks.{unmapped}
 use Rattle.book.specs.Book.{volumes, Sizes, Entry, Slot, Rec, Book, noPrint, freeEntry, entryAt}
 
 unfoldable pub withDay : ℕ → Book → Book
-withDay d x =
-    record {
-      sizes = x .sizes;
-      day = d;
-      cursor = x .cursor;
-      retentions = x .retentions;
-      entries = x .entries;
-      maps
-          = x .maps;
-      slots = x .slots;
-      records = x .records;
-    }
+withDay d x = record {
+  sizes = x .sizes;
+  day = d;
+  cursor = x .cursor;
+  retentions = x .retentions;
+  entries = x .entries;
+  maps = x .maps;
+  slots = x .slots;
+  records = x .records;
+}
 
 unfoldable pub withCursor : ℕ → Book → Book
-withCursor c x =
-    record {
-      sizes = x .sizes;
-      day = x .day;
-      cursor = c;
-      retentions = x .retentions;
-      entries = x .entries;
-      maps
-          = x .maps;
-      slots = x .slots;
-      records = x .records;
-    }
+withCursor c x = record {
+  sizes = x .sizes;
+  day = x .day;
+  cursor = c;
+  retentions = x .retentions;
+  entries = x .entries;
+  maps = x .maps;
+  slots = x .slots;
+  records = x .records;
+}
 
 unfoldable pub withRetention : ℕ → ℕ → Book → Book
-withRetention v r x =
-    record {
-      sizes = x .sizes;
-      day = x .day;
-      cursor = x .cursor;
-      retentions = set (x .retentions) v r;
-      entries
-          = x .entries;
-      maps = x .maps;
-      slots = x .slots;
-      records = x .records;
-    }
+withRetention v r x = record {
+  sizes = x .sizes;
+  day = x .day;
+  cursor = x .cursor;
+  retentions = set (x .retentions) v r;
+  entries = x .entries;
+  maps = x .maps;
+  slots = x .slots;
+  records = x .records;
+}
 
 unfoldable pub withEntries : List Entry → Book → Book
-withEntries es x =
-    record {
-      sizes = x .sizes;
-      day = x .day;
-      cursor = x .cursor;
-      retentions = x .retentions;
-      entries = es;
-      maps
-          = x .maps;
-      slots = x .slots;
-      records = x .records;
-    }
+withEntries es x = record {
+  sizes = x .sizes;
+  day = x .day;
+  cursor = x .cursor;
+  retentions = x .retentions;
+  entries = es;
+  maps = x .maps;
+  slots = x .slots;
+  records = x .records;
+}
 
 unfoldable pub withMaps : List (List ℕ) → Book → Book
-withMaps ms x =
-    record {
-      sizes = x .sizes;
-      day = x .day;
-      cursor = x .cursor;
-      retentions = x .retentions;
-      entries = x .entries;
-      maps
-          = ms;
-      slots = x .slots;
-      records = x .records;
-    }
+withMaps ms x = record {
+  sizes = x .sizes;
+  day = x .day;
+  cursor = x .cursor;
+  retentions = x .retentions;
+  entries = x .entries;
+  maps = ms;
+  slots = x .slots;
+  records = x .records;
+}
 
 unfoldable pub withSlot : Slot → Book → Book
-withSlot t x =
-    record {
-      sizes = x .sizes;
-      day = x .day;
-      cursor = x .cursor;
-      retentions = x .retentions;
-      entries = x .entries;
-      maps
-          = x .maps;
-      slots = x .slots ++ (t ∷ []);
-      records = x .records;
-    }
+withSlot t x = record {
+  sizes = x .sizes;
+  day = x .day;
+  cursor = x .cursor;
+  retentions = x .retentions;
+  entries = x .entries;
+  maps = x .maps;
+  slots = x .slots ++ (t ∷ []);
+  records = x .records;
+}
 
 unfoldable pub withRecord : Rec → Book → Book
-withRecord r x =
-    record {
-      sizes = x .sizes;
-      day = x .day;
-      cursor = x .cursor;
-      retentions = x .retentions;
-      entries = x .entries;
-      maps
-          = x .maps;
-      slots = x .slots;
-      records = x .records ++ (r ∷ []);
-    }
+withRecord r x = record {
+  sizes = x .sizes;
+  day = x .day;
+  cursor = x .cursor;
+  retentions = x .retentions;
+  entries = x .entries;
+  maps = x .maps;
+  slots = x .slots;
+  records = x .records ++ (r ∷ []);
+}
 
 -- an entry with one thing changed
 unfoldable pub countAs : ℕ → Entry → Entry

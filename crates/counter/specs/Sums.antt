@@ -1,5 +1,5 @@
--- What is counted of a book (document 01, "the program tally"): "blocks", "held", "free", "waiting is held with count 0", "references sums the
--- counts".
+-- What is counted of a book (document 01, "the program tally"): "blocks", "held", "free", "waiting is held with count 0",
+-- "references sums the counts".
 use Prim.Native.Nat.{ℕ}
 use mathlib.Core.Bool.{_&&_}
 use mathlib.Core.List.{List, map}

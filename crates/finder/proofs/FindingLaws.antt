@@ -7,7 +7,7 @@ use mathlib.Core.List.{List}
 use mathlib.Core.Option.{Option, none, some}
 use native.Mathlib.Omega.{arith}
 use lib.ListN.{length, getD}
-use Rattle.words.proofs.Found.{place-found}
+use Rattle.words.proofs.FoundPlaces.{place-found}
 use Rattle.words.specs.Lists.{placeFrom, same}
 use Rattle.book.specs.Book.{Entry, freeEntry, entryAt}
 use Rattle.model.specs.Backup.{findHeld}

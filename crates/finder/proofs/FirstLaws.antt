@@ -13,7 +13,7 @@ use lib.Seq.{getD-drop}
 use borrow.Author.Tests.{eq-eqb, ne-eqb}
 use Rattle.words.specs.Choice.{if_then_else_}
 use Rattle.words.proofs.ChoiceLaws.{not-both}
-use Rattle.words.proofs.Found.{place-found, place-first, place-none}
+use Rattle.words.proofs.FoundPlaces.{place-found, place-first, place-none}
 use Rattle.words.specs.Lists.{someOf, placeFrom}
 use Rattle.finder.specs.First.{placeOr, firstFrom}
 

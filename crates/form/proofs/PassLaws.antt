@@ -129,8 +129,7 @@ module _ (b : List ℕ) (len : length b ≡ bookSize (sizesOf b)) where
         records = r .records;
         day = p .day;
         cursor = p .cursor;
-        spare
-            = r .spare;
+        spare = r .spare;
       }) in
       let entries =
       sym (entries-pass b) ∙ true-and (all (stateOk b) (upFrom 0 (num b nOffset))) (all entryOk (bookOf b .entries))

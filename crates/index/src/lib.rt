@@ -1,4 +1,5 @@
-// The index of a book's held blocks, which lives for one call: built, kept while blocks become held, and asked whether a fingerprint is its own.
+// The index of a book's held blocks, which lives for one call: built, kept while blocks become held, and asked whether
+// a fingerprint is its own.
 mod inserting;
 mod linking;
 

@@ -9,7 +9,7 @@ use lib.ListN.{length, take, drop, length-take, length-drop}
 use lib.Seq.{getD-take, getD-drop}
 use borrow.Author.Tests.{not-true}
 use Rattle.words.proofs.ChoiceLaws.{and-true}
-use Rattle.words.proofs.Found.{place-found}
+use Rattle.words.proofs.FoundPlaces.{place-found}
 use Rattle.words.specs.Lists.{orElse, same, placeFrom}
 use Rattle.words.specs.declared.PBN.{PBN}
 use Rattle.book.specs.Book.{Entry, freeEntry, entryAt, isFree}

@@ -31,8 +31,7 @@ record-taken i a b e f g h =
     record {
       test = rw (← (i .lbn), ← (i .before)) (rw (a, f, h));
       cells = rw (← (i .lbn), ← (i .after)) b;
-      expiries
-          = rw (← (i .before)) e;
+      expiries = rw (← (i .before)) e;
       stamps = rw (← (i .lbn)) g;
     }
 

@@ -11,19 +11,19 @@ use Rattle.words.specs.Lists.{placeFrom}
 
 module _ {A : Type 0} (f : A → Bool) (d : A) where
   -- p is the place of an element that passes, where the list's own first place is i
-  pub record Found (i : ℕ) (xs : List A) (p : ℕ) : Type 0 where
+  pub record PlaceFound (i : ℕ) (xs : List A) (p : ℕ) : Type 0 where
     pub index : ℕ
     pub place : p ≡ i + index
     pub inside : index < length xs
     pub passes : f (getD xs index d) ≡ true
 
-  pub place-found : (i : ℕ) (xs : List A) (p : ℕ) → placeFrom i f xs ≡ some p → Found i xs p
+  pub place-found : (i : ℕ) (xs : List A) (p : ℕ) → placeFrom i f xs ≡ some p → PlaceFound i xs p
   place-found i [] p e = absurd (let z : _≡_ {A = ℕ} 0 1 = cc in omega arith)
   place-found i (x ∷ xs) p e = go (f x) refl e (place-found (suc i) xs p)
     where
       go : (t : Bool) → f x ≡ t → (if t then some i else placeFrom (suc i) f xs) ≡ some p
-          → (placeFrom (suc i) f xs ≡ some p → Found (suc i) xs p)
-          → Found i (x ∷ xs) p
+          → (placeFrom (suc i) f xs ≡ some p → PlaceFound (suc i) xs p)
+          → PlaceFound i (x ∷ xs) p
       go true h e′ next = let q : i ≡ p = cc in record { index = 0; place = omega arith; inside = omega arith; passes = h }
       go false h e′ next =
           let r = next e′ in

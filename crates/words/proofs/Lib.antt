@@ -9,7 +9,7 @@ pub mod Runs
 pub mod Parts
 pub mod Pieces
 pub mod Counting
-pub mod Found
+pub mod FoundPlaces
 pub mod SetLaws
 pub mod Sums
 pub mod Tests

@@ -1,4 +1,4 @@
--- Where our book and pool and the plain store stand alike: what every call keeps.
+-- Where our book and pool and the plain store stand alike (the abstraction relation): what every call keeps.
 use Prim.Native.Nat.{ℕ, _+_, _<_}
 use mathlib.Core.Path.{_≡_}
 use mathlib.Core.Bool.{Bool, true, false, _&&_}

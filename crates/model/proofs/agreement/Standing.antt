@@ -1,4 +1,5 @@
--- Our book and pool stand where the plain store stands, and every call keeps them so: one call, and lists of calls.
+-- Our book and pool stand where the plain store stands, and every call keeps them so: one call, and lists of calls (a simulation,
+-- in lock step).
 use Prim.Native.Nat.{ℕ, zero, suc, _≤_}
 use mathlib.Core.Path.{_≡_, refl, sym, ap, ap₂, _∙_}
 use mathlib.Core.Bool.{Bool, true, false, not, _||_}

@@ -11,7 +11,7 @@ use lib.ListN.{length, getD, take, drop, length-take, length-drop}
 use lib.Seq.{getD-take, getD-drop}
 use borrow.Author.Tests.{not-true, not-false, le-leb, lt-leb}
 use Rattle.words.proofs.ChoiceLaws.{and-true, not-both}
-use Rattle.words.proofs.Found.{place-found, place-first, place-none}
+use Rattle.words.proofs.FoundPlaces.{place-found, place-first, place-none}
 use Rattle.words.specs.Lists.{placeFrom, orElse, same}
 use Rattle.words.proofs.Same.{same-equal, same-self}
 use Rattle.book.specs.Book.{Entry, entryAt, freeEntry, isFree}

@@ -12,7 +12,7 @@ use borrow.Author.Tests.{eqb-true, eqb-false}
 use Rattle.words.specs.Choice.{if_then_else_}
 use Rattle.words.specs.Lists.{placeFrom, orElse, same}
 use Rattle.words.proofs.Same.{same-equal}
-use Rattle.words.proofs.Found.{place-found}
+use Rattle.words.proofs.FoundPlaces.{place-found}
 use Rattle.words.specs.Outcome.{refused, accepted}
 use Rattle.runs.specs.Changes.{Change}
 use Rattle.model.specs.Plain.{Block, free, held, isFree, bytesOf}

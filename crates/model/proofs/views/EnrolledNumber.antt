@@ -15,7 +15,7 @@ use Rattle.model.specs.Journal.{noVolume}
 use Rattle.model.specs.Views.{enrolledNumber}
 
 -- a book in form has the volume enrolled
-pub record Enrolled (b : List ℕ) (v : ℕ) : Type 0 where
+pub record IsEnrolled (b : List ℕ) (v : ℕ) : Type 0 where
   pub form : formNumber b ≡ 0
   pub inside : v < volumes
   pub retained : retentionOf (bookOf b) v ≡ 0 → ⊥
@@ -43,12 +43,12 @@ module _ (b : List ℕ) (v : ℕ) where
     unfolding enrolledNumber noVolume
     enrolled-passed h n = rw (f, le-ltb 7 v h, ne-eqb (retentionOf (bookOf b) v) 0 n)
 
-  pub passed-enrolled : enrolledNumber b v ≡ 0 → Enrolled b v
+  pub passed-enrolled : enrolledNumber b v ≡ 0 → IsEnrolled b v
   unfolding enrolledNumber noVolume
   passed-enrolled = go (eqb (formNumber b) 0) (ltb 7 v) (eqb (retentionOf (bookOf b) v) 0) refl refl refl
     where
       go : (f a n : Bool) → eqb (formNumber b) 0 ≡ f → ltb 7 v ≡ a → eqb (retentionOf (bookOf b) v) 0 ≡ n
-          → (if f then (if a || not (not n) then 5 else 0) else formNumber b) ≡ 0 → Enrolled b v
+          → (if f then (if a || not (not n) then 5 else 0) else formNumber b) ≡ 0 → IsEnrolled b v
       go true false false ef ea en e = record {
         form = eqb-true (formNumber b) 0 ef;
         inside = omega (arith, ltb-false 7 v ea);
