@@ -1,4 +1,1 @@
-pub mod Blocks
-pub mod AnswersLaid
-pub mod Doing
 pub mod FreshList

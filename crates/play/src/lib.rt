@@ -1,5 +1,4 @@
 // Lists of calls in bytes (docs/FORMAT.md), checked as a whole and then played through the exported functions; their
 // answers are written in bytes.
-mod answering;
 pub mod fresh;
 pub mod playing;

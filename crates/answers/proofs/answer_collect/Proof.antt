@@ -1,8 +1,8 @@
--- `play::answering::answer_collect` meets its contract.
+-- `answers::answer_collect` meets its contract.
 use borrow.Author.Needs.{needs}
-use Rattle.play.proofs.Doing.{collect-refused, collect-done}
-use Rattle.play.proofs.answering.answer_collect.Statement.{statement}
-use Rattle.play.proofs.answering.answer_collect.Tie as tie
+use Rattle.answers.proofs.Doing.{collect-refused, collect-done}
+use Rattle.answers.proofs.answer_collect.Statement.{statement}
+use Rattle.answers.proofs.answer_collect.Tie as tie
 
 returns : tie.Need-returns
 returns c spare pool =

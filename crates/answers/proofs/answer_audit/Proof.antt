@@ -1,8 +1,8 @@
--- `play::answering::answer_audit` meets its contract.
+-- `answers::answer_audit` meets its contract.
 use borrow.Author.Needs.{needs}
-use Rattle.play.proofs.Doing.{audit-refused, audit-done}
-use Rattle.play.proofs.answering.answer_audit.Statement.{statement}
-use Rattle.play.proofs.answering.answer_audit.Tie as tie
+use Rattle.answers.proofs.Doing.{audit-refused, audit-done}
+use Rattle.answers.proofs.answer_audit.Statement.{statement}
+use Rattle.answers.proofs.answer_audit.Tie as tie
 
 returns : tie.Need-returns
 returns c spare pool =

@@ -1,13 +1,13 @@
--- `play::answering::answer_read` meets its contract.
+-- `answers::answer_read` meets its contract.
 use mathlib.Core.Path.{_∙_}
 use native.Mathlib.Omega.{arith}
 use lib.ListN.{length-set}
 use borrow.Author.Needs.{needs}
-use Rattle.play.proofs.Blocks.{located-inside}
-use Rattle.play.proofs.Doing.{read-refused, read-done}
-use Rattle.play.proofs.AnswersLaid.{lent-length}
-use Rattle.play.proofs.answering.answer_read.Statement.{statement}
-use Rattle.play.proofs.answering.answer_read.Tie as tie
+use Rattle.answers.proofs.Blocks.{located-inside}
+use Rattle.answers.proofs.Doing.{read-refused, read-done}
+use Rattle.answers.proofs.AnswersLaid.{lent-length}
+use Rattle.answers.proofs.answer_read.Statement.{statement}
+use Rattle.answers.proofs.answer_read.Tie as tie
 
 returns : tie.Need-returns
 returns c spare =

@@ -1,11 +1,11 @@
--- `play::answering::tell` meets its contract.
+-- `answers::tell` meets its contract.
 use mathlib.Core.Path.{_∙_}
 use native.Mathlib.Omega.{arith}
 use lib.ListN.{length-set}
 use borrow.Author.Needs.{needs}
-use Rattle.play.proofs.AnswersLaid.{answered}
-use Rattle.play.proofs.answering.tell.Statement.{statement}
-use Rattle.play.proofs.answering.tell.Tie as tie
+use Rattle.answers.proofs.AnswersLaid.{answered}
+use Rattle.answers.proofs.tell.Statement.{statement}
+use Rattle.answers.proofs.tell.Tie as tie
 
 put-u16-requires : tie.Need-put-u16-requires
 put-u16-requires c κs = rw length-set (omega arith)

@@ -1,8 +1,8 @@
--- `play::answering::answer_enrol` meets its contract.
+-- `answers::answer_enrol` meets its contract.
 use borrow.Author.Needs.{needs}
-use Rattle.play.proofs.Doing.{enrol-did}
-use Rattle.play.proofs.answering.answer_enrol.Statement.{statement}
-use Rattle.play.proofs.answering.answer_enrol.Tie as tie
+use Rattle.answers.proofs.Doing.{enrol-did}
+use Rattle.answers.proofs.answer_enrol.Statement.{statement}
+use Rattle.answers.proofs.answer_enrol.Tie as tie
 
 returns : tie.Need-returns
 returns c spare pool =

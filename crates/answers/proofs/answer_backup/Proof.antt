@@ -1,12 +1,12 @@
--- `play::answering::answer_backup` meets its contract.
+-- `answers::answer_backup` meets its contract.
 use mathlib.Core.Path.{_∙_}
 use native.Mathlib.Omega.{arith}
 use lib.ListN.{length-set}
 use borrow.Author.Needs.{needs}
-use Rattle.play.proofs.Doing.{backup-refused, backup-done}
-use Rattle.play.proofs.AnswersLaid.{answered-three}
-use Rattle.play.proofs.answering.answer_backup.Statement.{statement}
-use Rattle.play.proofs.answering.answer_backup.Tie as tie
+use Rattle.answers.proofs.Doing.{backup-refused, backup-done}
+use Rattle.answers.proofs.AnswersLaid.{answered-three}
+use Rattle.answers.proofs.answer_backup.Statement.{statement}
+use Rattle.answers.proofs.answer_backup.Tie as tie
 
 -- before the answers were lent to the call
 abbrev unlent : tie.After-aspen-backup → tie.After-aspen-backup-arg3

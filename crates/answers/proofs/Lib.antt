@@ -1,0 +1,3 @@
+pub mod Blocks
+pub mod AnswersLaid
+pub mod Doing
