@@ -1,6 +1,6 @@
 -- Laws of specs/Counts.antt.
 -- A count for each block of the pool, gathered cell by cell.
-use Prim.Native.Nat.{ℕ, suc, _+_, _≤_, _<_}
+use Prim.Native.Nat.{ℕ, _+_, _≤_, _<_}
 use mathlib.Core.Path.{_≡_, refl, sym, ap, _∙_}
 use mathlib.Core.Bool.{Bool, true, false}
 use mathlib.Core.List.{List, [], _∷_, _++_, append-nil}
@@ -13,6 +13,7 @@ use borrow.Author.Tests.{eqb-true, ne-eqb}
 use Rattle.words.proofs.Appends.{countOf-append, joined-append}
 use Rattle.words.specs.Blocks.{unmapped}
 use Rattle.words.specs.Choice.{if_then_else_}
+use Rattle.words.proofs.Counting.{count-most}
 use Rattle.words.proofs.Each.{all-each}
 use Rattle.words.specs.Lists.{all, countOf, joined, upFrom}
 use Rattle.words.proofs.SetLaws.{getD-set}
@@ -69,17 +70,9 @@ counted-rows {b} f c =
     let whole : take volumes (bookOf b .maps) ≡ bookOf b .maps = take-all volumes (bookOf b .maps) (omega (arith, f .holds .sized .maps)) in
     rw whole at c
 
-pub countOf-le : {A : Type 0} (f : A → Bool) (xs : List A) → countOf f xs ≤ length xs
-countOf-le f [] = omega arith
-countOf-le f (x ∷ xs) = go (f x) (countOf-le f xs)
-  where
-    go : (t : Bool) → countOf f xs ≤ length xs → (if t then suc (countOf f xs) else countOf f xs) ≤ suc (length xs)
-    go true ih = omega arith
-    go false ih = omega arith
-
 -- no counter has more than the cells counted
 pub counted-le : {a cs a′ : List ℕ} (k p : ℕ) → p < poolBlocks → getD a p 0 ≤ k → Counted a cs a′ → getD a′ p 0 ≤ k + length cs
-counted-le {a} {cs} k p h b f = omega (arith, f .at p h, countOf-le (eqb p) cs)
+counted-le {a} {cs} k p h b f = omega (arith, f .at p h, count-most (eqb p) cs)
 
 -- ---- "each count is the number of map cells naming the block"
 

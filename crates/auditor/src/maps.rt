@@ -3,7 +3,6 @@ ghost use mathlib.Core.List.{[], _∷_};
 ghost use Prim.Native.Nat.{_*_, _<_};
 ghost use lib.ListN.{getD};
 ghost use Rattle.book.specs.Book.{volumes};
-ghost use Rattle.book.specs.Layout.{told};
 ghost use Rattle.book.specs.FormFacts.{FormFacts};
 ghost use Rattle.auditor.specs.Passes.{TakesRow, TakesMaps};
 ghost use Rattle.auditor.specs.Counts.{Counted};

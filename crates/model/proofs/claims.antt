@@ -4,7 +4,6 @@ pub mod BackupCounts
 pub mod CollectLaws
 pub mod AuditMeans
 pub mod CollectTwice
-pub mod BackupBounds
 pub mod Proved
 pub mod PowerCut
 pub mod ReadPlaces

@@ -7,6 +7,9 @@ use Rattle.words.specs.Outcome.{Outcome, refused, accepted, andThen, unl
 pub refused-not : {A : Type 0} (k : ℕ) (a : A) → refused k ≡ accepted a → ⊥
 refused-not k a e = let z : _≡_ {A = ℕ} 0 1 = cc in omega arith
 
+pub accepted-same : {A : Type 0} (a b : A) → accepted a ≡ accepted b → a ≡ b
+accepted-same a b e = cc
+
 module _ {A : Type 0} where
   pub unless-accepted : (k : ℕ) (o : Outcome A) (a : A) → unless k o ≡ accepted a → (k ≡ 0) × (o ≡ accepted a)
   unless-accepted zero o a e = (refl, e)

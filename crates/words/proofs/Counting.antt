@@ -1,5 +1,5 @@
--- How many elements pass a test, after a store.
-use Prim.Native.Nat.{ℕ, zero, suc, _+_, _<_}
+-- How many elements pass a test: at most all, and after a store.
+use Prim.Native.Nat.{ℕ, zero, suc, _+_, _≤_, _<_}
 use mathlib.Core.Path.{_≡_, refl}
 use mathlib.Core.Bool.{Bool, true, false}
 use mathlib.Core.List.{List, [], _∷_}
@@ -17,6 +17,14 @@ module _ {A : Type 0} (f : A → Bool) where
       go : (t : Bool) → (if t then suc (countOf f xs) else countOf f xs) ≡ bit t + countOf f xs
       go true = omega arith
       go false = omega arith
+
+  pub count-most : (l : List A) → countOf f l ≤ length l
+  count-most [] = omega arith
+  count-most (x ∷ l) = omega (arith, count-cons x l, count-most l, bit-most (f x))
+    where
+      bit-most : (t : Bool) → bit t ≤ 1
+      bit-most true = omega arith
+      bit-most false = omega arith
 
   -- what the new element adds, the old one takes
   pub count-set : (l : List A) (i : ℕ) (b d : A) → i < length l → countOf f (set l i b) + bit (f (getD l i d)) ≡ countOf f l + bit (f b)

@@ -1,11 +1,12 @@
 -- What it says that a first place was found, or none.
 use Prim.Native.Nat.{ℕ, zero, suc, _+_, _<_}
-use mathlib.Core.Path.{_≡_, refl}
+use mathlib.Core.Path.{_≡_, refl, sym}
 use mathlib.Core.Bool.{Bool, true, false}
 use mathlib.Core.List.{List, [], _∷_}
 use mathlib.Core.Option.{none, some}
 use native.Mathlib.Omega.{arith}
 use lib.ListN.{length, getD}
+use Rattle.words.proofs.Options.{none-not, some-same}
 use Rattle.words.specs.Choice.{if_then_else_}
 use Rattle.words.specs.Lists.{placeFrom}
 
@@ -18,26 +19,26 @@ module _ {A : Type 0} (f : A → Bool) (d : A) where
     pub passes : f (getD xs index d) ≡ true
 
   pub place-found : (i : ℕ) (xs : List A) (p : ℕ) → placeFrom i f xs ≡ some p → PlaceFound i xs p
-  place-found i [] p e = absurd (let z : _≡_ {A = ℕ} 0 1 = cc in omega arith)
+  place-found i [] p e = absurd (none-not p e)
   place-found i (x ∷ xs) p e = go (f x) refl e (place-found (suc i) xs p)
     where
       go : (t : Bool) → f x ≡ t → (if t then some i else placeFrom (suc i) f xs) ≡ some p
           → (placeFrom (suc i) f xs ≡ some p → PlaceFound (suc i) xs p)
           → PlaceFound i (x ∷ xs) p
-      go true h e′ next = let q : i ≡ p = cc in record { index = 0; place = omega arith; inside = omega arith; passes = h }
+      go true h e′ next = let q = some-same i p e′ in record { index = 0; place = omega arith; inside = omega arith; passes = h }
       go false h e′ next =
           let r = next e′ in
           record { index = suc (r .index); place = omega arith; inside = omega arith; passes = r .passes }
 
   -- no element before the place that was found passes
   pub place-first : (i : ℕ) (xs : List A) (p : ℕ) → placeFrom i f xs ≡ some p → (j : ℕ) → i + j < p → f (getD xs j d) ≡ false
-  place-first i [] p e j h = absurd (let z : _≡_ {A = ℕ} 0 1 = cc in omega arith)
+  place-first i [] p e j h = absurd (none-not p e)
   place-first i (x ∷ xs) p e j h = go (f x) refl e (place-first (suc i) xs p) j h
     where
       go : (t : Bool) → f x ≡ t → (if t then some i else placeFrom (suc i) f xs) ≡ some p
           → (placeFrom (suc i) f xs ≡ some p → (j : ℕ) → suc i + j < p → f (getD xs j d) ≡ false)
           → (j : ℕ) → i + j < p → f (getD (x ∷ xs) j d) ≡ false
-      go true k e′ next j h = let q : i ≡ p = cc in absurd (omega arith)
+      go true k e′ next j h = let q = some-same i p e′ in absurd (omega arith)
       go false k e′ next zero h = k
       go false k e′ next (suc j) h = next e′ j (omega arith)
 
@@ -49,6 +50,6 @@ module _ {A : Type 0} (f : A → Bool) (d : A) where
       go : (t : Bool) → f x ≡ t → (if t then some i else placeFrom (suc i) f xs) ≡ none
           → (placeFrom (suc i) f xs ≡ none → (j : ℕ) → j < length xs → f (getD xs j d) ≡ false)
           → (j : ℕ) → j < suc (length xs) → f (getD (x ∷ xs) j d) ≡ false
-      go true k e′ next j h = absurd (let z : _≡_ {A = ℕ} 0 1 = cc in omega arith)
+      go true k e′ next j h = absurd (none-not i (sym e′))
       go false k e′ next zero h = k
       go false k e′ next (suc j) h = next e′ j (omega arith)

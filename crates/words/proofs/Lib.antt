@@ -9,6 +9,7 @@ pub mod Runs
 pub mod Parts
 pub mod Pieces
 pub mod Counting
+pub mod Options
 pub mod FoundPlaces
 pub mod SetLaws
 pub mod Sums

@@ -4,7 +4,7 @@ use Prim.Native.Nat.{ℕ, zero, suc, _+_, _<_}
 use mathlib.Core.Path.{_≡_, refl, sym, ap, subst, _∙_}
 use mathlib.Core.Bool.{false, _&&_}
 use mathlib.Core.List.{List}
-use native.Mathlib.Omega.{arith}
+use Rattle.words.proofs.Accepted.{refused-not, accepted-same}
 use Rattle.words.specs.Lists.{someOf}
 use Rattle.words.specs.Outcome.{Outcome, refused, accepted, andThen, unless}
 use Rattle.runs.specs.Changes.{changes, changeCount, lbns}
@@ -94,10 +94,9 @@ module _ {x : Book} {pool : List ℕ} {q : Plain} (g : Agree x pool q) (v t : �
       go : (o : Outcome Backed) (o′ : Outcome PlainBacked) → BothBacked x q v list o o′ → o ≡ accepted d
           → (isBacked (plainBacked q o′ .answer) && someOf (isOldOrNew q (plainBacked q o′ .next) v p) (lbns list)) ≡ false
           → entryAt (d .book .entries) p ≡ entryAt (x .entries) p
-      go o o′ (stopped k z) f m = absurd (let z : _≡_ {A = ℕ} 0 1 = cc in omega arith)
+      go o o′ (stopped k z) f m = absurd (refused-not k d f)
       go o o′ (backed d′ e′ a) f m =
-          let same : d′ ≡ d = cc in
-          subst (λ (b : Backed). entryAt (b .book .entries) p ≡ entryAt (x .entries) p) same (a .touching p h m)
+          subst (λ (b : Backed). entryAt (b .book .entries) p ≡ entryAt (x .entries) p) (accepted-same d′ d f) (a .touching p h m)
 
   -- never 1 to 4 and never 13
   pub backup-undamaged : (k : ℕ) → backup x pool v t list ≡ refused k → isDamage k ≡ false
@@ -105,4 +104,4 @@ module _ {x : Book} {pool : List ℕ} {q : Plain} (g : Agree x pool q) (v t : �
     where
       go : (o : Outcome Backed) (o′ : Outcome PlainBacked) → BothBacked x q v list o o′ → o ≡ refused k → isDamage k ≡ false
       go o o′ (stopped j z) f = let same : j ≡ k = cc in sym (ap isDamage same) ∙ z
-      go o o′ (backed d′ e′ a) f = absurd (let z : _≡_ {A = ℕ} 0 1 = cc in omega arith)
+      go o o′ (backed d′ e′ a) f = absurd (refused-not k d′ (sym f))

@@ -8,6 +8,7 @@ use native.Mathlib.Omega.{arith}
 use lib.ListN.{length, set}
 use Rattle.words.specs.Choice.{if_then_else_}
 use Rattle.words.proofs.ChoiceLaws.{and-true, true-and, same-test}
+use Rattle.words.proofs.Options.{none-not}
 use Rattle.words.specs.Lists.{all, those, placeFrom, same, differ}
 use Rattle.words.proofs.Same.{same-self, same-equal}
 use Rattle.book.specs.Book.{Entry, Book, entryAt}
@@ -49,7 +50,7 @@ none-head : (f : List ℕ) (e : Entry) (i : ℕ) (es : List Entry) → placeFrom
 none-head f e i es h = go (hasIt f e) h
   where
     go : (t : Bool) → (if t then some i else placeFrom (suc i) (hasIt f) es) ≡ none → (t ≡ false) × (placeFrom (suc i) (hasIt f) es ≡ none)
-    go true k = absurd (let z : _≡_ {A = ℕ} 0 1 = cc in omega arith)
+    go true k = absurd (none-not i (sym k))
     go false k = (refl, k)
 
 none-all : (f : List ℕ) (i : ℕ) (es : List Entry) → placeFrom i (hasIt f) es ≡ none → all (λ y. not (same f y)) (printsOf es) ≡ true

@@ -1,6 +1,6 @@
 -- What the numbers in a backup's answer count: blocks that became held, and changes with those that had a before. Of every book, in form or
 -- not.
-use Prim.Native.Nat.{ℕ, _+_}
+use Prim.Native.Nat.{ℕ, _+_, _*_, _≤_}
 use mathlib.Core.Path.{_≡_, refl, sym, ap, subst, _∙_}
 use mathlib.Core.Bool.{Bool, true, false, not}
 use mathlib.Core.List.{List, [], _∷_, _++_, append-nil, append-assoc}
@@ -9,12 +9,12 @@ use native.Mathlib.Omega.{arith}
 use lib.Dec.{eqb}
 use lib.ListN.{length, set, drop, length-append}
 use lib.Seq.{drop-append-seam}
-use Rattle.words.proofs.Accepted.{unless-accepted, then-accepted, refused-not}
+use Rattle.words.proofs.Accepted.{unless-accepted, then-accepted, refused-not, accepted-same}
 use Rattle.words.proofs.Appends.{countOf-append}
 use Rattle.words.specs.Blocks.{unmapped}
 use Rattle.words.specs.Choice.{if_then_else_}
 use Rattle.words.specs.Lists.{bit}
-use Rattle.words.proofs.Counting.{count-set, count-set-kept}
+use Rattle.words.proofs.Counting.{count-set, count-set-kept, count-most}
 use Rattle.words.specs.Lists.{countOf, same}
 use Rattle.words.specs.Outcome.{refused, accepted, andThen}
 use Rattle.runs.specs.Changes.{Change, changes, changeCount}
@@ -27,7 +27,7 @@ use Rattle.model.specs.Backup.{raised, nameBlock, moveNumber, moved, mov
 use Rattle.model.specs.Backup.{backup}
 use Rattle.model.specs.Claims.{heldIn}
 use Rattle.model.proofs.claims.FoundBlocks.{free-next}
-use Rattle.model.specs.Claims.{hadBefore, Answered}
+use Rattle.model.specs.Claims.{hadBefore, addedTo, Answered}
 
 -- ---- steps 1 and 2: what they leave of the counts, where the block may have been taken
 
@@ -54,7 +54,7 @@ module _ (c : Change) (w : Work) where
       → placeFree c w o ≡ accepted d → Took w (d .work)
   unfolding placeFree
   free-counted none d f e = absurd (refused-not 12 d e)
-  free-counted (some p) d f e = let q : takeBlock c p w ≡ d .work = cc in subst (Took w) q (take-counted p f)
+  free-counted (some p) d f e = subst (Took w) (ap (λ (d : Placed). d .work) (accepted-same _ d e)) (take-counted p f)
 
   held-counted : (o : Option ℕ) (d : Placed) → placeHeld c w o ≡ accepted d → Took w (d .work)
   unfolding placeHeld
@@ -62,7 +62,7 @@ module _ (c : Change) (w : Work) where
   held-counted (some p) d e = go (same (blockAt (w .pool) p) (c .block)) e
     where
       go : (t : Bool) → (if t then accepted (record { pbn = p; work = w }) else refused 11) ≡ accepted d → Took w (d .work)
-      go true f = took-none w (d .work) (cc)
+      go true f = took-none w (d .work) (ap (λ (d : Placed). d .work) (accepted-same _ d f))
       go false f = absurd (refused-not 11 d f)
 
 -- ---- steps 3 and 4
@@ -109,8 +109,7 @@ module _ (v until lbn : ℕ) (d : Placed) where
   unfolding moveTo
   move-counted w′ e =
       let f = unless-accepted (moveNumber until before (d .pbn) (d .work .book .entries)) (accepted (moved v until lbn before d)) w′ e in
-      let q : moved v until lbn before d ≡ w′ = cc (f .1) in
-      subst (Counted 1 (d .work)) q moved-counted
+      subst (Counted 1 (d .work)) (accepted-same _ w′ (f .1)) moved-counted
 
 change-counted : (v until : ℕ) (c : Change) (w w′ : Work) → changeStep v until c w ≡ accepted w′ → Counted 1 w w′
 unfolding changeStep place
@@ -128,8 +127,7 @@ change-counted v until c w w′ e =
 
 run-counted : (v until : ℕ) (cs : List Change) (w w′ : Work) → runChanges v until cs w ≡ accepted w′ → Counted (length cs) w w′
 run-counted v until [] w w′ e =
-    let q : w ≡ w′ = cc in
-    subst (Counted 0 w) q (record {
+    subst (Counted 0 w) (accepted-same w w′ e) (record {
       added = [];
       records = sym (append-nil (w .book .records));
       changes = refl;
@@ -165,5 +163,12 @@ backup-counted x pool v t list d e =
     let f = unless-accepted (backupNumber x v t list) (andThen o (λ w. accepted (closed x v t (changeCount list) w))) d e in
     let p = then-accepted o (λ w. accepted (closed x v t (changeCount list) w)) d (f .1) in
     let a = run-counted v (t + retentionOf x v) (changes list) (begun x pool) (p .0) (p .1) in
-    let q : closed x v t (changeCount list) (p .0) ≡ d = cc (p .2) in
+    let q = accepted-same (closed x v t (changeCount list) (p .0)) d (p .2) in
     subst (Answered x (changeCount list)) q (closed-counted x pool v t (changeCount list) (p .0) (rw length-changes at a))
+
+-- "so at most 2n"
+pub touched-most : (x : Book) (pool : List ℕ) (v t : ℕ) (list : List ℕ) (d : Backed) → backup x pool v t list ≡ accepted d
+    → d .touched ≤ 2 * changeCount list
+touched-most x pool v t list d e =
+    let a = backup-counted x pool v t list d e in
+    omega (arith, a .changes, a .touched, count-most hadBefore (addedTo x (d .book)))

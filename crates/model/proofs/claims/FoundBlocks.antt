@@ -1,7 +1,7 @@
 -- What steps 1 and 2 find, for any number of blocks: the lowest-numbered held block with the fingerprint, and the free block that is met
 -- first from the cursor up.
 use Prim.Native.Nat.{ℕ, _+_, _-_, _≤_, _<_}
-use mathlib.Core.Path.{_≡_, refl, _∙_}
+use mathlib.Core.Path.{_≡_, refl, sym, _∙_}
 use mathlib.Core.Bool.{Bool, true, false, _&&_}
 use mathlib.Core.List.{List}
 use mathlib.Core.Option.{Option, none, some}
@@ -12,6 +12,7 @@ use lib.Seq.{getD-take, getD-drop}
 use borrow.Author.Tests.{not-true, not-false, le-leb, lt-leb}
 use Rattle.words.proofs.ChoiceLaws.{and-true, not-both}
 use Rattle.words.proofs.FoundPlaces.{place-found, place-first, place-none}
+use Rattle.words.proofs.Options.{none-not, some-same}
 use Rattle.words.specs.Lists.{placeFrom, orElse, same}
 use Rattle.words.proofs.Same.{same-equal, same-self}
 use Rattle.book.specs.Book.{Entry, entryAt, freeEntry, isFree}
@@ -92,7 +93,7 @@ module _ (es : List Entry) (c : ℕ) where
   free-none e q h = go up refl e (decLt q c)
     where
       go : (o : Option ℕ) → up ≡ o → orElse o round ≡ none → Dec (q < c) → entryAt es q .held ≡ true
-      go (some p) f e′ d = absurd (let z : _≡_ {A = ℕ} 0 1 = cc in omega arith)
+      go (some p) f e′ d = absurd (none-not p (sym e′))
       go none f e′ (yes k) = round-none e′ q k h
       go none f e′ (no k) = up-none f q (omega arith) h
 
@@ -134,5 +135,5 @@ module _ (es : List Entry) (c : ℕ) where
   free-next p e = go up refl e
     where
       go : (o : Option ℕ) → up ≡ o → orElse o round ≡ some p → IsNext es c p
-      go (some q) f e′ = let z : q ≡ p = cc in free-up p (rw z at f)
+      go (some q) f e′ = free-up p (rw (some-same q p e′) at f)
       go none f e′ = free-round p f e′

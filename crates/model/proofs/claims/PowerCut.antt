@@ -7,7 +7,8 @@ use mathlib.Core.Option.{some}
 use native.Mathlib.Omega.{arith}
 use lib.ListN.{length, take, drop}
 use lib.Seq.{drop-drop}
-use Rattle.words.proofs.Accepted.{unless-accepted, then-accepted}
+use Rattle.words.proofs.Accepted.{unless-accepted, then-accepted, accepted-same}
+use Rattle.words.proofs.Options.{none-not, some-same}
 use Rattle.words.specs.Blocks.{blockSize}
 use Rattle.words.specs.Choice.{if_then_else_}
 use Rattle.words.specs.Outcome.{Outcome, refused, accepted, andThen}
@@ -93,12 +94,12 @@ unfolding changeStep moveTo moved
 change-grown maps v c w w′ e =
     let p = then-accepted (place c w) (moveTo maps v (c .lbn)) w′ e in
     let m = unless-accepted (moveNumber maps v (c .lbn) (p .0)) (accepted (moved (c .lbn) (p .0))) w′ (p .2) in
-    let same : moved (c .lbn) (p .0) ≡ w′ = cc (m .1) in
+    let same = accepted-same (moved (c .lbn) (p .0)) w′ (m .1) in
     rw (← (ap (λ (w : PlainWork). w .blocks) same)) (place-placed c w (p .0) (p .1) .grown)
 
 run-grown : (maps : List (List ℕ)) (v : ℕ) (cs : List Change) (w w′ : PlainWork) → runChanges maps v cs w ≡ accepted w′
     → Grown (w .blocks) (w′ .blocks)
-run-grown maps v [] w w′ e = let same : w ≡ w′ = cc in rw (← same) (grown-self (w .blocks))
+run-grown maps v [] w w′ e = rw (← (accepted-same w w′ e)) (grown-self (w .blocks))
 run-grown maps v (c ∷ cs) w w′ e =
     let p = then-accepted (changeStep maps v c w) (λ u. runChanges maps v cs u) w′ e in
     grown-then (change-grown maps v c w (p .0) (p .1)) (run-grown maps v cs (p .0) w′ (p .2))
@@ -110,7 +111,7 @@ backup-grown q v t list d e =
     let o = runChanges (currentMaps q) v (changes list) (begun q v) in
     let f = unless-accepted (backupNumber q v t list) (andThen o (λ w. accepted (closed q v t (changeCount list) w))) d e in
     let p = then-accepted o (λ w. accepted (closed q v t (changeCount list) w)) d (f .1) in
-    let same : closed q v t (changeCount list) (p .0) ≡ d = cc (p .2) in
+    let same = accepted-same (closed q v t (changeCount list) (p .0)) d (p .2) in
     rw (← (ap (λ (b : PlainBacked). b .store .blocks) same)) (run-grown (currentMaps q) v (changes list) (begun q v) (p .0) (p .1))
 
 -- ---- so does a backup on our side
@@ -130,8 +131,8 @@ module _ {x : Book} {pool : List ℕ} {q : Plain} (g : Agree x pool q) where
       (sym (ap (λ (bs : List Block). shownAt bs p) (g .blocks) ∙ ap heldBytes (blocksIn-at (x .entries) pool p h)) ∙ e)
     where
       go : (t : Bool) → heldBytes (if t then held (entryAt (x .entries) p .print) (blockAt pool p) else free) ≡ some b → blockAt pool p ≡ b
-      go true f = cc
-      go false f = absurd (let z : _≡_ {A = ℕ} 0 1 = cc in omega arith)
+      go true f = some-same (blockAt pool p) b f
+      go false f = absurd (none-not b f)
 
   blocks-long : length (q .blocks) ≡ length (x .entries)
   blocks-long = ap (λ (bs : List Block). length bs) (g .blocks) ∙ length-blocksIn (x .entries) pool

@@ -16,7 +16,7 @@ use Rattle.model.proofs.agreement.AgreeLaws.{maps-agree}
 use Rattle.model.specs.Backup
 use Rattle.model.specs.Backup.{Backed}
 use Rattle.model.proofs.agreement.BackupAgree.{backup-touching}
-use Rattle.model.proofs.claims.BackupBounds.{touched-bound}
+use Rattle.model.proofs.claims.BackupCounts.{touched-most}
 use Rattle.model.proofs.form.BackupFit.{backup-fit}
 use Rattle.model.specs.Calls.{Call, backup, collect, read, audit, Answer, backed, freed}
 use Rattle.model.specs.Claims.{Fresh, begin, ourEnd, plainEnd, changesName, Lists, Images, Corollaries}
@@ -113,7 +113,7 @@ module _ (spare : ℕ) {x : Book} {pool : List ℕ} {q : Plain} (g : Agree x poo
             → oursBacked here (andThen o (λ d. accepted (backedBytes d))) .answer ≡ backed k taken touched
             → touched ≤ 2 * changeCount list
         go (refused j) e b = absurd (let z : _≡_ {A = ℕ} 0 1 = cc in omega arith)
-        go (accepted d) e b = let same : d .touched ≡ touched = cc in omega (arith, touched-bound x pool v t list d e)
+        go (accepted d) e b = let same : d .touched ≡ touched = cc in omega (arith, touched-most x pool v t list d e)
 
 -- ---- the same, where both sides stand alike
 

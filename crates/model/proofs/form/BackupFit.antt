@@ -7,7 +7,7 @@ use native.Mathlib.Omega.{arith}
 use lib.Dec.{leb, ltb}
 use lib.ListN.{length, length-append}
 use borrow.Author.Tests.{le-leb, not-false}
-use Rattle.words.proofs.Accepted.{unless-accepted, then-accepted}
+use Rattle.words.proofs.Accepted.{unless-accepted, then-accepted, accepted-same}
 use Rattle.words.proofs.Appends.{all-append}
 use Rattle.words.proofs.ChoiceLaws.{true-and}
 use Rattle.words.specs.Lists.{all}
@@ -109,7 +109,7 @@ backup-fit {x} fit pool v t list d long e =
     (changes-fit (x .sizes .l) list (sizes-facts (x .sizes) (fit .sizes) .l) (ok .good)) (start-fit fit pool long) (p .1) in
     let n : length (changes list) + 0 ≡ changeCount list = omega (arith, length-changes list) in
     let g = subst (λ (k : ℕ). WorkFit x k (p .0)) n f in
-    let q : closed x v t (changeCount list) (p .0) ≡ d = cc (p .2) in
+    let q = accepted-same (closed x v t (changeCount list) (p .0)) d (p .2) in
     subst (BackedFit x pool) q (record {
       fit = closed-fit fit v t list ok (p .0) g;
       sizes = g .sizes;

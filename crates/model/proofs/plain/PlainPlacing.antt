@@ -9,6 +9,7 @@ use lib.Dec.{eqb}
 use lib.ListN.{length, getD, take, drop, set, length-take, length-drop, length-set}
 use lib.Seq.{getD-set-same, getD-set-other, getD-take, getD-drop}
 use borrow.Author.Tests.{eqb-true, eqb-false}
+use Rattle.words.proofs.Accepted.{refused-not, accepted-same}
 use Rattle.words.specs.Choice.{if_then_else_}
 use Rattle.words.specs.Lists.{placeFrom, orElse, same}
 use Rattle.words.proofs.Same.{same-equal}
@@ -111,8 +112,8 @@ module _ (c : Change) (w : PlainWork) where
   module _ (d : PlainPlaced) where
     free-placed : (o : Option ℕ) → findFree (w .blocks) (w .cursor) ≡ o → placeFree c w o ≡ accepted d → PlacedFor c w d
     unfolding placeFree
-    free-placed none e a = absurd (let z : _≡_ {A = ℕ} 0 1 = cc in omega arith)
-    free-placed (some p) e a = subst (λ (x : PlainPlaced). PlacedFor c w x) (cc) (take-placed p e)
+    free-placed none e a = absurd (refused-not 12 d a)
+    free-placed (some p) e a = subst (λ (x : PlainPlaced). PlacedFor c w x) (accepted-same _ d a) (take-placed p e)
 
     held-placed : (o : Option ℕ) → findHeld (w .blocks) (c .print) ≡ o → placeHeld c w o ≡ accepted d → PlacedFor c w d
     unfolding placeHeld
@@ -121,8 +122,8 @@ module _ (c : Change) (w : PlainWork) where
       where
         go : (t : Bool) → same (bytesOf (getD (w .blocks) p free)) (c .block) ≡ t
             → (if t then accepted (record { pbn = p; work = w }) else refused 11) ≡ accepted d → PlacedFor c w d
-        go true s a = subst (λ (x : PlainPlaced). PlacedFor c w x) (cc) (find-placed p e s)
-        go false s a = absurd (let z : _≡_ {A = ℕ} 0 1 = cc in omega arith)
+        go true s a = subst (λ (x : PlainPlaced). PlacedFor c w x) (accepted-same _ d a) (find-placed p e s)
+        go false s a = absurd (refused-not 11 d a)
 
     pub place-placed : place c w ≡ accepted d → PlacedFor c w d
     unfolding place

@@ -1,6 +1,6 @@
 -- Enrol and collect of the plain store keep what its volumes sent, and so it starts.
 use Prim.Native.Nat.{ℕ, zero, suc, _≤_, _<_}
-use mathlib.Core.Path.{_≡_, refl, ap, _∙_}
+use mathlib.Core.Path.{_≡_, refl, sym, ap, _∙_}
 use mathlib.Core.Bool.{Bool, true, false, _&&_}
 use mathlib.Core.List.{List, [], _∷_, map}
 use mathlib.Core.Option.{none, some}
@@ -10,6 +10,7 @@ use lib.ListN.{length, getD, replicate, length-set, length-replicate, List·getD
 use borrow.Author.Tests.{ltb-true, ltb-false, eq-eqb}
 use Rattle.words.specs.Blocks.{unmapped}
 use Rattle.words.specs.Choice.{if_then_else_}
+use Rattle.words.proofs.Options.{none-not}
 use Rattle.words.proofs.Places.{getD-replicated}
 use Rattle.book.specs.Book.{volumes, Sizes}
 use Rattle.model.specs.Days.{kept}
@@ -83,7 +84,7 @@ module _ {l d : ℕ} {q : Plain} {h : ℕ → History} (a : AllRecall l d q h) w
       → kept (daysOf (volumeAt q v .images)) (volumeAt q v .retention) t k ≡ true → sentBlock (h v) k lbn ≡ some b
       → shownAt (q .blocks) (getD (imageAt l (volumeAt q v .images) k) lbn unmapped) ≡ some b
       → shownAt (swept (marked q t) 0 (q .blocks)) (getD (imageAt l (volumeAt q v .images) k) lbn unmapped) ≡ some b
-  marked-stays t v zero lbn b hk e s z = absurd (let o = none-sent (h v) lbn in let y : _≡_ {A = ℕ} 0 1 = cc in omega arith)
+  marked-stays t v zero lbn b hk e s z = absurd (none-not b (sym (none-sent (h v) lbn) ∙ s))
   marked-stays t v (suc k) lbn b hk e s z =
       let m = getD (mapsOf (volumeAt q v .images)) k (replicate l unmapped) in
       let p = getD m lbn unmapped in
@@ -94,8 +95,7 @@ module _ {l d : ℕ} {q : Plain} {h : ℕ → History} (a : AllRecall l d q h) w
     where
       not-unmapped : (p : ℕ) → p ≡ unmapped → shownAt (q .blocks) p ≡ some b → ⊥
       not-unmapped p f z =
-          let o : shownAt (q .blocks) p ≡ none = rw f (shown-past (q .blocks) unmapped (a .room)) in
-          let y : _≡_ {A = ℕ} 0 1 = cc in omega arith
+          let o : shownAt (q .blocks) p ≡ none = rw f (shown-past (q .blocks) unmapped (a .room)) in none-not b (sym o ∙ z)
 
   pub collect-recalls : (t : ℕ) → d ≤ t → AllRecall l t (collected q t .store) h
   unfolding collected atDay withBlocks
