@@ -16,7 +16,8 @@ use Rattle.words.proofs.Parts.{length-part}
 use Rattle.runs.specs.Changes.{Change, pairSize}
 use Rattle.words.specs.Blocks.{blockSize, printSize}
 use Rattle.runs.specs.Writer.{runs, markedFrom, imageChange, markedChanges, pairBytes, listBytes, markedList}
-use Rattle.writer.specs.Passes.{pairsFrom, element, markedElements}
+use Rattle.marks.specs.Passes.{pairsFrom}
+use Rattle.writer.specs.Elements.{element, markedElements}
 
 pub length-pairs : (i k : ℕ) (ms : List ℕ) → length (pairsFrom i k ms) ≡ length (runs i k ms) * pairSize
 unfolding pairsFrom pairBytes

@@ -18,7 +18,8 @@ use Rattle.words.specs.Laying.{Stored}
 use Rattle.words.proofs.LayingLaws.{Left, left-all, left-room, left-more, sets-front}
 use Rattle.words.specs.Blocks.{blockSize, printSize}
 use Rattle.runs.specs.Writer.{runs, markedList, inputOk, writeNumber, answerAfter, outputAfter, listOf, Wrote}
-use Rattle.writer.specs.Passes.{pairsFrom, markedElements, Room}
+use Rattle.marks.specs.Passes.{pairsFrom}
+use Rattle.writer.specs.Elements.{markedElements, Room}
 use Rattle.writer.proofs.Lengths.{list-sections}
 
 -- an input that is not refused holds L elements of each kind

@@ -1,70 +1,30 @@
--- The passes that write: one turn, and the end. What they have stored and what is left make the section whole.
+-- The pass that writes the marked elements: one mark, one turn, and the end. What it has stored and what is left make the section whole.
 use Prim.Native.Nat.{ℕ, suc, _+_, _*_, _-_, _≤_, _<_}
-use mathlib.Core.Path.{_≡_, refl, sym, ap, subst, _∙_}
+use mathlib.Core.Path.{_≡_, refl, subst}
 use mathlib.Core.Bool.{Bool, true, false}
 use mathlib.Core.List.{List, [], _∷_, _++_}
 use native.Mathlib.Nat.{suc-mul, mul-le-mul-right}
 use native.Mathlib.Numerals.{add-one}
 use native.Mathlib.Omega.{arith}
 use lib.Dec.{eqb}
+use borrow.Author.Tests.{eq-eqb, ne-eqb}
 use lib.ListN.{length, getD, take, drop, drop-of-length-le}
 use lib.Seq.{drop-cons}
 use Rattle.words.specs.Choice.{if_then_else_}
 use Rattle.words.specs.Sections.{flat}
-use Rattle.words.proofs.Flat.{flat-append}
 use Rattle.words.specs.Laying.{Stored}
-use Rattle.words.proofs.LayingLaws.{Left, left-room, left-more, left-last, left-none}
-use Rattle.runs.specs.Changes.{Pair}
-use Rattle.runs.specs.Writer.{runs, markedFrom, pairBytes}
-use Rattle.writer.specs.Passes.{endedRun, rowAfter, pairOf, pairsFrom, ifMarked, element, markedElements, Passed}
-use Rattle.writer.specs.declared.Progress.{Progress}
-use Rattle.writer.proofs.Marks.{runs-more, runs-end}
+use Rattle.words.proofs.LayingLaws.{Left, left-room, left-more, left-none}
+use Rattle.runs.specs.Writer.{markedFrom}
+use Rattle.writer.specs.Elements.{ifMarked, element, markedElements}
 
--- ---- pairs
+module _ (m : ℕ) (bytes : List ℕ) where
+  pub marked-bytes : m ≡ 1 → ifMarked m bytes ≡ bytes
+  unfolding ifMarked
+  marked-bytes e = rw (eq-eqb m 1 e)
 
-module _ (ms : List ℕ) (i k : ℕ) where
-  pairs-more : i < length ms
-      → pairsFrom i k (drop i ms) ≡ pairOf i k (getD ms i 0) ++ pairsFrom (i + 1) (rowAfter k (getD ms i 0)) (drop (i + 1) ms)
-  unfolding pairOf pairsFrom
-  pairs-more h =
-      ap (λ (ps : List Pair). flat pairBytes ps) (runs-more ms i k h)
-      ∙ flat-append pairBytes (endedRun i k (getD ms i 0)) (runs (i + 1) (rowAfter k (getD ms i 0)) (drop (i + 1) ms))
-
-  pairs-end : (m : ℕ) → length ms ≤ i → (m ≡ 1 → ⊥) → pairsFrom i k (drop i ms) ≡ pairOf i k m
-  unfolding pairOf pairsFrom
-  pairs-end m h n = ap (λ (ps : List Pair). flat pairBytes ps) (runs-end ms i k m h n)
-
-module _ (ms : List ℕ) (p : Progress) (i : ℕ) {old section out : List ℕ} {start : ℕ}
-    (l : Left old start section out (p .at) (pairsFrom i (p .row) (drop i ms))) where
-  pub next-room : i < length ms → p .at + length (pairOf i (p .row) (getD ms i 0)) ≤ length out
-  next-room h =
-      let m = getD ms i 0 in
-      left-room l (pairOf i (p .row) m) (pairsFrom (i + 1) (rowAfter (p .row) m) (drop (i + 1) ms)) (pairs-more ms i (p .row) h)
-
-  pub last-room : (m : ℕ) → length ms ≤ i → (m ≡ 1 → ⊥) → p .at + length (pairOf i (p .row) m) ≤ length out
-  last-room m h n = rw (pairs-end ms i (p .row) m h n) at (l .room)
-
-  pub next-stored : {out′ : List ℕ} {r : Progress} → i < length ms → Passed out p i (getD ms i 0) out′ r
-      → Left old start section out′ (r .at) (pairsFrom (i + 1) (r .row) (drop (i + 1) ms))
-  next-stored {out′} {r} h s =
-      let m = getD ms i 0 in
-      subst (λ (k : ℕ). Left old start section out′ (r .at) (pairsFrom (i + 1) k (drop (i + 1) ms))) (sym (s .row))
-      (left-more l (pairOf i (p .row) m) (pairsFrom (i + 1) (rowAfter (p .row) m) (drop (i + 1) ms)) (pairs-more ms i (p .row) h) (s .pair))
-
-  pub last-stored : {m : ℕ} {out′ : List ℕ} {r : Progress} → length ms ≤ i → (m ≡ 1 → ⊥) → Passed out p i m out′ r
-      → Stored old start section out′ (r .at)
-  last-stored {m} {out′} {r} h n s =
-      left-last l (subst (λ (b : List ℕ). Stored out (p .at) b out′ (r .at)) (sym (pairs-end ms i (p .row) m h n)) (s .pair))
-
-pub row-room : {out out′ : List ℕ} {p r : Progress} {i m : ℕ} → Passed out p i m out′ r → p .row ≤ i → r .row ≤ i + 1
-unfolding rowAfter
-row-room {p = p} {i = i} {m = m} s h = rw (s .row) (go (eqb m 1))
-  where
-    go : (t : Bool) → (if t then p .row + 1 else 0) ≤ i + 1
-    go true = omega arith
-    go false = omega arith
-
--- ---- fingerprints and blocks
+  pub other-bytes : (m ≡ 1 → ⊥) → ifMarked m bytes ≡ []
+  unfolding ifMarked
+  other-bytes n = rw (ne-eqb m 1 n)
 
 module _ (size : ℕ) (b : List ℕ) where
   elements-cons : (i m : ℕ) (ms : List ℕ)

@@ -2,7 +2,7 @@
 use mathlib.Core.Path.{refl, sym}
 use native.Mathlib.Nat.{add-zero}
 use borrow.Author.Needs.{needs}
-use Rattle.writer.proofs.Marks.{marked-bytes, other-bytes}
+use Rattle.writer.proofs.Writing.{marked-bytes, other-bytes}
 use Rattle.writer.proofs.put_if.Statement.{statement}
 use Rattle.writer.proofs.put_if.Tie as tie
 

@@ -7,7 +7,7 @@ use native.Mathlib.Nat.{zero-mul}
 use native.Mathlib.Omega.{arith}
 use borrow.Author.Needs.{needs}
 use Rattle.words.proofs.LayingLaws.{Left, left-all}
-use Rattle.writer.specs.Passes.{markedElements}
+use Rattle.writer.specs.Elements.{markedElements}
 use Rattle.writer.proofs.Writing.{element-room, element-next, part-room, part-stored, all-stored}
 use Rattle.writer.proofs.put_marked.Statement.{statement}
 use Rattle.writer.proofs.put_marked.Tie as tie

@@ -6,9 +6,9 @@ use lib.ListN.{length}
 use native.Mathlib.Omega.{arith}
 use borrow.Author.Needs.{needs}
 use Rattle.words.specs.Numbers.{put}
-use Rattle.writer.proofs.Marks.{row-grows, row-stops, ended-marked, ended-none, pair-none, pair-room, pair-put}
-use Rattle.writer.proofs.put_mark.Statement.{statement}
-use Rattle.writer.proofs.put_mark.Tie as tie
+use Rattle.marks.proofs.Marks.{row-grows, row-stops, ended-marked, ended-none, pair-none, pair-room, pair-put}
+use Rattle.marks.proofs.put_mark.Statement.{statement}
+use Rattle.marks.proofs.put_mark.Tie as tie
 
 abbrev start : tie.Else1 → tie.Start
 start c = c .before .before .before .before

@@ -11,9 +11,9 @@ use lib.ListN.{length, getD, drop, drop-of-length-le, length-append}
 use lib.Seq.{drop-cons}
 use Rattle.words.specs.Choice.{if_then_else_}
 use Rattle.runs.specs.Writer.{runBefore, runs, markedFrom}
-use Rattle.writer.specs.Passes.{endedRun, rowAfter, counted, Counted}
-use Rattle.writer.specs.declared.Tally.{Tally}
-use Rattle.writer.proofs.Marks.{runs-more, runs-end}
+use Rattle.marks.specs.Passes.{endedRun, rowAfter, counted, Counted}
+use Rattle.marks.specs.declared.Tally.{Tally}
+use Rattle.marks.proofs.Marks.{runs-more, runs-end}
 
 -- before mark i
 pub record Counting (ms : List ℕ) (t : Tally) (i : ℕ) : Type 0 where

@@ -6,10 +6,10 @@ use lib.Seq.{length-sets}
 use native.Mathlib.Omega.{arith}
 use borrow.Author.Needs.{needs}
 use Rattle.words.proofs.LayingLaws.{Left, left-all}
-use Rattle.writer.specs.Passes.{pairsFrom}
-use Rattle.writer.proofs.Writing.{next-room, last-room, next-stored, last-stored, row-room}
-use Rattle.writer.proofs.put_runs.Statement.{statement}
-use Rattle.writer.proofs.put_runs.Tie as tie
+use Rattle.marks.specs.Passes.{pairsFrom}
+use Rattle.marks.proofs.Writing.{next-room, last-room, next-stored, last-stored, row-room}
+use Rattle.marks.proofs.put_runs.Statement.{statement}
+use Rattle.marks.proofs.put_runs.Tie as tie
 
 abbrev Inv-loop : tie.InvT-loop
 Inv-loop list₀ at marks p₀ lbn₀ list p lbn =

@@ -4,9 +4,9 @@ use lib.ListN.{length}
 use native.Mathlib.Nat.{zero-add}
 use native.Mathlib.Omega.{arith}
 use borrow.Author.Needs.{needs}
-use Rattle.writer.proofs.Counting.{Counting, counting-more, counting-end}
-use Rattle.writer.proofs.count_marks.Statement.{statement}
-use Rattle.writer.proofs.count_marks.Tie as tie
+use Rattle.marks.proofs.Counting.{Counting, counting-more, counting-end}
+use Rattle.marks.proofs.count_marks.Statement.{statement}
+use Rattle.marks.proofs.count_marks.Tie as tie
 
 abbrev Inv-loop : tie.InvT-loop
 Inv-loop marks t₀ passed₀ t passed = Counting marks t passed × (passed ≤ length marks)

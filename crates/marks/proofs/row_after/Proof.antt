@@ -1,9 +1,9 @@
 -- `row_after`: the two cases of a mark.
 use mathlib.Core.Path.{sym}
 use borrow.Author.Needs.{needs}
-use Rattle.writer.proofs.Marks.{row-marked, row-other}
-use Rattle.writer.proofs.row_after.Statement.{statement}
-use Rattle.writer.proofs.row_after.Tie as tie
+use Rattle.marks.proofs.Marks.{row-marked, row-other}
+use Rattle.marks.proofs.row_after.Statement.{statement}
+use Rattle.marks.proofs.row_after.Tie as tie
 
 returns : tie.Need-returns
 returns c = sym (row-marked _ _ (c .if1 .taken))

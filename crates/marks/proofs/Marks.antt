@@ -16,8 +16,8 @@ use Rattle.words.proofs.Filling.{put-sets}
 use Rattle.words.specs.Laying.{Stored}
 use Rattle.words.proofs.LayingLaws.{sets-next}
 use Rattle.runs.specs.Writer.{runBefore, runs, pairBytes}
-use Rattle.writer.specs.Passes.{endedRun, rowAfter, ifMarked, counted, pairOf}
-use Rattle.writer.specs.declared.Tally.{Tally}
+use Rattle.marks.specs.Passes.{endedRun, rowAfter, counted, pairOf}
+use Rattle.marks.specs.declared.Tally.{Tally}
 
 -- ---- one mark: the run goes on, or there was none, or it ends
 
@@ -97,15 +97,6 @@ module _ (out : List ℕ) (at i k m : ℕ) where
     list = s ∙ rw (put-sets out at (i - k), put-sets) (sets-next (two (i - k)) (two k) out at (at + 2) refl);
     place = refl;
   })
-
-module _ (m : ℕ) (bytes : List ℕ) where
-  pub marked-bytes : m ≡ 1 → ifMarked m bytes ≡ bytes
-  unfolding ifMarked
-  marked-bytes e = rw (eq-eqb m 1 e)
-
-  pub other-bytes : (m ≡ 1 → ⊥) → ifMarked m bytes ≡ []
-  unfolding ifMarked
-  other-bytes n = rw (ne-eqb m 1 n)
 
 -- ---- runs
 

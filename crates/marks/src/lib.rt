@@ -1,0 +1,101 @@
+// The marks of an aid in longest runs: how many there are, and their pairs in bytes (document 01, "The writer on the aid").
+ghost use mathlib.Core.Path.{_≡_};
+ghost use Prim.Native.Nat.{_+_, _≤_, _<_};
+ghost use lib.ListN.{length};
+ghost use Rattle.words.specs.Laying.{Stored};
+ghost use Rattle.marks.specs.Passes.{rowAfter, pairOf, pairsFrom, counted, Counted, Passed};
+
+// What a pass over the marks counts: runs that ended, marked blocks, and marked blocks in a row up to here.
+pub struct Tally {
+    pub runs: u16,
+    pub changes: u16,
+    pub row: u16,
+}
+
+// Where a pass that writes the pairs stands: the next byte, and the marked blocks in a row up to here.
+struct Progress {
+    at: usize,
+    row: u16,
+}
+
+// The marked blocks in a row up to a block with this mark.
+fn row_after(row: u16, mark: u8) -> u16
+    requires { ⌜ row < 65535 ⌝ }
+    ensures { λ r. ⌜ r ≡ rowAfter row mark ⌝ }
+{
+    if mark == 1 { row + 1 } else { 0 }
+}
+
+// One mark more: the run goes on, or there was none, or it ends.
+fn count_mark(t: Tally, mark: u8) -> Tally
+    requires { ⌜ (t .runs < 65535) × (t .changes < 65535) × (t .row < 65535) ⌝ }
+    ensures { λ r. ⌜ r ≡ counted t mark ⌝ }
+{
+    let row = row_after(t.row, mark);
+    if t.row < row {
+        return Tally {
+            runs: t.runs,
+            changes: t.changes + 1,
+            row,
+        };
+    }
+    if t.row == 0 {
+        return t;
+    }
+    Tally {
+        runs: t.runs + 1,
+        changes: t.changes,
+        row,
+    }
+}
+
+// E and n. A mark of 0 past the last one ends the last run.
+pub fn count_marks(marks: &[u8]) -> Tally
+    requires { ⌜ length (now marks) ≤ 1024 ⌝ }
+    ensures { λ r. ⌜ Counted (now (marks .entry)) r ⌝ }
+{
+    let mut t = Tally {
+        runs: 0,
+        changes: 0,
+        row: 0,
+    };
+    let mut passed = 0;
+    while passed < marks.len() {
+        t = count_mark(t, marks[passed]);
+        passed += 1;
+    }
+    count_mark(t, 0)
+}
+
+// One mark more, that of the block lbn: the run goes on, or there was none, or it ends and its pair is written.
+fn put_mark(list: &mut [u8], p: Progress, lbn: u16, mark: u8) -> Progress
+    requires { ⌜ (p .row ≤ lbn) × (lbn < 65535) × (p .at + length (pairOf lbn (p .row) mark) ≤ length (now list)) ⌝ }
+    ensures { λ r. ⌜ Passed (now (list .entry)) p lbn mark (now (list .exit)) r ⌝ }
+{
+    let at = p.at;
+    let row = row_after(p.row, mark);
+    if p.row < row {
+        return Progress { at, row };
+    }
+    if p.row == 0 {
+        return p;
+    }
+    words::put_u16(list, at, lbn - p.row);
+    words::put_u16(list, at + 2, p.row);
+    Progress { at: at + 4, row }
+}
+
+// The pairs of the longest runs, ended as in the count. As every writer of a section it answers the offset past it.
+pub fn put_runs(list: &mut [u8], at: usize, marks: &[u8]) -> usize
+    requires { ⌜ (length (now marks) ≤ 1024) × (at + length (pairsFrom 0 0 (now marks)) ≤ length (now list)) ⌝ }
+    ensures { λ r. ⌜ Stored (now (list .entry)) at (pairsFrom 0 0 (now (marks .entry))) (now (list .exit)) r ⌝ }
+{
+    let mut p = Progress { at, row: 0 };
+    let mut lbn = 0;
+    while lbn < marks.len() {
+        p = put_mark(list, p, lbn as u16, marks[lbn]);
+        lbn += 1;
+    }
+    let end = put_mark(list, p, lbn as u16, 0);
+    end.at
+}
