@@ -9,7 +9,7 @@ use Rattle.words.proofs.ChoiceLaws.{not-both}
 use Rattle.words.specs.Lent.{Lent}
 use Rattle.words.specs.Outcome.{Outcome, refused, accepted}
 use Rattle.runs.specs.Changes.{changeCount, changes}
-use Rattle.list.specs.declared.Shape.{Shape}
+use Rattle.pairs.specs.declared.Shape.{Shape}
 use Rattle.book.specs.Book.{Book, entryAt}
 use Rattle.book.specs.Layout.{bookOf, told, Holds, Is}
 use Rattle.book.specs.FormFacts.{FormFacts}

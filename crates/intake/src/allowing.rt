@@ -7,8 +7,8 @@ use super::slots::Backups;
 use super::slots::backups_of;
 use buffers::buffers_number;
 use fields::header;
-use list::Checked;
-use list::Shape;
+use pairs::Checked;
+use pairs::Shape;
 use words::limits::LAST_VOLUME;
 use words::limits::MAX_DAY;
 use words::refusals;
@@ -89,7 +89,7 @@ pub fn allow(book: &[u8], pool: &[u8], spare: usize, v: u16, day: u16, list: &[u
     if bad_day(book, v, day, backups) {
         return Allowed::Refused(refusals::BAD_DAY);
     }
-    let checked = list::check(list, header::cells(book));
+    let checked = pairs::check(list, header::cells(book));
     let Checked::Good(shape) = checked else {
         return Allowed::Refused(refusals::BAD_LIST);
     };

@@ -16,9 +16,9 @@ use super::storing::copy;
 use super::storing::store_all;
 use fields::header;
 use journal::slot;
-use list::Shape;
 use mover::changing::run_changes;
 use mover::moving::Step;
+use pairs::Shape;
 use words::limits::MAX_BLOCKS;
 
 // The number of a backup that isn't allowed.

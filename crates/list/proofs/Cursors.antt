@@ -12,7 +12,7 @@ use Rattle.words.specs.Lists.{sum}
 use Rattle.words.proofs.Runs.{sum-take}
 use Rattle.runs.specs.Changes.{Pair, pairCount, pairAt, pairs, lengths, changeCount, lbns, changeAt}
 use Rattle.runs.proofs.Pairs.{length-pairs, getD-pairs, run-at}
-use Rattle.list.specs.Answers.{indexOf, Valid}
+use Rattle.list.specs.Readers.{indexOf, Valid}
 use Rattle.list.specs.declared.Cursor.{Cursor}
 
 module _ (b : List ℕ) (c : Cursor) where

@@ -1,4 +1,2 @@
-pub mod Reading
-pub mod Checks
 pub mod Cursors
-pub mod AnswerLaws
+pub mod ReaderLaws

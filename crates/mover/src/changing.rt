@@ -11,7 +11,7 @@ ghost use Rattle.placer.specs.Placing.{placedNumber};
 use super::moving::Step;
 use super::moving::move_to;
 use index::build;
-use list::Shape;
+use pairs::Shape;
 use placer::placing::Placement;
 use placer::placing::Tally;
 use placer::placing::place;

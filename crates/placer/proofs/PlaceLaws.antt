@@ -19,9 +19,9 @@ use Rattle.words.proofs.Parts.{length-part}
 use Rattle.words.specs.Sections.{part}
 use Rattle.words.specs.Blocks.{printSize}
 use Rattle.runs.specs.Changes.{Change, changeCount, changeAt, printsFrom}
-use Rattle.list.specs.Answers.{Whole}
-use Rattle.list.proofs.AnswerLaws.{length-block}
-use Rattle.list.specs.declared.Shape.{Shape}
+use Rattle.list.specs.Readers.{Whole}
+use Rattle.list.proofs.ReaderLaws.{length-block}
+use Rattle.pairs.specs.declared.Shape.{Shape}
 use Rattle.book.specs.Book.{Entry, Book, freeEntry, entryAt, Sized}
 use Rattle.book.specs.Layout.{bookOf, Holds, Is}
 use Rattle.book.specs.Next.{withCursor, withEntries, withEntry, heldAs}

@@ -7,8 +7,8 @@ use lib.ListN.{length, getD}
 use Rattle.words.specs.Choice.{if_then_else_}
 use Rattle.words.specs.Lists.{all, joined, upFrom}
 use Rattle.runs.specs.Changes.{changeCount, changeAt, listNumber}
-use Rattle.list.specs.Answers.{Whole}
-use Rattle.list.specs.declared.Shape.{Shape}
+use Rattle.list.specs.Readers.{Whole}
+use Rattle.pairs.specs.declared.Shape.{Shape}
 use Rattle.book.specs.Book.{Entry, Book, entryAt}
 use Rattle.book.specs.Form.{pbnOk}
 use Rattle.model.specs.Pool.{poolSize, blockAt}

@@ -1,7 +1,7 @@
 -- `list::start`: no change lies before place 0 of the first pair, which has a block.
 use Prim.Native.Nat.{zero-le}
 use mathlib.Core.Path.{refl}
-use Rattle.list.specs.Answers.{indexOf}
+use Rattle.list.specs.Readers.{indexOf}
 use Rattle.list.proofs.start.Statement.{statement}
 use Rattle.list.proofs.start.Tie as tie
 

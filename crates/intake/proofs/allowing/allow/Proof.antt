@@ -4,8 +4,9 @@ use mathlib.Core.Path.{_≡_, sym, ap, _∙_}
 use mathlib.Core.Bool.{false}
 use native.Mathlib.Numerals.{add-one}
 use native.Mathlib.Omega.{arith}
-use Rattle.list.specs.Answers.{checkedOf}
-use Rattle.list.proofs.AnswerLaws.{good-number, refused-number, good-whole}
+use Rattle.pairs.specs.Answers.{checkedOf}
+use Rattle.pairs.proofs.AnswerLaws.{good-number, refused-number}
+use Rattle.list.proofs.ReaderLaws.{good-whole}
 use Rattle.book.specs.Book.{retentionOf}
 use Rattle.book.proofs.Conditions.{retention-in}
 use Rattle.book.specs.Layout.{bookOf}

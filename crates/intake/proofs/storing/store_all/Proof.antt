@@ -4,7 +4,7 @@ use mathlib.Core.Path.{_≡_, refl, sym, ap, _∙_}
 use native.Mathlib.Omega.{arith}
 use lib.ListN.{length}
 use Rattle.runs.specs.Changes.{changeCount}
-use Rattle.list.proofs.AnswerLaws.{length-block}
+use Rattle.list.proofs.ReaderLaws.{length-block}
 use Rattle.book.specs.Book.{Sizes}
 use Rattle.book.specs.Layout.{bookOf}
 use Rattle.placer.proofs.PoolLaws.{Known}

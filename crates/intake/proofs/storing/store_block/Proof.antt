@@ -9,7 +9,7 @@ use Rattle.words.specs.Blocks.{blockSize}
 use Rattle.words.proofs.ChoiceLaws.{failed, passed}
 use Rattle.words.proofs.Parts.{length-part}
 use Rattle.words.proofs.Lending.{lent, spliced}
-use Rattle.list.proofs.AnswerLaws.{length-block}
+use Rattle.list.proofs.ReaderLaws.{length-block}
 use Rattle.book.specs.Book.{entryAt}
 use Rattle.book.specs.Layout.{bookOf}
 use Rattle.model.specs.Pool.{withBlock}

@@ -4,7 +4,7 @@ use mathlib.Core.Path.{_≡_, refl, ap, _∙_}
 use native.Mathlib.Omega.{arith}
 use lib.ListN.{length, drop}
 use Rattle.runs.specs.Changes.{changeCount, changeAt, changes}
-use Rattle.list.specs.Answers.{indexOf, Valid}
+use Rattle.list.specs.Readers.{indexOf, Valid}
 use Rattle.book.specs.Layout.{bookOf, Holds}
 use Rattle.model.specs.Backup.{runChanges}
 use Rattle.finder.specs.Indexed.{Indexed}

@@ -4,7 +4,7 @@ use mathlib.Core.Path.{_≡_, refl, ap, ap₂, _∙_}
 use native.Mathlib.Omega.{arith}
 use lib.ListN.{length}
 use Rattle.runs.specs.Changes.{changeAt}
-use Rattle.list.proofs.AnswerLaws.{length-print}
+use Rattle.list.proofs.ReaderLaws.{length-print}
 use Rattle.book.specs.Book.{Book}
 use Rattle.book.specs.Layout.{bookOf, Is}
 use Rattle.book.specs.Next.{withEntries, withEntry, heldAs}

@@ -9,10 +9,10 @@ use borrow.Author.Tests.{eqb-true, eq-eqb, ne-eqb}
 use Rattle.words.specs.Choice.{if_then_else_}
 use Rattle.runs.specs.Changes.{pairCount, pairs, changeCount, listSize, pairsFit, listNumber}
 use Rattle.runs.proofs.Number.{Accepted, ladder, number-ladder, accepted-number, number-accepted}
-use Rattle.list.specs.Answers.{shapeOf, checkedOf}
-use Rattle.list.specs.declared.Shape.{Shape}
-use Rattle.list.specs.declared.Checked.{Checked}
-use Rattle.list.specs.declared.Checked.the-variants.{Good, Refused}
+use Rattle.pairs.specs.Answers.{shapeOf, checkedOf}
+use Rattle.pairs.specs.declared.Shape.{Shape}
+use Rattle.pairs.specs.declared.Checked.{Checked}
+use Rattle.pairs.specs.declared.Checked.the-variants.{Good, Refused}
 
 -- document 01's number for each case of the answer
 abbrev pub checkedNumber : Checked → ℕ

@@ -1,16 +1,16 @@
--- `list::check`: a refusal at each test that fails, and the numbers of the list where none does.
+-- `pairs::check`: a refusal at each test that fails, and the numbers of the list where none does.
 use Prim.Native.Nat.{ℕ, _≤_}
 use mathlib.Core.Path.{_≡_, sym, _∙_}
 use native.Mathlib.Omega.{arith}
 use borrow.Author.Needs.{needs}
 use Rattle.words.proofs.ChoiceLaws.{not-both}
 use Rattle.runs.specs.Changes.{pairCount, pairs, listSize, pairsFit}
-use Rattle.list.specs.Answers.{countedOf}
-use Rattle.list.specs.declared.Counted.the-variants.{Fit}
-use Rattle.list.proofs.Reading.{fit-counted, counted-within, unfit-counted}
-use Rattle.list.proofs.Checks.{accepted-good, unaccepted-refused}
-use Rattle.list.proofs.check.Statement.{statement}
-use Rattle.list.proofs.check.Tie as tie
+use Rattle.pairs.specs.Answers.{countedOf}
+use Rattle.pairs.specs.declared.Counted.the-variants.{Fit}
+use Rattle.pairs.proofs.Reading.{fit-counted, counted-within, unfit-counted}
+use Rattle.pairs.proofs.Checks.{accepted-good, unaccepted-refused}
+use Rattle.pairs.proofs.check.Statement.{statement}
+use Rattle.pairs.proofs.check.Tie as tie
 
 abbrev start : tie.After-count-changes → tie.Start
 start c = c .before .before .before .before .before

@@ -1,4 +1,4 @@
--- `list::count_changes`: the pairs that are left decide as all do, and what was passed ends at `end`.
+-- `pairs::count_changes`: the pairs that are left decide as all do, and what was passed ends at `end`.
 use Prim.Native.Nat.{_+_, _-_, _≤_}
 use mathlib.Core.Path.{_≡_, refl, sym, ap, _∙_}
 use native.Mathlib.Omega.{arith}
@@ -6,11 +6,11 @@ use lib.ListN.{drop}
 use Rattle.words.proofs.ChoiceLaws.{failed, passed}
 use Rattle.words.specs.Lists.{sum}
 use Rattle.runs.specs.Changes.{pairAt, pairs, lengths, changeCount, pairsFit}
-use Rattle.list.specs.declared.Counted.the-variants.{Fit}
+use Rattle.pairs.specs.declared.Counted.the-variants.{Fit}
 use Rattle.runs.proofs.Pairs.{pair-fits}
-use Rattle.list.proofs.Reading.{fit-more, fit-stop, count-more, pairs-end, counted-fit, counted-unfit}
-use Rattle.list.proofs.count_changes.Statement.{statement}
-use Rattle.list.proofs.count_changes.Tie as tie
+use Rattle.pairs.proofs.Reading.{fit-more, fit-stop, count-more, pairs-end, counted-fit, counted-unfit}
+use Rattle.pairs.proofs.count_changes.Statement.{statement}
+use Rattle.pairs.proofs.count_changes.Tie as tie
 
 abbrev Inv-loop : tie.InvT-loop
 Inv-loop list e l i₀ end₀ changes₀ i end changes =

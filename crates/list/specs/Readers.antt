@@ -1,34 +1,13 @@
--- What the reader's functions answer and require.
+-- What the readers of a list require, and where a cursor stands.
 use Prim.Native.Nat.{ℕ, _+_, _*_, _≤_, _<_}
 use mathlib.Core.Path.{_≡_}
 use mathlib.Core.List.{List}
 use lib.ListN.{length, take}
-use mathlib.Core.Bool.{Bool, not, _&&_}
-use lib.Dec.{leb, eqb}
-use Rattle.words.specs.Choice.{if_then_else_}
 use Rattle.words.specs.Lists.{sum}
-use Rattle.runs.specs.Changes.{pairSize, lengths, pairAt, pairs, pairCount, changeCount, pairsFit, listNumber}
+use Rattle.runs.specs.Changes.{pairSize, lengths, pairAt, pairs, pairCount, changeCount}
 use Rattle.words.specs.Blocks.{blockSize, printSize}
-use Rattle.list.specs.declared.Shape.{Shape}
+use Rattle.pairs.specs.declared.Shape.{Shape}
 use Rattle.list.specs.declared.Cursor.{Cursor}
-use Rattle.list.specs.declared.Counted.{Counted}
-use Rattle.list.specs.declared.Counted.the-variants.{Fit, Unfit}
-use Rattle.list.specs.declared.Checked.{Checked}
-use Rattle.list.specs.declared.Checked.the-variants.{Good, Refused}
-
--- E and n
-unfoldable pub shapeOf : List ℕ → Shape
-shapeOf b = record { pairs = pairCount b; changes = changeCount b }
-
--- one pair after another that ends at `end`, and what the pairs of a list come to
-abbrev pub pairFits : ℕ → ℕ → ℕ → ℕ → Bool
-pairFits L end first many = not (eqb many 0) && leb end first && leb (first + many) L
-
-unfoldable pub countedOf : ℕ → List ℕ → Counted
-countedOf L b = if pairsFit L 0 (pairs b) then Fit (changeCount b) else Unfit
-
-unfoldable pub checkedOf : ℕ → List ℕ → Checked
-checkedOf L b = if eqb (listNumber L b) 0 then Good (shapeOf b) else Refused
 
 -- what the readers of a part require: the bytes are a whole list with these numbers. It follows from a good check
 pub record Whole (b : List ℕ) (s : Shape) : Type 0 where

@@ -1,9 +1,9 @@
--- `list::pair_fits`: the tests of the branches are those of `pairFits`.
+-- `pairs::pair_fits`: the tests of the branches are those of `pairFits`.
 use native.Mathlib.Omega.{arith}
 use borrow.Author.Needs.{needs}
 use borrow.Author.Tests.{le-leb, lt-leb, eq-eqb, ne-eqb}
-use Rattle.list.proofs.pair_fits.Statement.{statement}
-use Rattle.list.proofs.pair_fits.Tie as tie
+use Rattle.pairs.proofs.pair_fits.Statement.{statement}
+use Rattle.pairs.proofs.pair_fits.Tie as tie
 
 returns : tie.Need-returns
 returns c = rw (eq-eqb (c .before .args .many) 0 (omega arith))

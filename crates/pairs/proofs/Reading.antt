@@ -5,14 +5,14 @@ use mathlib.Core.Bool.{Bool, true, false, _&&_}
 use mathlib.Core.List.{List, [], _∷_}
 use native.Mathlib.Numerals.{add-one}
 use native.Mathlib.Omega.{arith}
-use lib.ListN.{length, getD, drop, drop-of-length-le}
+use lib.ListN.{drop, drop-of-length-le}
 use lib.Seq.{drop-cons}
 use Rattle.words.specs.Choice.{if_then_else_}
 use Rattle.words.specs.Lists.{sum}
 use Rattle.runs.specs.Changes.{Pair, pairCount, pairAt, pairs, lengths, changeCount, pairsFit}
-use Rattle.list.specs.Answers.{pairFits, countedOf}
+use Rattle.pairs.specs.Answers.{pairFits, countedOf}
 use Rattle.runs.proofs.Pairs.{length-pairs, getD-pairs, fit-sum}
-use Rattle.list.specs.declared.Counted.the-variants.{Fit, Unfit}
+use Rattle.pairs.specs.declared.Counted.the-variants.{Fit, Unfit}
 
 module _ (b : List ℕ) where
   drop-pairs : (i : ℕ) → i < pairCount b → drop i (pairs b) ≡ pairAt b i ∷ drop (i + 1) (pairs b)
