@@ -14,11 +14,11 @@ use Rattle.model.specs.Backup.{Work, runChanges, begun, closed}
 use Rattle.model.specs.OnBytes.{backedBytes}
 use Rattle.placer.specs.Working.{workAt}
 use Rattle.placer.specs.declared.placing.Tally.{Tally}
-use Rattle.intake.specs.Allowing.{Ready, AllowedBy}
+use Rattle.permit.specs.Allowing.{Ready, AllowedBy}
 use Rattle.intake.specs.Closing.{closedBook}
 use Rattle.intake.specs.Contracts.{outcome, BackedUp}
-use Rattle.intake.specs.declared.allowing.Plan.{Plan}
-use Rattle.intake.specs.declared.allowing.Allowed.{Allowed}
+use Rattle.permit.specs.declared.allowing.Plan.{Plan}
+use Rattle.permit.specs.declared.allowing.Allowed.{Allowed}
 
 -- what the check answered, once it is known which answer it is
 pub allowed-as : (book pool : Lent (List ℕ)) (spare v t : ℕ) (list : Lent (List ℕ)) {r r′ : Allowed} → r ≡ r′

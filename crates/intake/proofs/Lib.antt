@@ -1,5 +1,3 @@
-pub mod BackupsPassed
 pub mod StoringLaws
-pub mod AllowLaws
 pub mod CloseLaws
 pub mod BackupLaws

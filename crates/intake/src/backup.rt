@@ -7,11 +7,8 @@ ghost use Rattle.book.specs.Layout.{told, Holds, Is};
 ghost use Rattle.book.specs.FormFacts.{FormFacts};
 ghost use Rattle.mover.specs.Stepping.{stepNumber};
 ghost use Rattle.placer.specs.Working.{Job};
-ghost use Rattle.intake.specs.Allowing.{allowedNumber};
 ghost use Rattle.intake.specs.Contracts.{BackedUp};
 ghost use Rattle.intake.specs.Closing.{closedBook, WorkedBy};
-use super::allowing::Allowed;
-use super::allowing::allow;
 use super::storing::copy;
 use super::storing::store_all;
 use fields::header;
@@ -19,17 +16,10 @@ use journal::slot;
 use mover::changing::run_changes;
 use mover::moving::Step;
 use pairs::Shape;
+use permit::allowing::Allowed;
+use permit::allowing::allow;
+use permit::allowing::allowed_number;
 use words::limits::MAX_BLOCKS;
-
-// The number of a backup that isn't allowed.
-fn allowed_number(allowed: Allowed) -> u16
-    ensures { λ r. ⌜ r ≡ allowedNumber allowed ⌝ }
-{
-    match allowed {
-        Allowed::Go(_) => 0,
-        Allowed::Refused(k) => k,
-    }
-}
 
 // The number of changes that stopped.
 fn step_number(step: Step) -> u16

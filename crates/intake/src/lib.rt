@@ -1,5 +1,3 @@
-// Backup: what may refuse it, the changes on a copy of the book, then the pool and the book.
-pub mod allowing;
+// Backup: the changes on a copy of the book, then the pool and the book.
 pub mod backup;
-pub mod slots;
 pub mod storing;

@@ -4,7 +4,7 @@ use native.Mathlib.Omega.{arith}
 use lib.ListN.{length}
 use lib.Seq.{length-take-le}
 use Rattle.mover.specs.Stepping.{stepNumber}
-use Rattle.intake.specs.Allowing.{Ready, AllowedBy, allowedNumber}
+use Rattle.permit.specs.Allowing.{Ready, AllowedBy, allowedNumber}
 use Rattle.intake.specs.Closing.{WorkedBy}
 use Rattle.intake.proofs.BackupLaws.{allowed-as, refused-up, changes-stopped, backed-up}
 use Rattle.intake.proofs.CloseLaws.{worked-as}

@@ -1,13 +1,13 @@
--- `intake::slots::backups_of` meets its contract: each turn passes one slot, the volume's or another's.
+-- `permit::slots::backups_of` meets its contract: each turn passes one slot, the volume's or another's.
 use Prim.Native.Nat.{_-_, _≤_, _<_}
 use mathlib.Core.Logic.{⊎-elim}
 use native.Mathlib.Omega.{arith}
 use lib.ListN.{length}
 use denote.Ref.{now}
 use Rattle.book.specs.Layout.{bookOf}
-use Rattle.intake.proofs.BackupsPassed.{Passed, passed-none, passed-own, passed-other, passed-all}
-use Rattle.intake.proofs.slots.backups_of.Statement.{statement}
-use Rattle.intake.proofs.slots.backups_of.Tie as tie
+use Rattle.permit.proofs.BackupsPassed.{Passed, passed-none, passed-own, passed-other, passed-all}
+use Rattle.permit.proofs.slots.backups_of.Statement.{statement}
+use Rattle.permit.proofs.slots.backups_of.Tie as tie
 
 abbrev Inv-loop : tie.InvT-loop
 Inv-loop book v used count₀ last₀ q₀ count last q = (q ≤ used) × (count ≤ q) × Passed (bookOf book) v q count last

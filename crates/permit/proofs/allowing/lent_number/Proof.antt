@@ -2,9 +2,9 @@
 use mathlib.Core.Path.{_≡_, sym, _∙_}
 use borrow.Author.Needs.{needs}
 use Rattle.buffers.specs.Buffers.{buffersNumber}
-use Rattle.intake.proofs.AllowLaws.{lent-first, lent-four, lent-none}
-use Rattle.intake.proofs.allowing.lent_number.Statement.{statement}
-use Rattle.intake.proofs.allowing.lent_number.Tie as tie
+use Rattle.permit.proofs.AllowLaws.{lent-first, lent-four, lent-none}
+use Rattle.permit.proofs.allowing.lent_number.Statement.{statement}
+use Rattle.permit.proofs.allowing.lent_number.Tie as tie
 
 good : (c : tie.Else1) →
     let a = c .before .before .before .before .args in

@@ -12,7 +12,7 @@ use Rattle.journal.specs.declared.slot.Slot.{Slot}
 use Rattle.model.specs.Journal.{Backup, backups, days}
 use Rattle.model.proofs.kept.JournalAtLaws.{day-at, from-start, from-own, from-other, from-end}
 use Rattle.model.specs.JournalAt.{backupsFrom}
-use Rattle.intake.specs.Backups.{BackupsAre}
+use Rattle.permit.specs.Backups.{BackupsAre}
 
 abbrev daysOf : List Backup → List ℕ
 daysOf bs = map (λ (b : Backup). b .day) bs

@@ -14,12 +14,12 @@ use Rattle.book.specs.FormFacts.{FormFacts}
 use Rattle.book.proofs.FormFactLaws.{form-facts}
 use Rattle.model.specs.Backup.{backupNumber}
 use Rattle.model.proofs.form.BackupAllowed.{Allowed, number-zero}
-use Rattle.intake.specs.Allowing.{lentNumber, dayRefused, roomNumber, AllowedBy}
-use Rattle.intake.proofs.AllowLaws.{lent-facts, lent-refused, number-refused, goes-on, by-room, days-bound}
-use Rattle.intake.proofs.AllowLaws.{five-above, five-none, seven, eight}
+use Rattle.permit.specs.Allowing.{lentNumber, dayRefused, roomNumber, AllowedBy}
+use Rattle.permit.proofs.AllowLaws.{lent-facts, lent-refused, number-refused, goes-on, by-room, days-bound}
+use Rattle.permit.proofs.AllowLaws.{five-above, five-none, seven, eight}
 use borrow.Author.Needs.{needs}
-use Rattle.intake.proofs.allowing.allow.Statement.{statement}
-use Rattle.intake.proofs.allowing.allow.Tie as tie
+use Rattle.permit.proofs.allowing.allow.Statement.{statement}
+use Rattle.permit.proofs.allowing.allow.Tie as tie
 
 abbrev start : tie.Else1 → tie.Start
 start c = c .before .before .before .before .before

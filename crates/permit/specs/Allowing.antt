@@ -19,9 +19,9 @@ use Rattle.model.specs.Backup.{Work, runChanges, begun, closed}
 use Rattle.model.specs.OnBytes.{spareNumber, BackedBytes, backedBytes, backupBytes}
 use Rattle.buffers.specs.Buffers.{orNumber, buffersNumber}
 use Rattle.placer.specs.Working.{Job}
-use Rattle.intake.specs.declared.allowing.Plan.{Plan}
-use Rattle.intake.specs.declared.allowing.Allowed.{Allowed}
-use Rattle.intake.specs.declared.allowing.Allowed.the-variants.{Go, Refused}
+use Rattle.permit.specs.declared.allowing.Plan.{Plan}
+use Rattle.permit.specs.declared.allowing.Allowed.{Allowed}
+use Rattle.permit.specs.declared.allowing.Allowed.the-variants.{Go, Refused}
 
 -- numbers 1 to 4
 unfoldable pub lentNumber : List ℕ → List ℕ → ℕ → ℕ

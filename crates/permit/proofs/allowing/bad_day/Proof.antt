@@ -4,10 +4,10 @@ use mathlib.Core.Path.{sym, ap, _∙_}
 use native.Mathlib.Omega.{arith}
 use lib.Dec.{leb}
 use Rattle.book.specs.Layout.{bookOf}
-use Rattle.intake.proofs.AllowLaws.{day-late, day-early, day-first, day-next}
+use Rattle.permit.proofs.AllowLaws.{day-late, day-early, day-first, day-next}
 use borrow.Author.Needs.{needs}
-use Rattle.intake.proofs.allowing.bad_day.Statement.{statement}
-use Rattle.intake.proofs.allowing.bad_day.Tie as tie
+use Rattle.permit.proofs.allowing.bad_day.Statement.{statement}
+use Rattle.permit.proofs.allowing.bad_day.Tie as tie
 
 abbrev start : tie.Else1 → tie.Start
 start c = c .before .before

@@ -5,7 +5,7 @@ use lib.ListN.{length}
 use Rattle.words.specs.Lists.{lastOf}
 use Rattle.book.specs.Book.{Book}
 use Rattle.model.specs.Journal.{days}
-use Rattle.intake.specs.declared.slots.Backups.{Backups}
+use Rattle.permit.specs.declared.slots.Backups.{Backups}
 
 -- what the code answers
 pub record BackupsAre (x : Book) (v : ℕ) (r : Backups) : Type 0 where

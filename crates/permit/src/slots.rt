@@ -1,6 +1,6 @@
 // The backups of a volume, by the used slots.
 ghost use Rattle.book.specs.Layout.{told, Holds};
-ghost use Rattle.intake.specs.Backups.{BackupsAre};
+ghost use Rattle.permit.specs.Backups.{BackupsAre};
 use fields::header;
 use journal::slot;
 

@@ -3,10 +3,10 @@ use Prim.Native.Nat.{_<_}
 use native.Mathlib.Omega.{arith}
 use lib.ListN.{length}
 use Rattle.book.specs.Layout.{bookOf}
-use Rattle.intake.proofs.AllowLaws.{room-nine, room-ten, room-none}
+use Rattle.permit.proofs.AllowLaws.{room-nine, room-ten, room-none}
 use borrow.Author.Needs.{needs}
-use Rattle.intake.proofs.allowing.room.Statement.{statement}
-use Rattle.intake.proofs.allowing.room.Tie as tie
+use Rattle.permit.proofs.allowing.room.Statement.{statement}
+use Rattle.permit.proofs.allowing.room.Tie as tie
 
 abbrev start : tie.After-used-slots → tie.Start
 start c = c .before .before .before

@@ -23,7 +23,7 @@ use Rattle.model.proofs.kept.JournalAtLaws.{length-journal}
 use Rattle.model.specs.OnBytes.{spareNumber, BackedBytes, backedBytes, backupBytes}
 use Rattle.buffers.specs.Buffers.{buffersNumber}
 use Rattle.buffers.proofs.BuffersLaws.{or-first, or-zero, if-zero, unless-or, buffers-facts, buffers-order}
-use Rattle.intake.specs.Allowing.{lentNumber, dayRefused, roomNumber, goesOn}
+use Rattle.permit.specs.Allowing.{lentNumber, dayRefused, roomNumber, goesOn}
 
 -- ---- numbers 1 to 4
 

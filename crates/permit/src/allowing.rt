@@ -1,8 +1,8 @@
 // Numbers 1 to 10 of a backup.
 ghost use mathlib.Core.Path.{_≡_};
 ghost use Rattle.book.specs.Layout.{told, Holds};
-ghost use Rattle.intake.specs.Allowing.{lentNumber, dayRefused, roomNumber, AllowedBy};
-ghost use Rattle.intake.specs.Backups.{BackupsAre};
+ghost use Rattle.permit.specs.Allowing.{lentNumber, dayRefused, roomNumber, AllowedBy, allowedNumber};
+ghost use Rattle.permit.specs.Backups.{BackupsAre};
 use super::slots::Backups;
 use super::slots::backups_of;
 use buffers::buffers_number;
@@ -104,4 +104,14 @@ pub fn allow(book: &[u8], pool: &[u8], spare: usize, v: u16, day: u16, list: &[u
         until,
         number,
     })
+}
+
+// The number of a backup that isn't allowed.
+pub fn allowed_number(allowed: Allowed) -> u16
+    ensures { λ r. ⌜ r ≡ allowedNumber allowed ⌝ }
+{
+    match allowed {
+        Allowed::Go(_) => 0,
+        Allowed::Refused(k) => k,
+    }
 }

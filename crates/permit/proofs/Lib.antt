@@ -1,0 +1,2 @@
+pub mod BackupsPassed
+pub mod AllowLaws
