@@ -1,8 +1,7 @@
 -- `auditor::matching::entries_match` meets its contract: `good` is the test of the entries passed.
 use Prim.Native.Nat.{_-_, _≤_}
 use mathlib.Core.Path.{_≡_}
-use denote.Ref.{now}
-use Rattle.book.specs.Layout.{bookOf}
+use Rattle.book.specs.Layout.{bookOf, told}
 use Rattle.auditor.specs.Entries.{entriesMatch}
 use Rattle.auditor.proofs.EntryLaws.{entries-none, entries-grow}
 use borrow.Author.Needs.{needs}
@@ -33,7 +32,7 @@ loop-again c =
 
 returns : tie.Need-returns Inv-loop μ-loop
 returns c =
-    let e : c .before .loop .p ≡ bookOf (now (c .before .before .before .before .args .book)) .sizes .n = omega arith in
+    let e : c .before .loop .p ≡ told (c .before .before .before .before .args .book) .sizes .n = omega arith in
     rw e at (c .before .loop .inv .1)
 
 pub entries-match-spec : {M : Type 1} → statement M

@@ -6,7 +6,7 @@ use lib.ListN.{length}
 use denote.Ref.{now}
 use Rattle.book.specs.FormFacts.{FormFacts}
 use Rattle.book.proofs.FormFactLaws.{form-facts}
-use Rattle.book.specs.Layout.{bookOf}
+use Rattle.book.specs.Layout.{told}
 use Rattle.model.proofs.views.EnrolledNumber.{passed-enrolled}
 use Rattle.model.proofs.views.ViewLaws.{length-backupsOf}
 use Rattle.model.specs.Views.{enrolledNumber, backupsOf}
@@ -36,16 +36,16 @@ returns-2 c =
     let k = c .before in
     let e = k .before in
     let s = start e .args in
-    let rows = length-backupsOf (bookOf (now (s .book))) (s .volume) in
+    let rows = length-backupsOf (told (s .book)) (s .volume) in
     told-short _ _ _ _ refl refl (passed e) (omega (arith, rows, k .count-backups .ensures))
 
 room : (c : tie.Else2)
     → let s = start (c .before .before) .args in
-    length (backupsOf (bookOf (now (s .book))) (s .volume)) ≤ length (now (s .out))
+    length (backupsOf (told (s .book)) (s .volume)) ≤ length (now (s .out))
 room c =
     let k = c .before in
     let s = start (k .before) .args in
-    omega (arith, length-backupsOf (bookOf (now (s .book))) (s .volume), k .count-backups .ensures)
+    omega (arith, length-backupsOf (told (s .book)) (s .volume), k .count-backups .ensures)
 
 put-rows-requires : tie.Need-put-rows-requires
 put-rows-requires c κs =

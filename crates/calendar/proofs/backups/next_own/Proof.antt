@@ -2,8 +2,7 @@
 use Prim.Native.Nat.{_-_, _≤_}
 use mathlib.Core.Path.{_≡_, refl, sym, _∙_}
 use native.Mathlib.Omega.{arith}
-use denote.Ref.{now}
-use Rattle.book.specs.Layout.{bookOf}
+use Rattle.book.specs.Layout.{bookOf, told}
 use Rattle.model.specs.JournalAt.{backupsFrom}
 use Rattle.model.proofs.kept.JournalAtLaws.{from-other}
 use Rattle.calendar.proofs.backups.next_own.Statement.{statement}
@@ -35,7 +34,7 @@ loop-again c =
     let k = c .before .before in
     let l = k .before .before .loop in
     let a = k .before .before .before .before .before .args in
-    let x = bookOf (now (a .book)) in
+    let x = told (a .book) in
     let other = from-other x (a .v) (l .r) (omega arith) (λ e. c .if1 .left (k .slot-at .ensures .volume ∙ e)) in
     (omega arith, l .inv .1 ∙ other)
 

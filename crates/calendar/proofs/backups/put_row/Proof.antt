@@ -1,9 +1,8 @@
 -- `calendar::backups::put_row` meets its contract: four numbers, one after the other.
 use mathlib.Core.Path.{ap}
 use mathlib.Core.Bool.{Bool}
-use denote.Ref.{now}
 use Rattle.words.specs.Lists.{bit}
-use Rattle.book.specs.Layout.{bookOf}
+use Rattle.book.specs.Layout.{told}
 use Rattle.calendar.proofs.RowLaws.{row-stored}
 use borrow.Author.Needs.{needs}
 use Rattle.calendar.proofs.backups.put_row.Statement.{statement}
@@ -15,7 +14,7 @@ returns c =
     let k = u .before .before .before .before in
     let i = k .before .before in
     let s = i .before .before .before .before .before in
-    row-stored (bookOf (now (s .args .book))) (s .args .q) (s .args .next) (s .args .days)
+    row-stored (told (s .args .book)) (s .args .q) (s .args .next) (s .args .days)
     (i .before .before .slot-at .ensures) (i .before .kept-until .ensures)
     (ap (λ (t : Bool). bit t) (i .is-kept .ensures)) (k .put-three .ensures) (u .put-u16 .ensures)
 

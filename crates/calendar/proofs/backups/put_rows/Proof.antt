@@ -5,11 +5,10 @@ use mathlib.Core.List.{List, _++_}
 use native.Mathlib.Omega.{arith}
 use lib.ListN.{length}
 use lib.Seq.{length-sets}
-use denote.Ref.{now}
 use Rattle.words.proofs.LayingLaws.{Left, left-room, left-more, left-none}
 use Rattle.book.specs.Book.{slotAt}
 use Rattle.book.proofs.Conditions.{retention-in}
-use Rattle.book.specs.Layout.{bookOf}
+use Rattle.book.specs.Layout.{bookOf, told}
 use Rattle.model.specs.Views.{backupsOf}
 use Rattle.calendar.specs.Row.{rowFrom}
 use Rattle.calendar.proofs.Rows.{rowsFrom, rows-left, rows-next, rows-end}
@@ -53,16 +52,16 @@ abbrev row : tie.After-next-own2 Inv-loop μ-loop → List ℕ
 row c =
     let d = limited c in
     let a = start d .args in
-    rowFrom (bookOf (now (a .book))) (c .before .before .loop .q) (c .next-own2 .result) (d .retention .result)
+    rowFrom (told (a .book)) (c .before .before .loop .q) (c .next-own2 .result) (d .retention .result)
 
 abbrev after : tie.After-next-own2 Inv-loop μ-loop → List ℕ
 after c =
     let a = start (limited c) .args in
-    rowsFrom (bookOf (now (a .book))) (a .v) (c .next-own2 .result)
+    rowsFrom (told (a .book)) (a .v) (c .next-own2 .result)
 
 next-row : (c : tie.After-next-own2 Inv-loop μ-loop)
     → let a = start (limited c) .args in
-    rowsFrom (bookOf (now (a .book))) (a .v) (c .before .before .loop .q) ≡ row c ++ after c
+    rowsFrom (told (a .book)) (a .v) (c .before .before .loop .q) ≡ row c ++ after c
 next-row c =
     let l = c .before .before .loop in
     let d = limited c in
@@ -75,7 +74,7 @@ put-row-requires c κs =
     let l = k .before .before .loop in
     let d = limited k in
     let s = start d in
-    let most = retention-in (bookOf (now (s .args .book))) (s .pre .0 .parts) (s .args .v) in
+    let most = retention-in (told (s .args .book)) (s .pre .0 .parts) (s .args .v) in
     let few : d .retention .result ≤ 5000 = omega (arith, most, d .retention .ensures) in
     (s .pre .0, ((omega arith, few), left-room (l .inv .0) (row k) (after k) (next-row k)))
 

@@ -4,8 +4,7 @@ use Prim.Native.Nat.{_-_, _≤_, _<_}
 use mathlib.Core.Logic.{⊎-elim}
 use native.Mathlib.Omega.{arith}
 use lib.ListN.{length}
-use denote.Ref.{now}
-use Rattle.book.specs.Layout.{bookOf}
+use Rattle.book.specs.Layout.{bookOf, told}
 use Rattle.figures.proofs.Passed.{Passed, passed-none, passed-own, passed-other, passed-all}
 use Rattle.figures.proofs.volume.count_backups.Statement.{statement}
 use Rattle.figures.proofs.volume.count_backups.Tie as tie
@@ -29,7 +28,7 @@ loop-again : tie.Need-loop-again Inv-loop μ-loop
 loop-again c =
     let k = c .before .before in
     let l = k .before .before .loop in
-    let h : l .q < length (bookOf (now (k .before .before .before .before .before .args .book)) .slots) = omega arith in
+    let h : l .q < length (told (k .before .before .before .before .before .args .book) .slots) = omega arith in
     let t = k .slot-at .result in
     let s = k .slot-at .ensures in
     ⊎-elim

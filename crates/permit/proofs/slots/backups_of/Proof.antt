@@ -3,8 +3,7 @@ use Prim.Native.Nat.{_-_, _≤_, _<_}
 use mathlib.Core.Logic.{⊎-elim}
 use native.Mathlib.Omega.{arith}
 use lib.ListN.{length}
-use denote.Ref.{now}
-use Rattle.book.specs.Layout.{bookOf}
+use Rattle.book.specs.Layout.{bookOf, told}
 use Rattle.permit.proofs.BackupsPassed.{Passed, passed-none, passed-own, passed-other, passed-all}
 use Rattle.permit.proofs.slots.backups_of.Statement.{statement}
 use Rattle.permit.proofs.slots.backups_of.Tie as tie
@@ -28,7 +27,7 @@ loop-again : tie.Need-loop-again Inv-loop μ-loop
 loop-again c =
     let k = c .before .before in
     let l = k .before .before .loop in
-    let h : l .q < length (bookOf (now (k .before .before .before .before .before .args .book)) .slots) = omega arith in
+    let h : l .q < length (told (k .before .before .before .before .before .args .book) .slots) = omega arith in
     let t = k .slot-at .result in
     let s = k .slot-at .ensures in
     ⊎-elim

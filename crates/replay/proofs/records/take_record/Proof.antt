@@ -1,7 +1,6 @@
 -- `super::records::take_record` meets its contract: each of its calls does its part.
-use denote.Ref.{now}
 use borrow.Author.Needs.{needs}
-use Rattle.book.specs.Layout.{bookOf}
+use Rattle.book.specs.Layout.{told}
 use Rattle.replay.proofs.Bounds.{ReadIn, read-in}
 use Rattle.replay.proofs.RecordLaws.{record-taken}
 use Rattle.replay.proofs.records.take_record.Statement.{statement}
@@ -10,7 +9,7 @@ use Rattle.replay.proofs.records.take_record.Tie as tie
 abbrev read : tie.After-meet-arg → tie.After-record-at
 read c = c .before .before .before .before .before
 
-known : (c : tie.After-record-at) → ReadIn (bookOf (now (c .before .before .args .book))) (c .record-at .result)
+known : (c : tie.After-record-at) → ReadIn (told (c .before .before .args .book)) (c .record-at .result)
 known c = let s = c .before .before in read-in (s .pre .0) (s .args .q) (s .pre .1 .2) (c .record-at .ensures)
 
 replace-requires : tie.Need-replace-requires

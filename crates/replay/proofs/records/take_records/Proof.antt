@@ -2,8 +2,7 @@
 use Prim.Native.Nat.{_-_, _≤_}
 use mathlib.Core.Path.{_≡_, _∙_}
 use lib.Seq.{slice}
-use denote.Ref.{now}
-use Rattle.book.specs.Layout.{bookOf}
+use Rattle.book.specs.Layout.{bookOf, told}
 use Rattle.replay.specs.Records.{notes}
 use Rattle.replay.proofs.RecordLaws.{RecordsLeft, records-start, records-more, records-end}
 use borrow.Author.Needs.{needs}
@@ -39,7 +38,7 @@ loop-again : tie.Need-loop-again Inv-loop μ-loop
 loop-again c =
     let l = turn (c .before) .loop in
     let s = start (turn (c .before)) in
-    let rs = bookOf (now (s .args .book)) .records in (
+    let rs = told (s .args .book) .records in (
       omega arith,
       records-more _ _ _ _ rs (l .q) (s .args .end) (omega arith) (omega arith) (c .take-record .ensures) (l .inv .1),
     )
@@ -49,7 +48,7 @@ returns c =
     let l = c .before .loop in
     let s = start (c .before) in
     let e : l .q ≡ s .args .end = omega arith in
-    records-end _ _ _ _ (bookOf (now (s .args .book)) .records) (l .q) (s .args .end) e (l .inv .1)
+    records-end _ _ _ _ (told (s .args .book) .records) (l .q) (s .args .end) e (l .inv .1)
 
 pub take-records-spec : {M : Type 1} → statement M
 take-records-spec =

@@ -1,6 +1,5 @@
 -- `super::records::take_slot` meets its contract, by `slot-taken`.
-use denote.Ref.{now}
-use Rattle.book.specs.Layout.{bookOf}
+use Rattle.book.specs.Layout.{told}
 use Rattle.replay.proofs.JournalRead.{SlotRead, slot-read}
 use Rattle.replay.proofs.SlotLaws.{slot-taken}
 use native.Mathlib.Omega.{arith}
@@ -14,7 +13,7 @@ start c = c .before .before
 abbrev today : tie.After-take-records-arg3 → tie.After-day
 today c = c .before .before .before .before
 
-known : (c : tie.After-slot-at) → SlotRead (bookOf (now (start c .args .book))) (c .slot-at .result)
+known : (c : tie.After-slot-at) → SlotRead (told (start c .args .book)) (c .slot-at .result)
 known c = let s = start c in slot-read (s .pre .0) (s .args .q) (s .pre .1 .0 .0) (c .slot-at .ensures)
 
 slot-at-requires : tie.Need-slot-at-requires

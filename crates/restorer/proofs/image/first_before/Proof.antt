@@ -2,8 +2,7 @@
 use Prim.Native.Nat.{ℕ, _+_, _-_, _≤_}
 use mathlib.Core.Path.{_≡_, refl, sym, ap, _∙_}
 use native.Mathlib.Omega.{arith}
-use denote.Ref.{now}
-use Rattle.book.specs.Layout.{bookOf}
+use Rattle.book.specs.Layout.{bookOf, told}
 use Rattle.restorer.specs.declared.image.Before.the-variants.{At}
 use Rattle.restorer.proofs.BeforeLaws.{beforeSpan, span-whole, span-here, span-next, span-none}
 use Rattle.restorer.proofs.image.first_before.Statement.{statement}
@@ -29,7 +28,7 @@ returns c =
     let k = c .before .before .before .before in
     let l = k .before .before .loop in
     let a = k .before .before .before .before .args in
-    let rs = bookOf (now (a .book)) .records in
+    let rs = told (a .book) .records in
     let its = sym (k .record-at .ensures .lbn) ∙ c .before .if1 .taken in
     let here = span-here (a .lbn .0) rs (l .q) (a .first + a .number) (omega arith) (omega arith) its in
     let whole = span-whole (a .lbn .0) (a .first) (a .number) rs in
@@ -40,7 +39,7 @@ loop-again c =
     let k = c .before .before .before in
     let l = k .before .before .loop in
     let a = k .before .before .before .before .args in
-    let rs = bookOf (now (a .book)) .records in
+    let rs = told (a .book) .records in
     let next =
     span-next (a .lbn .0) rs (l .q) (a .first + a .number) (omega arith) (omega arith)
     (λ e. c .if1 .left (k .record-at .ensures .lbn ∙ e))
@@ -51,7 +50,7 @@ returns-2 : tie.Need-returns-2 Inv-loop μ-loop
 returns-2 c =
     let l = c .before .loop in
     let a = c .before .before .before .args in
-    let rs = bookOf (now (a .book)) .records in
+    let rs = told (a .book) .records in
     let whole = span-whole (a .lbn .0) (a .first) (a .number) rs in
     sym (sym whole ∙ l .inv .2 ∙ span-none (a .lbn .0) rs (l .q) (a .first + a .number) (omega arith))
 

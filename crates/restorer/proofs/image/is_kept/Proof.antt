@@ -2,8 +2,7 @@
 use borrow.Author.Needs.{needs}
 use mathlib.Core.Path.{sym}
 use native.Mathlib.Omega.{arith}
-use denote.Ref.{now}
-use Rattle.book.specs.Layout.{bookOf}
+use Rattle.book.specs.Layout.{told}
 use Rattle.restorer.proofs.AfterLaws.{kept-newest, kept-replaced}
 use Rattle.restorer.proofs.image.is_kept.Statement.{statement}
 use Rattle.restorer.proofs.image.is_kept.Tie as tie
@@ -15,7 +14,7 @@ returns-2 : tie.Need-returns-2
 returns-2 c =
     let k = c .before .before in
     let a = k .before .before .before .before .args in
-    let x = bookOf (now (a .book)) in
+    let x = told (a .book) in
     rw (c .day .ensures, k .slot-at .ensures .day) (sym (kept-replaced x (a .at) (a .days) (omega arith)))
 
 pub is-kept-spec : {M : Type 1} → statement M

@@ -3,8 +3,7 @@ use Prim.Native.Nat.{_-_, _≤_}
 use mathlib.Core.Path.{_≡_, refl, sym, _∙_}
 use native.Mathlib.Omega.{arith}
 use borrow.Author.Needs.{needs}
-use denote.Ref.{now}
-use Rattle.book.specs.Layout.{bookOf}
+use Rattle.book.specs.Layout.{bookOf, told}
 use Rattle.restorer.specs.Befores.{beforeFrom}
 use Rattle.restorer.proofs.BeforeLaws.{later-here, later-next, later-none}
 use Rattle.restorer.proofs.image.later_before.Statement.{statement}
@@ -32,7 +31,7 @@ returns c =
     let l = k .before .before .loop in
     let a = k .before .before .before .before .before .args in
     let e = c .enum-told2 .given .1 in
-    let x = bookOf (now (a .book)) in
+    let x = told (a .book) in
     let here = later-here x (a .v) (l .q) (a .lbn .0) _ (omega arith) (sym (k .slot-before .ensures) ∙ e) in
     e ∙ sym (l .inv .1 ∙ here)
 
@@ -42,13 +41,13 @@ loop-again c =
     let l = k .before .before .loop in
     let a = k .before .before .before .before .before .args in
     let none = sym (k .slot-before .ensures) ∙ c .enum-told .given .1 in
-    (omega arith, l .inv .1 ∙ later-next (bookOf (now (a .book))) (a .v) (l .q) (a .lbn .0) (omega arith) none)
+    (omega arith, l .inv .1 ∙ later-next (told (a .book)) (a .v) (l .q) (a .lbn .0) (omega arith) none)
 
 returns-2 : tie.Need-returns-2 Inv-loop μ-loop
 returns-2 c =
     let l = c .before .loop in
     let a = c .before .before .before .before .args in
-    sym (l .inv .1 ∙ later-none (bookOf (now (a .book))) (a .v) (l .q) (a .lbn .0) (omega arith))
+    sym (l .inv .1 ∙ later-none (told (a .book)) (a .v) (l .q) (a .lbn .0) (omega arith))
 
 pub later-before-spec : {M : Type 1} → statement M
 later-before-spec =

@@ -3,9 +3,8 @@ use borrow.Author.Needs.{needs}
 use mathlib.Core.Path.{sym}
 use native.Mathlib.Omega.{arith}
 use lib.ListN.{length}
-use denote.Ref.{now}
 use Rattle.book.proofs.Conditions.{pairs-in}
-use Rattle.book.specs.Layout.{bookOf}
+use Rattle.book.specs.Layout.{told}
 use Rattle.restorer.proofs.BeforeLaws.{slot-own, slot-other}
 use Rattle.restorer.proofs.image.slot_before.Statement.{statement}
 use Rattle.restorer.proofs.image.slot_before.Tie as tie
@@ -19,7 +18,7 @@ first-before-requires : tie.Need-first-before-requires
 first-before-requires c κs =
     let k = c .before .before in
     let p = k .before .before .pre in
-    let x = bookOf (now (k .before .before .args .book)) in
+    let x = told (k .before .before .args .book) in
     let q = k .before .before .args .q in
     (p .0 .holds, omega (arith, pairs-in (x .slots) 0 (length (x .records)) (p .0 .parts .pairs) q (p .1)))
 
@@ -29,7 +28,7 @@ returns-2 c =
     let a = k .before .before .args in
     let p = k .before .before .pre in
     let own =
-    slot-own (bookOf (now (a .book))) (a .v) (a .q) (a .lbn .0) (k .slot-at .result) (k .slot-at .ensures)
+    slot-own (told (a .book)) (a .v) (a .q) (a .lbn .0) (k .slot-at .result) (k .slot-at .ensures)
     (p .0 .parts .pairs) (p .1) (omega arith)
     in
     rw own (c .first-before .ensures)

@@ -2,7 +2,7 @@
 use borrow.Author.Needs.{needs}
 use mathlib.Core.Path.{_≡_, sym, _∙_, subst}
 use denote.Ref.{now}
-use Rattle.book.specs.Layout.{bookOf}
+use Rattle.book.specs.Layout.{told}
 use Rattle.book.specs.FormFacts.{FormFacts}
 use Rattle.book.proofs.FormFactLaws.{form-facts}
 use Rattle.buffers.specs.Buffers.{buffersNumber}
@@ -41,7 +41,7 @@ returns-2 : tie.Need-returns-2
 returns-2 c =
     let k = c .before .before .before .before in
     let a = start (k .before) .args in
-    let x = bookOf (now (a .book)) in
+    let x = told (a .book) in
     let on = sought-on (now (a .book)) (now (a .pool)) (a .volume) (a .number) (a .lbn .0) (none (k .before)) in
     let is = subst (KeptIs x (a .volume) (a .number)) (c .before .before .at .given .1) (k .kept-backup .ensures) in
     c .block-before .ensures ∙ sym (on ∙ sought-before x (a .volume) (a .number) (a .lbn .0) _ is)
@@ -50,7 +50,7 @@ returns-3 : tie.Need-returns-3
 returns-3 c =
     let k = c .before .before .before in
     let a = start (k .before) .args in
-    let x = bookOf (now (a .book)) in
+    let x = told (a .book) in
     let on = sought-on (now (a .book)) (now (a .pool)) (a .volume) (a .number) (a .lbn .0) (none (k .before)) in
     let is = subst (KeptIs x (a .volume) (a .number)) (c .before .n .given .1) (k .kept-backup .ensures) in
     sym (on ∙ sought-refused x (a .volume) (a .number) (a .lbn .0) _ is)

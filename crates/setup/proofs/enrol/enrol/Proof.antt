@@ -2,7 +2,7 @@
 use mathlib.Core.Path.{_≡_, refl, sym, _∙_}
 use denote.Ref.{now}
 use borrow.Author.Needs.{needs}
-use Rattle.book.specs.Layout.{bookOf, Holds}
+use Rattle.book.specs.Layout.{told, Holds}
 use Rattle.book.specs.Form.{formNumber}
 use Rattle.book.proofs.FormBytes.{holds-form}
 use Rattle.model.specs.Enrol.{enrolNumber}
@@ -23,7 +23,7 @@ holds c = holds-form _ (λ i. c .before .before .before .slice-known .given i .f
 
 allowed : (c : tie.Else2)
     → (let a = start (c .before .before .before) .args in
-    enrolNumber (bookOf (now (a .book))) (a .volume) (a .retention) ≡ 0)
+    enrolNumber (told (a .book)) (a .volume) (a .retention) ≡ 0)
 allowed c = sym (c .before .enrol-number .ensures) ∙ c .if2 .left
 
 returns : tie.Need-returns

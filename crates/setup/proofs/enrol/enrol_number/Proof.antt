@@ -2,16 +2,15 @@
 use mathlib.Core.Path.{_≡_, sym, _∙_}
 use native.Mathlib.Omega.{arith}
 use borrow.Author.Needs.{needs}
-use denote.Ref.{now}
 use Rattle.book.specs.Book.{retentionOf}
-use Rattle.book.specs.Layout.{bookOf}
+use Rattle.book.specs.Layout.{told}
 use Rattle.setup.proofs.EnrolExits.{number-above, number-enrolled, number-zero, number-long, number-none}
 use Rattle.setup.proofs.enrol.enrol_number.Statement.{statement}
 use Rattle.setup.proofs.enrol.enrol_number.Tie as tie
 
 -- the volume has no retention yet
 none : (c : tie.Else2)
-    → (let a = c .before .before .before .before .args in retentionOf (bookOf (now (a .book))) (a .volume) ≡ 0)
+    → (let a = c .before .before .before .before .args in retentionOf (told (a .book)) (a .volume) ≡ 0)
 none c = sym (c .before .retention .ensures) ∙ c .if2 .left
 
 returns : tie.Need-returns
