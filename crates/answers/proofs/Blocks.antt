@@ -24,7 +24,7 @@ use Rattle.model.specs.OnBytes.{readBytes, readNumberBytes, readPlaceBytes, aud
 use Rattle.model.specs.Pool.{blockAt}
 use Rattle.model.specs.Read
 use Rattle.model.specs.Read.{image, readNumber}
-use Rattle.model.specs.Runs.{answersOf, Ours, ours, oursEnrolled, oursBacked, oursCollected, readAnswer, auditAnswer}
+use Rattle.model.specs.Sides.{answersOf, Ours, ours, oursEnrolled, oursBacked, oursCollected, readAnswer, auditAnswer}
 use Rattle.buffers.proofs.BuffersLaws.{pool-size}
 use Rattle.calls.proofs.AnswerLaws.{isWhole}
 use Rattle.calls.proofs.Proper.{number-unless}

@@ -19,7 +19,7 @@ use Rattle.model.specs.OnBytes.{collectBytes, readBytes}
 use Rattle.model.specs.OnBytes.{readNumberBytes, auditBytes, soundAfter}
 use Rattle.model.specs.Pool.{blockAt}
 use Rattle.model.specs.Read.{image}
-use Rattle.model.specs.Runs.{Step, Ours, ours, oursEnrolled, oursBacked, oursCollected, readAnswer, auditAnswer}
+use Rattle.model.specs.Sides.{Step, Ours, ours, oursEnrolled, oursBacked, oursCollected, readAnswer, auditAnswer}
 use Rattle.calls.specs.Answers.{answerBytes}
 use Rattle.calls.specs.Contracts.{at}
 use Rattle.calls.specs.Doing.{Did}

@@ -14,7 +14,7 @@ use Rattle.words.specs.Lists.{bit}
 use Rattle.words.specs.Laying.{Stored}
 use Rattle.words.proofs.LayingLaws.{sets-append}
 use Rattle.words.specs.Numbers.{two, put}
-use Rattle.words.proofs.Runs.{below-or-not}
+use Rattle.words.proofs.Ranges.{below-or-not}
 use Rattle.words.specs.Sections.{flat}
 use Rattle.book.specs.Book.{Book, slotAt}
 use Rattle.book.proofs.Conditions.{pairs-in}

@@ -8,7 +8,7 @@ use mathlib.Core.List.{List, [], _∷_, _++_}
 use Rattle.model.specs.Calls.{Call, backup, collect}
 use Rattle.model.specs.Claims.{Fresh, ourEnd}
 use Rattle.model.proofs.claims.Proved.{lists, images, corollaries, end-append}
-use Rattle.model.specs.Runs.{Ours, ours, oursShown}
+use Rattle.model.specs.Sides.{Ours, ours, oursShown}
 use Rattle.calls.specs.Doing.{DidAll}
 use Rattle.calls.specs.Chain.{AsPlain, GoesOn}
 

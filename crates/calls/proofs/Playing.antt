@@ -8,7 +8,7 @@ use lib.ListN.{length, length-append}
 use lib.Seq.{sets}
 use Rattle.words.proofs.LayingLaws.{sets-append, sets-front}
 use Rattle.model.specs.Calls.{Call}
-use Rattle.model.specs.Runs.{endOf, Ours, ours}
+use Rattle.model.specs.Sides.{endOf, Ours, ours}
 use Rattle.calls.specs.Answers.{answerBytes, mostOf}
 use Rattle.calls.specs.Contracts.{at, answered}
 use Rattle.calls.specs.Doing.{Did, DidAll}

@@ -18,7 +18,7 @@ use Rattle.model.specs.OnBytes.{BackedBytes, CollectedBytes, poolNumber, enrolB
 use Rattle.model.specs.Read
 use Rattle.model.specs.Read.{image, readNumber}
 use Rattle.model.specs.Pool.{blockAt}
-use Rattle.model.specs.Runs.{Ours, ours, oursEnrolled, oursBacked, oursCollected, readAnswer, auditAnswer}
+use Rattle.model.specs.Sides.{Ours, ours, oursEnrolled, oursBacked, oursCollected, readAnswer, auditAnswer}
 use Rattle.calls.specs.Coding.{dataSize, callOf, callAt}
 use Rattle.calls.specs.Answers.{answerBytes, longest, longestOf, mostOf}
 use Rattle.calls.specs.Contracts.{answered}

@@ -17,7 +17,7 @@ use Rattle.model.specs.History.{historyOf, dayOf, historyRead}
 use Rattle.model.specs.OnBytes.{numberOf, formatNumber}
 use Rattle.model.specs.Plain.{Plain, start, marked}
 use Rattle.model.specs.Pool.{poolSize}
-use Rattle.model.specs.Runs.{answersOf, endOf, Ours, ours, plain, oursShown, plainShown}
+use Rattle.model.specs.Sides.{answersOf, endOf, Ours, ours, plain, oursShown, plainShown}
 use Rattle.calls.specs.Answers.{answerBytes}
 use Rattle.calls.specs.Contracts.{at, roomOf, playable}
 

@@ -9,7 +9,7 @@ use Rattle.words.specs.Outcome.{Outcome, accepted, andThen, unless}
 use Rattle.words.specs.Sections.{flat}
 use Rattle.model.specs.Calls.{Call}
 use Rattle.model.specs.OnBytes.{numberOf, after}
-use Rattle.model.specs.Runs.{answersOf, endOf, Ours, ours}
+use Rattle.model.specs.Sides.{answersOf, endOf, Ours, ours}
 use Rattle.calls.specs.Coding.{callsOf}
 use Rattle.calls.specs.Answers.{answerBytes, mostOf}
 

@@ -7,7 +7,7 @@ use denote.Ref.{now}
 use Rattle.words.specs.Laying.{Stored}
 use Rattle.words.specs.Lent.{Lent}
 use Rattle.model.specs.Calls.{Call}
-use Rattle.model.specs.Runs.{endOf, ours}
+use Rattle.model.specs.Sides.{endOf, ours}
 use Rattle.calls.specs.Answers.{answerBytes}
 use Rattle.calls.specs.Contracts.{at, answered}
 

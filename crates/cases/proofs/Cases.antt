@@ -11,7 +11,7 @@ use Rattle.book.specs.Layout.{bookOf}
 use Rattle.book.proofs.AfterD.{afterD}
 use Rattle.model.specs.Plain.{Block, free, held, Plain, start, currentMaps}
 use Rattle.model.specs.Calls.{Call, enrol, backup, collect, read, audit, Answer, number, backed, freed, block, sound}
-use Rattle.model.specs.Runs.{Ours, endOf, ours, plain, oursShown, plainShown}
+use Rattle.model.specs.Sides.{Ours, endOf, ours, plain, oursShown, plainShown}
 use Rattle.cases.proofs.Open.{model}
 use Rattle.cases.proofs.Letters.{A, B, C, D, E, F, blockOf, printOf, over, list, four, box}
 

@@ -10,7 +10,7 @@ use Rattle.book.specs.Book.{Sizes, entryAt}
 use Rattle.book.specs.Layout.{bytes, bookOf}
 use Rattle.model.specs.Plain.{free, held, Plain, unenrolled, start}
 use Rattle.model.specs.Calls.{Call, enrol, backup, collect, read, audit, Answer, number, backed, freed, block, sound}
-use Rattle.model.specs.Runs.{Ours, answersOf, endOf, ours, plain, oursShown, plainShown}
+use Rattle.model.specs.Sides.{Ours, answersOf, endOf, ours, plain, oursShown, plainShown}
 use Rattle.cases.proofs.Open.{model}
 use Rattle.cases.proofs.Letters.{A, B, C, D, E, F, blockOf, printOf, over, list, empty, box}
 

@@ -9,7 +9,7 @@ use Rattle.book.specs.Book.{Sizes}
 use Rattle.book.specs.Layout.{bytes}
 use Rattle.book.specs.Next.{fresh}
 use Rattle.model.specs.Pool.{poolSize}
-use Rattle.model.specs.Runs.{Ours}
+use Rattle.model.specs.Sides.{Ours}
 
 -- "A, B, .. are sixteen bytes of that letter over blocks of it"
 abbrev pub A : ℕ

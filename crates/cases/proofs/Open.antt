@@ -16,7 +16,7 @@ use Rattle.model.specs.OnBytes
 use Rattle.model.specs.Views
 use Rattle.model.specs.Plain
 use Rattle.model.specs.PlainBackup
-use Rattle.model.specs.Runs
+use Rattle.model.specs.Sides
 use Rattle.model.specs.History
 use Rattle.model.specs.Claims
 
@@ -51,8 +51,8 @@ unfolding
     PlainBackup.takeBlock
     PlainBackup.placeFree PlainBackup.placeHeld PlainBackup.place PlainBackup.moveNumber PlainBackup.moved PlainBackup.moveTo
     PlainBackup.changeStep PlainBackup.begun PlainBackup.withImage PlainBackup.closed PlainBackup.backup
-    Runs.readAnswer Runs.auditAnswer Runs.oursEnrolled Runs.oursBacked Runs.oursCollected Runs.ours Runs.plainEnrolled Runs.plainBacked
-    Runs.plainCollected Runs.plain Runs.oursShown Runs.plainShown
+    Sides.readAnswer Sides.auditAnswer Sides.oursEnrolled Sides.oursBacked Sides.oursCollected Sides.ours Sides.plainEnrolled Sides.plainBacked
+    Sides.plainCollected Sides.plain Sides.oursShown Sides.plainShown
     History.noHistory History.withEnrol History.withSent History.historyOf History.dayOf History.sentBlock History.historyNumber
     History.historyRead
     Claims.changesName

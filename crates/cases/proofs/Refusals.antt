@@ -10,7 +10,7 @@ use Rattle.book.specs.Next.{fresh}
 use Rattle.model.specs.OnBytes.{numberOf, formatBytes, enrolBytes, backupBytes, collectBytes, readNumberBytes, readPlaceBytes, auditBytes}
 use Rattle.model.specs.Calls.{Call, enrol, backup, collect, read, Answer, number, backed, freed}
 use Rattle.model.specs.Plain.{start}
-use Rattle.model.specs.Runs.{answersOf, endOf, ours, plain}
+use Rattle.model.specs.Sides.{answersOf, endOf, ours, plain}
 use Rattle.cases.proofs.Open.{model}
 use Rattle.cases.proofs.Letters.{A, B, C, D, over, list, empty, box}
 use Rattle.cases.proofs.Cases.{sizes, callOf, table, calls}

@@ -8,7 +8,7 @@ use Rattle.words.specs.Outcome.{refused, accepted}
 use Rattle.book.specs.Book.{noPrint}
 use Rattle.book.proofs.AfterD.{afterD}
 use Rattle.model.specs.OnBytes.{after}
-use Rattle.model.specs.Runs.{endOf, ours}
+use Rattle.model.specs.Sides.{endOf, ours}
 use Rattle.model.specs.Views.{sizesBytes, usedBytes, volumeBytes, backupsBytes, cellsBytes, blocksBytes, outputAfter}
 use Rattle.cases.proofs.Open.{model}
 use Rattle.cases.proofs.Letters.{A, B, C, printOf, over, list, box}

@@ -12,7 +12,7 @@ use lib.Seq.{take-all}
 use borrow.Author.Tests.{eq-eqb, ne-eqb}
 use Rattle.words.specs.Lists.{sum}
 use Rattle.words.proofs.Prefixes.{bit-one, count-take}
-use Rattle.words.proofs.Runs.{sum-take}
+use Rattle.words.proofs.Ranges.{sum-take}
 use Rattle.book.specs.Book.{Entry, freeEntry, entryAt, isFree}
 use Rattle.counter.specs.Sums.{held, free, waiting, references}
 use Rattle.counter.specs.declared.counts.Counts.{Counts}

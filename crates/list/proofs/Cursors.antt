@@ -9,7 +9,7 @@ use native.Mathlib.Omega.{arith}
 use lib.ListN.{take}
 use lib.Seq.{take-all}
 use Rattle.words.specs.Lists.{sum}
-use Rattle.words.proofs.Runs.{sum-take}
+use Rattle.words.proofs.Ranges.{sum-take}
 use Rattle.runs.specs.Changes.{Pair, pairCount, pairAt, pairs, lengths, changeCount, lbns, changeAt}
 use Rattle.runs.proofs.Pairs.{length-pairs, getD-pairs, run-at}
 use Rattle.list.specs.Readers.{indexOf, Valid}

@@ -23,7 +23,7 @@ use Rattle.model.specs.Audit.{applied, replayed, noMaps, untilIn}
 use Rattle.model.specs.OnBytes.{formatBytes}
 use Rattle.model.specs.Plain.{Plain, start, volumeAt, current, marked}
 use Rattle.model.specs.Calls.{Call, backup, collect, read, audit, Answer, number, backed, freed, block, sound, isBacked}
-use Rattle.model.specs.Runs.{answersOf, endOf, Ours, ours, plain, oursShown, plainShown}
+use Rattle.model.specs.Sides.{answersOf, endOf, Ours, ours, plain, oursShown, plainShown}
 use Rattle.model.specs.History.{historyOf, dayOf, historyRead}
 
 -- "one fresh book (as an accepted format of any sizes leaves it) and its pool (any bytes at first) with a spare long enough"

@@ -11,7 +11,7 @@ use Rattle.words.specs.Outcome.{accepted, unless}
 use Rattle.runs.specs.Changes.{Change, changes}
 use Rattle.model.specs.Days.{kept}
 use Rattle.model.specs.Calls.{Call, enrol, backup, collect, read, audit, Answer, isZero, isBacked, isFreed}
-use Rattle.model.specs.Runs.{readAnswer}
+use Rattle.model.specs.Sides.{readAnswer}
 
 -- an accepted backup as it was sent
 pub record Sent : Type 0 where

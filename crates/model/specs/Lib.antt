@@ -12,7 +12,7 @@ pub mod Written
 pub mod Plain
 pub mod PlainBackup
 pub mod Calls
-pub mod Runs
+pub mod Sides
 pub mod History
 pub mod Claims
 pub mod JournalAt

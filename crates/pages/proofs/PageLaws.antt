@@ -11,7 +11,7 @@ use lib.ListN.{length, getD, take, length-append}
 use borrow.Author.Tests.{lt-ltb, le-ltb, eq-eqb, ne-eqb}
 use Rattle.words.specs.Choice.{if_then_else_}
 use Rattle.words.specs.Laying.{Stored}
-use Rattle.words.proofs.Runs.{below-or-not}
+use Rattle.words.proofs.Ranges.{below-or-not}
 use Rattle.book.specs.Layout.{bookOf, Holds}
 use Rattle.book.specs.Form.{formNumber}
 use Rattle.book.proofs.FormNumber.{form-cases}

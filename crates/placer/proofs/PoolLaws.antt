@@ -16,7 +16,7 @@ use Rattle.words.specs.Lists.{joined, upFrom}
 use Rattle.words.proofs.Parts.{length-part, part-part}
 use Rattle.words.proofs.Pieces.{sized, part-sized, length-sized, all-pieces}
 use Rattle.words.proofs.Places.{all-upFrom}
-use Rattle.words.proofs.Runs.{below-or-not, length-upFrom, getD-upFrom}
+use Rattle.words.proofs.Ranges.{below-or-not, length-upFrom, getD-upFrom}
 use Rattle.words.specs.Sections.{part, flat}
 use Rattle.runs.specs.Changes.{changeAt}
 use Rattle.book.specs.Book.{Entry, entryAt}

@@ -10,7 +10,7 @@ use lib.Dec.{leb}
 use lib.ListN.{length, drop, length-map}
 use lib.Seq.{drop-nil}
 use borrow.Author.Tests.{le-leb, lt-leb}
-use Rattle.words.proofs.Runs.{below-or-not}
+use Rattle.words.proofs.Ranges.{below-or-not}
 use Rattle.book.specs.Book.{Book, slotAt}
 use Rattle.journal.specs.Struct.{SlotIs}
 use Rattle.journal.specs.declared.slot.Slot.{Slot}

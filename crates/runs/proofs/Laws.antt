@@ -6,7 +6,7 @@ use native.Mathlib.Omega.{arith}
 use lib.ListN.{length, getD}
 use Rattle.words.specs.Sections.{part}
 use Rattle.words.proofs.SectionLaws.{length-tab, getD-tab, tab-list}
-use Rattle.words.proofs.Runs.{map-tab}
+use Rattle.words.proofs.Ranges.{map-tab}
 use Rattle.words.proofs.Parts.{length-part, part-part}
 use Rattle.runs.specs.Changes.{Change, pairSize, pairCount, pairAt, pairs, changeCount, lbns, printsFrom, blocksFrom, listSize}
 use Rattle.runs.specs.Changes.{changeAt, changes, listNumber}

@@ -9,7 +9,7 @@ use lib.ListN.{length, getD, length-append, length-map, List·getD-append, List�
 use lib.Seq.{getD-append-add}
 use lib.Dec.{eqb}
 use borrow.Author.Tests.{le-ltb, eq-eqb}
-use Rattle.words.proofs.Runs.{length-upFrom}
+use Rattle.words.proofs.Ranges.{length-upFrom}
 use Rattle.words.specs.Lists.{sum, joined}
 use Rattle.words.specs.Numbers.{two, num}
 use Rattle.words.proofs.NumberLaws.{two-back}

@@ -12,7 +12,7 @@ use lib.Seq.{getD-append-add}
 use borrow.Author.Tests.{leb-true, eqb-false, not-true}
 use Rattle.words.proofs.ChoiceLaws.{and-true}
 use Rattle.words.specs.Lists.{sum, joined}
-use Rattle.words.proofs.Runs.{length-upFrom, getD-upFrom, below-or-not}
+use Rattle.words.proofs.Ranges.{length-upFrom, getD-upFrom, below-or-not}
 use Rattle.words.proofs.SectionLaws.{length-tab, getD-tab}
 use Rattle.runs.specs.Changes.{Pair, pairCount, pairAt, pairs, run, lengths, pairsFit}
 

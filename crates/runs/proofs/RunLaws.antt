@@ -11,7 +11,7 @@ use lib.Dec.{ltb, eqb}
 use borrow.Author.Tests.{ltb-true, lt-ltb, le-leb, eq-eqb, ne-eqb, eqb-true}
 use Rattle.words.specs.Choice.{if_then_else_}
 use Rattle.words.proofs.ChoiceLaws.{and-true}
-use Rattle.words.proofs.Runs.{upFrom-snoc}
+use Rattle.words.proofs.Ranges.{upFrom-snoc}
 use Rattle.words.specs.Lists.{upFrom, joined, all, someOf, those, allZero}
 use Rattle.runs.specs.Changes.{Pair, run, pairsFit}
 use Rattle.runs.specs.Writer.{runBefore, runs, markedFrom}

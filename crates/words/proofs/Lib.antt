@@ -5,7 +5,7 @@ pub mod SectionLaws
 pub mod Each
 pub mod All
 pub mod Filling
-pub mod Runs
+pub mod Ranges
 pub mod Parts
 pub mod Pieces
 pub mod Counting

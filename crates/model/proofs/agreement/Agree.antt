@@ -12,7 +12,7 @@ use Rattle.model.specs.Pool.{poolSize}
 use Rattle.model.specs.Journal.{Backup, journal, backupsIn}
 use Rattle.model.specs.Audit.{applied, replayed, noMaps, hasBefore, untilIn, printsSound}
 use Rattle.model.specs.Plain.{Image, Plain, volumeAt, noMap}
-use Rattle.model.specs.Runs.{blocksIn}
+use Rattle.model.specs.Sides.{blocksIn}
 use Rattle.model.proofs.kept.Sound.{SoundAll, Days, AllRise}
 
 -- a book whose bytes are in form

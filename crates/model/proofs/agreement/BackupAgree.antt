@@ -15,7 +15,7 @@ use Rattle.model.specs.Plain.{Plain, currentMaps}
 use Rattle.model.specs.PlainBackup
 use Rattle.model.specs.PlainBackup.{PlainWork, PlainBacked}
 use Rattle.model.specs.Calls.{isBacked}
-use Rattle.model.specs.Runs.{plain, plainBacked}
+use Rattle.model.specs.Sides.{plain, plainBacked}
 use Rattle.model.specs.Claims.{isOldOrNew, changesName, isDamage}
 use Rattle.model.proofs.agreement.Agree.{Fit, Agree}
 use Rattle.model.proofs.agreement.AgreeLaws.{volume-inside, backups-agree}

@@ -13,7 +13,7 @@ use Rattle.words.specs.Blocks.{unmapped}
 use Rattle.words.proofs.ChoiceLaws.{or-cases, or-no}
 use Rattle.words.specs.Lists.{all, joined, countOf}
 use Rattle.words.proofs.Places.{all-place}
-use Rattle.words.proofs.Runs.{below-or-not}
+use Rattle.words.proofs.Ranges.{below-or-not}
 use Rattle.runs.specs.Changes.{Change}
 use Rattle.book.specs.Book.{volumes, Book}
 use Rattle.book.specs.Form.{pbnOk}

@@ -18,7 +18,7 @@ use Rattle.model.specs.Plain
 use Rattle.model.specs.Plain.{Block, free, held}
 use Rattle.model.specs.PlainBackup
 use Rattle.model.specs.PlainBackup.{hasPrint}
-use Rattle.model.specs.Runs.{blocksIn}
+use Rattle.model.specs.Sides.{blocksIn}
 
 -- ---- the lookups
 

@@ -12,7 +12,7 @@ use Rattle.words.proofs.ChoiceLaws.{not-both}
 use Rattle.book.specs.Book.{Entry, freeEntry, entryAt}
 use Rattle.model.specs.Pool.{blockAt}
 use Rattle.model.specs.Plain.{Block, free, held, bytesOf}
-use Rattle.model.specs.Runs.{blocksIn}
+use Rattle.model.specs.Sides.{blocksIn}
 
 -- the block of an entry, with its bytes
 abbrev pub blockOf : Entry → List ℕ → Block

@@ -18,7 +18,7 @@ use Rattle.model.specs.Journal.{journal}
 use Rattle.model.specs.Audit.{noMaps, printsSound}
 use Rattle.model.specs.Plain
 use Rattle.model.specs.Plain.{Block, free, Plain, Volume, start, names}
-use Rattle.model.specs.Runs.{blocksIn}
+use Rattle.model.specs.Sides.{blocksIn}
 use Rattle.model.proofs.agreement.Agree.{Fit, Agree, named, reaches}
 use Rattle.model.proofs.kept.Sound.{SoundAll, Days, AllRise}
 use Rattle.model.proofs.kept.Marks.{named-none, pbn-mapped}

@@ -16,7 +16,7 @@ use Rattle.words.proofs.SetLaws.{getD-set, getD-set-kept}
 use Rattle.book.specs.Book.{Entry, entryAt, freeEntry}
 use Rattle.book.specs.Next.{countAs, expiryAs}
 use Rattle.model.specs.Backup.{lowered, lower, raised}
-use Rattle.model.specs.Runs.{blocksIn}
+use Rattle.model.specs.Sides.{blocksIn}
 use Rattle.model.proofs.agreement.BlockLaws.{blocks-kept}
 use Rattle.model.proofs.agreement.Prints.{prints-kept}
 

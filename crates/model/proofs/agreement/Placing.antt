@@ -23,7 +23,7 @@ use Rattle.model.proofs.claims.FoundBlocks.{held-lowest, free-next}
 use Rattle.model.specs.Plain.{Block, free, bytesOf}
 use Rattle.model.specs.PlainBackup
 use Rattle.model.specs.PlainBackup.{PlainWork, PlainPlaced}
-use Rattle.model.specs.Runs.{blocksIn}
+use Rattle.model.specs.Sides.{blocksIn}
 use Rattle.model.specs.Claims.{isDamage}
 use Rattle.model.proofs.agreement.BlocksIn.{length-blocksIn, held-bytes}
 use Rattle.model.proofs.agreement.BlockLaws.{found-same, free-same, length-with, taken-same}

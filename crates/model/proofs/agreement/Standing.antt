@@ -44,8 +44,8 @@ use Rattle.model.specs.PlainBackup
 use Rattle.model.specs.PlainBackup.{PlainBacked}
 use Rattle.model.proofs.agreement.ReadAgree.{read-agree}
 use Rattle.model.specs.Read
-use Rattle.model.specs.Runs.{Step, answersOf, endOf, readAnswer, auditAnswer, Ours, oursEnrolled, oursBacked, oursCollected, ours}
-use Rattle.model.specs.Runs.{plainEnrolled, plainBacked, plainCollected, plain}
+use Rattle.model.specs.Sides.{Step, answersOf, endOf, readAnswer, auditAnswer, Ours, oursEnrolled, oursBacked, oursCollected, ours}
+use Rattle.model.specs.Sides.{plainEnrolled, plainBacked, plainCollected, plain}
 
 module _ (z : Sizes) where
   -- the book is the bytes of a book of these sizes that agrees with the plain store

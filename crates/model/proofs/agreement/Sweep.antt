@@ -16,7 +16,7 @@ use Rattle.book.specs.Next.{madeFree}
 use Rattle.model.specs.Collect.{isOver, sweptEntry}
 use Rattle.model.proofs.claims.CollectLaws.{over-was-held}
 use Rattle.model.specs.Plain.{Block, free, held, isFree, swept, sweptCount}
-use Rattle.model.specs.Runs.{blocksIn}
+use Rattle.model.specs.Sides.{blocksIn}
 use Rattle.model.proofs.agreement.BlocksIn.{blockOf}
 
 -- ---- one entry

@@ -34,7 +34,7 @@ use Rattle.model.proofs.plain.PlainPlacing.{Grown, grown-self, grown-th
 use Rattle.model.proofs.plain.PlainShows.{heldBytes, shownAt}
 use Rattle.model.specs.Pool.{poolSize, blockAt}
 use Rattle.model.proofs.claims.Proved.{end-append, fresh-stands}
-use Rattle.model.specs.Runs.{blocksIn, Ours, oursEnrolled, oursBacked, oursCollected, ours, plain}
+use Rattle.model.specs.Sides.{blocksIn, Ours, oursEnrolled, oursBacked, oursCollected, ours, plain}
 use Rattle.model.proofs.agreement.Standing.{Stand, stand, fit-form, fit-book, call-alike, list-answers}
 use Rattle.model.specs.Claims.{Serves, Reached, begins, calls, cut, PowerCut}
 

@@ -32,7 +32,7 @@ use Rattle.model.specs.OnBytes.{backedBytes, collectedBytes}
 use Rattle.model.proofs.form.OnBytesFit.{format-on-bytes, collect-on-bytes, backup-on-bytes}
 use Rattle.model.specs.Plain.{Plain, start, marked}
 use Rattle.model.proofs.plain.PlainReads.{plain-reads}
-use Rattle.model.specs.Runs.{Step, endOf, Ours, oursBacked, oursCollected, ours, plain, oursShown, plainShown}
+use Rattle.model.specs.Sides.{Step, endOf, Ours, oursBacked, oursCollected, ours, plain, oursShown, plainShown}
 use Rattle.model.proofs.agreement.Standing.{Stand, stand, fit-form, fit-book, call-alike, list-answers, list-stands, list-undamaged}
 
 -- ---- what a call leaves of the entries, where both sides agree

@@ -16,7 +16,7 @@ use Rattle.runs.specs.Changes.{Change}
 use Rattle.model.specs.Days.{keptBefore, kept}
 use Rattle.model.proofs.kept.DayLaws.{kept-before}
 use Rattle.model.specs.Calls.{block}
-use Rattle.model.specs.Runs.{readAnswer}
+use Rattle.model.specs.Sides.{readAnswer}
 use Rattle.model.specs.History.{Sent, History, withSent, lastBlock, sentBlock, isNone, blockOr, historyNumber, historyRead}
 
 -- ---- the last block sent

@@ -19,7 +19,7 @@ use Rattle.model.specs.Plain.{Plain, withVolume, volumeAt, isEnrolled, d
 use Rattle.model.specs.PlainBackup
 use Rattle.model.specs.PlainBackup.{PlainWork, PlainBacked, backupNumber, runChanges, begun, closed}
 use Rattle.model.specs.Calls.{Call, enrol, backup, collect, read, audit}
-use Rattle.model.specs.Runs.{answersOf, endOf, plainEnrolled, plainBacked, plainCollected, plain}
+use Rattle.model.specs.Sides.{answersOf, endOf, plainEnrolled, plainBacked, plainCollected, plain}
 use Rattle.model.specs.History.{History, withEnrol, withSent, noted, historyFrom, dayNoted, dayFrom}
 use Rattle.model.proofs.plain.PlainRecalls.{Recalls, AllRecall}
 use Rattle.model.proofs.plain.PlainRecallsBackup.{backup-recalls}

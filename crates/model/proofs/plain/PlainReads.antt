@@ -16,7 +16,7 @@ use Rattle.model.specs.Days.{kept}
 use Rattle.model.specs.Plain
 use Rattle.model.specs.Plain.{Plain, Volume, unenrolled, free, start, volumeAt, isEnrolled, daysOf, bytesOf, cell}
 use Rattle.model.specs.Calls.{Call}
-use Rattle.model.specs.Runs.{answersOf, endOf, readAnswer, plain}
+use Rattle.model.specs.Sides.{answersOf, endOf, readAnswer, plain}
 use Rattle.model.specs.History.{Sent, History, historyOf, dayOf, sentBlock, isNone, blockOr, historyNumber, historyRead}
 use Rattle.model.proofs.kept.ReadNumbers.{same-refusal, number-inside}
 use Rattle.model.proofs.plain.PlainShows.{shownAt, held-bytes-or}

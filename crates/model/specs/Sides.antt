@@ -1,4 +1,4 @@
--- Lists of calls, run on our book and pool and on the plain store, and what is compared after them.
+-- Both sides: lists of calls on our book and pool and on the plain store, and what is compared after them.
 use Prim.Native.Nat.{ℕ}
 use mathlib.Core.Bool.{Bool, true}
 use mathlib.Core.List.{List, [], _∷_}

@@ -1,4 +1,4 @@
--- Laws of runs of numbers and of sums over lists.
+-- Laws of ranges of numbers and of sums over lists.
 use Prim.Native.Nat.{ℕ, zero, suc, _+_, _≤_, _<_}
 use mathlib.Core.Path.{_≡_, refl, ap, _∙_}
 use mathlib.Core.Logic.{_⊎_, inl, inr}
