@@ -1,4 +1,5 @@
-// Each call made through its exported function. Its answer in bytes is stored at `to`, and each gives the offset past it.
+// Each call made through its exported function. Its answer in bytes is stored at `to`, and each gives the offset past
+// it.
 ghost use Prim.Native.Nat.{_+_, _≤_};
 ghost use mathlib.Core.List.{_∷_};
 ghost use lib.ListN.{length};

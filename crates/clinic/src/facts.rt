@@ -11,9 +11,9 @@ use samples::number;
 use samples::word;
 use words::LBN;
 use words::PBN;
+use words::UNMAPPED;
+use words::limits::LAST_VOLUME;
 use words::wide;
-
-const UNMAPPED: u16 = 65535;
 
 // The readers are asked only of a book in form.
 fn out_of_form(book: &[u8]) -> bool
@@ -34,7 +34,7 @@ fn cell(book: &[u8], volume: u16, lbn: u16, tag: u8) {
     if out_of_form(book) {
         return;
     }
-    if volume > 7 {
+    if volume > LAST_VOLUME {
         return;
     }
     if lbn >= header::cells(book) {

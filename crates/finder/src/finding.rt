@@ -37,7 +37,8 @@ fn same_print(a: &[u8], b: &[u8]) -> bool
     good
 }
 
-// The lowest block with the fingerprint from a block of its bucket on, or N. Goes up through the bucket, whose blocks are all held.
+// The lowest block with the fingerprint from a block of its bucket on, or N. Goes up through the bucket, whose blocks
+// are all held.
 pub fn search(book: &[u8], nexts: &Table, from: u16, print: &[u8]) -> u16
     requires { ⌜ Holds (now book) ⌝ }
     requires { ⌜ length (now print) ≡ printSize ⌝ }

@@ -41,7 +41,8 @@ fn close(work: &mut [u8], v: u16, day: u16, first: u16, number: u16)
     header::set_day(work, day);
 }
 
-// Both passes. The working copy starts as the book and ends as the book after the backup; the pool changes once no change can be refused.
+// Both passes. The working copy starts as the book and ends as the book after the backup; the pool changes once no
+// change can be refused.
 fn work_through(
     book: &[u8],
     pool: &mut [u8],

@@ -1,4 +1,5 @@
-// Pass 2 of a backup: the blocks that its changes took are written to the pool. A block that the old book holds is never written.
+// Pass 2 of a backup: the blocks that its changes took are written to the pool. A block that the old book holds is
+// never written.
 ghost use mathlib.Core.Path.{_≡_};
 ghost use mathlib.Core.Bool.{true, false};
 ghost use Prim.Native.Nat.{_<_};

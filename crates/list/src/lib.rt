@@ -1,4 +1,5 @@
-// The changes of a list that was checked (document 01, "Change list"): a cursor over them, fingerprint and block of change i.
+// The changes of a list that was checked (document 01, "Change list"): a cursor over them, fingerprint and block of
+// change i.
 ghost use mathlib.Core.Path.{_≡_};
 ghost use Prim.Native.Nat.{_+_, _*_, _<_};
 ghost use Rattle.words.specs.Sections.{part};

@@ -1,4 +1,5 @@
-// The marks of an aid in longest runs: how many there are, and their pairs in bytes (document 01, "The writer on the aid").
+// The marks of an aid in longest runs (document 01, "The writer on the aid"): how many there are, and their pairs in
+// bytes.
 ghost use mathlib.Core.Path.{_≡_};
 ghost use Prim.Native.Nat.{_+_, _≤_, _<_};
 ghost use lib.ListN.{length};

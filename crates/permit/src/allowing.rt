@@ -13,7 +13,8 @@ use words::limits::LAST_VOLUME;
 use words::limits::MAX_DAY;
 use words::refusals;
 
-// What a backup goes by once it is allowed: its list's numbers, the day until which it keeps what it replaces, and its own number.
+// What a backup goes by once it is allowed: its list's numbers, the day until which it keeps what it replaces, and its
+// own number.
 pub struct Plan {
     pub shape: Shape,
     pub until: u16,

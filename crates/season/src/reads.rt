@@ -26,7 +26,7 @@ fn expected(kept: bool, tag: u8) -> u16 {
     if !kept {
         return refusals::NOT_KEPT;
     }
-    if tag == sent::UNMAPPED {
+    if tag == sent::NEVER_SENT {
         return refusals::NOT_MAPPED;
     }
     0

@@ -57,7 +57,7 @@ fn forge(
     turn: Turn,
     known: u8,
 ) {
-    if known == sent::UNMAPPED {
+    if known == sent::NEVER_SENT {
         return;
     }
     let mut prints = [UNCHANGED; LBNS];

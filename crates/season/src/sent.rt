@@ -17,7 +17,7 @@ const ROW: u16 = 1 + CELLS;
 pub const SENT: usize = ALL_ROWS as usize * ROW as usize;
 
 // The tag of an LBN that was never sent.
-pub const UNMAPPED: u8 = 0;
+pub const NEVER_SENT: u8 = 0;
 
 // The index, below SENT, of a number of a volume's row.
 fn index(v: u16, k: u16, field: u16) -> usize
