@@ -26,8 +26,8 @@ use Rattle.model.proofs.kept.KeptBefores.{kept-befores}
 use Rattle.replay.proofs.JournalRead.{journal-in}
 use Rattle.auditor.proofs.MapsReplayed.{maps-replayed}
 use Rattle.replay.specs.Table.{rowSize, tableAfter, tableBefores}
-use Rattle.auditor.specs.TableMaps.{tableMatches}
-use Rattle.auditor.proofs.TableMapLaws.{tableSize, table-sound}
+use Rattle.accounts.specs.TableMaps.{tableMatches}
+use Rattle.accounts.proofs.TableMapLaws.{tableSize, table-sound}
 
 -- the cells that the journal is replayed in
 abbrev pub noCells : List ℕ

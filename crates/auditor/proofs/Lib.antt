@@ -1,7 +1,3 @@
-pub mod TableMapLaws
-pub mod CountLaws
-pub mod MapsTakenLaws
-pub mod EntryLaws
 pub mod MapsReplayed
 pub mod AuditPasses
 pub mod WaysOut

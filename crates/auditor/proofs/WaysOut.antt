@@ -12,12 +12,12 @@ use Rattle.model.specs.Audit.{countSound, expirySound, printsSound, audit}
 use Rattle.model.specs.Journal.{journal}
 use Rattle.model.specs.JournalAt.{takenSound}
 use Rattle.auditor.proofs.AuditPasses.{noCells, auditPasses, formed-audit}
-use Rattle.auditor.specs.Entries.{entriesMatch}
-use Rattle.auditor.proofs.EntryLaws.{entries-sound}
-use Rattle.auditor.specs.MapsTaken.{MapsTaken}
+use Rattle.accounts.specs.Entries.{entriesMatch}
+use Rattle.accounts.proofs.EntryLaws.{entries-sound}
+use Rattle.accounts.specs.MapsTaken.{MapsTaken}
 use Rattle.replay.specs.Slots.{JournalTaken}
 use Rattle.replay.specs.Table.{tableAfter, tableBefores, poolBlocks}
-use Rattle.auditor.specs.TableMaps.{tableMatches}
+use Rattle.accounts.specs.TableMaps.{tableMatches}
 
 module _ {b : List ℕ} (f : FormFacts b) {j : Bool} {c e : List ℕ} (t : JournalTaken (bookOf b) j noCells (replicate poolBlocks 0) c e) where
   abbrev x : Book

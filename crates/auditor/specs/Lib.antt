@@ -1,6 +1,1 @@
 pub mod Contracts
-pub mod TableMaps
-pub mod Counts
-pub mod MapsTaken
-pub mod Entries
-pub mod Passes

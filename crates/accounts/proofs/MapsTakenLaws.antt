@@ -12,11 +12,11 @@ use Rattle.words.specs.Lists.{joined}
 use Rattle.book.specs.Book.{volumes, Book}
 use Rattle.book.specs.Layout.{bookOf}
 use Rattle.book.specs.FormFacts.{FormFacts}
-use Rattle.auditor.specs.Counts.{Counted}
-use Rattle.auditor.proofs.CountLaws.{counted-none, counted-row, counted-le, counted-rows}
+use Rattle.accounts.specs.Counts.{Counted}
+use Rattle.accounts.proofs.CountLaws.{counted-none, counted-row, counted-le, counted-rows}
 use Rattle.replay.specs.Table.{rowSize, poolBlocks}
-use Rattle.auditor.specs.TableMaps.{rowMatches, tableMatches}
-use Rattle.auditor.specs.MapsTaken.{RowTaken, MapsTaken, AtMost}
+use Rattle.accounts.specs.TableMaps.{rowMatches, tableMatches}
+use Rattle.accounts.specs.MapsTaken.{RowTaken, MapsTaken, AtMost}
 
 -- ---- the volumes below v
 

@@ -1,13 +1,13 @@
--- `auditor::matching::entries_match` meets its contract: `good` is the test of the entries passed.
+-- `accounts::matching::entries_match` meets its contract: `good` is the test of the entries passed.
 use Prim.Native.Nat.{_-_, _≤_}
 use mathlib.Core.Path.{_≡_}
 use Rattle.book.specs.Layout.{bookOf, told}
-use Rattle.auditor.specs.Entries.{entriesMatch}
-use Rattle.auditor.proofs.EntryLaws.{entries-none, entries-grow}
+use Rattle.accounts.specs.Entries.{entriesMatch}
+use Rattle.accounts.proofs.EntryLaws.{entries-none, entries-grow}
 use borrow.Author.Needs.{needs}
 use native.Mathlib.Omega.{arith}
-use Rattle.auditor.proofs.matching.entries_match.Statement.{statement}
-use Rattle.auditor.proofs.matching.entries_match.Tie as tie
+use Rattle.accounts.proofs.matching.entries_match.Statement.{statement}
+use Rattle.accounts.proofs.matching.entries_match.Tie as tie
 
 abbrev Inv-loop : tie.InvT-loop
 Inv-loop book counts expiries n good₀ p₀ good p =

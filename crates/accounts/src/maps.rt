@@ -1,12 +1,12 @@
-// Audit: the maps, once. Each cell is what the records leave there, and counts for the block that it names.
+// The maps, once. Each cell is what the records leave there, and counts for the block that it names.
 ghost use mathlib.Core.List.{[], _∷_};
 ghost use Prim.Native.Nat.{_*_, _<_};
 ghost use lib.ListN.{getD};
 ghost use Rattle.book.specs.Book.{volumes};
 ghost use Rattle.book.specs.FormFacts.{FormFacts};
-ghost use Rattle.auditor.specs.Passes.{TakesRow, TakesMaps};
-ghost use Rattle.auditor.specs.Counts.{Counted};
-ghost use Rattle.auditor.specs.MapsTaken.{AtMost};
+ghost use Rattle.accounts.specs.Passes.{TakesRow, TakesMaps};
+ghost use Rattle.accounts.specs.Counts.{Counted};
+ghost use Rattle.accounts.specs.MapsTaken.{AtMost};
 ghost use Rattle.replay.specs.Table.{rowSize, poolBlocks, OfPool};
 use fields::header;
 use fields::map::cell;

@@ -1,8 +1,8 @@
-// Audit: the entries, once. Each count and each expiry is what was gathered for the block.
+// The entries, once. Each count and each expiry is what was gathered for the block.
 ghost use Prim.Native.Nat.{_<_};
 ghost use Rattle.book.specs.Layout.{told};
 ghost use Rattle.book.specs.FormFacts.{FormFacts};
-ghost use Rattle.auditor.specs.Passes.{MatchesEntry, MatchesEntries};
+ghost use Rattle.accounts.specs.Passes.{MatchesEntry, MatchesEntries};
 use entries::entry::count;
 use entries::entry::expiry;
 use fields::header::blocks;

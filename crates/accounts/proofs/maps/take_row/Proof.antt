@@ -1,19 +1,19 @@
--- `auditor::maps::take_row` meets its contract: `good` is the test of the cells passed, and those are counted.
+-- `accounts::maps::take_row` meets its contract: `good` is the test of the cells passed, and those are counted.
 use Prim.Native.Nat.{_*_, _-_, _≤_}
 use mathlib.Core.Path.{_≡_, refl, _∙_}
 use mathlib.Core.List.{[]}
 use lib.ListN.{getD, take, length-take}
 use lib.Seq.{take-all}
 use Rattle.book.specs.Layout.{bookOf}
-use Rattle.auditor.specs.Counts.{Counted}
-use Rattle.auditor.proofs.CountLaws.{counted-none, counted-cell, counted-le}
+use Rattle.accounts.specs.Counts.{Counted}
+use Rattle.accounts.proofs.CountLaws.{counted-none, counted-cell, counted-le}
 use Rattle.replay.proofs.MatchingLaws.{matching-none, matching-grow}
 use Rattle.replay.specs.Table.{rowSize}
-use Rattle.auditor.specs.TableMaps.{rowMatches}
+use Rattle.accounts.specs.TableMaps.{rowMatches}
 use borrow.Author.Needs.{needs}
 use native.Mathlib.Omega.{arith}
-use Rattle.auditor.proofs.maps.take_row.Statement.{statement}
-use Rattle.auditor.proofs.maps.take_row.Tie as tie
+use Rattle.accounts.proofs.maps.take_row.Statement.{statement}
+use Rattle.accounts.proofs.maps.take_row.Tie as tie
 
 abbrev Inv-loop : tie.InvT-loop
 Inv-loop book cells counts₀ v row wide good₀ l₀ counts good l =

@@ -23,7 +23,7 @@ use Rattle.book.specs.FormFacts.{FormFacts}
 use Rattle.model.specs.Audit.{countSound}
 use Rattle.replay.specs.Matching.{matching}
 use Rattle.replay.proofs.MatchingLaws.{matching-same}
-use Rattle.auditor.specs.Counts.{Counted, countOfBlock}
+use Rattle.accounts.specs.Counts.{Counted, countOfBlock}
 use Rattle.replay.specs.Table.{poolBlocks, numberAt}
 
 pub counted-none : (a : List ℕ) → Counted a [] a

@@ -4,7 +4,7 @@ use mathlib.Core.Bool.{Bool, _&&_}
 use mathlib.Core.List.{List}
 use lib.Dec.{eqb}
 use Rattle.book.specs.Book.{Entry}
-use Rattle.auditor.specs.Counts.{countOfBlock}
+use Rattle.accounts.specs.Counts.{countOfBlock}
 use Rattle.replay.specs.Table.{numberAt}
 use Rattle.replay.specs.Expiries.{expiryOfBlock}
 use Rattle.replay.specs.Matching.{matching}

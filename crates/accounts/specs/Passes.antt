@@ -7,8 +7,8 @@ use denote.Ref.{now}
 use Rattle.words.specs.Lent.{Lent}
 use Rattle.book.specs.Book.{Book}
 use Rattle.book.specs.Layout.{told}
-use Rattle.auditor.specs.Entries.{entryMatches, entriesMatch}
-use Rattle.auditor.specs.MapsTaken.{RowTaken, MapsTaken}
+use Rattle.accounts.specs.Entries.{entryMatches, entriesMatch}
+use Rattle.accounts.specs.MapsTaken.{RowTaken, MapsTaken}
 
 module _ (book : Lent (List ℕ)) where
   abbrev x : Book

@@ -1,9 +1,9 @@
--- `auditor::matching::entry_matches` meets its contract: both numbers are the entry's.
-use Rattle.auditor.specs.Entries.{entryMatches}
+-- `accounts::matching::entry_matches` meets its contract: both numbers are the entry's.
+use Rattle.accounts.specs.Entries.{entryMatches}
 use borrow.Author.Needs.{needs}
 use native.Mathlib.Omega.{arith}
-use Rattle.auditor.proofs.matching.entry_matches.Statement.{statement}
-use Rattle.auditor.proofs.matching.entry_matches.Tie as tie
+use Rattle.accounts.proofs.matching.entry_matches.Statement.{statement}
+use Rattle.accounts.proofs.matching.entry_matches.Tie as tie
 
 abbrev start : tie.After-count → tie.Start
 start c = c .before .before .before

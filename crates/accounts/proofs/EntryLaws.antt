@@ -13,14 +13,14 @@ use Rattle.book.specs.Layout.{bookOf}
 use Rattle.book.specs.FormFacts.{FormFacts}
 use Rattle.model.specs.Journal.{journal}
 use Rattle.model.specs.Audit.{untilIn, countSound, expirySound}
-use Rattle.auditor.specs.Counts.{Counted, countOfBlock}
+use Rattle.accounts.specs.Counts.{Counted, countOfBlock}
 use Rattle.replay.specs.Table.{poolBlocks, numberAt}
-use Rattle.auditor.proofs.CountLaws.{counts-sound}
+use Rattle.accounts.proofs.CountLaws.{counts-sound}
 use Rattle.replay.specs.Expiries.{Raised, expiryOfBlock}
 use Rattle.replay.proofs.ExpiryLaws.{expiries-sound}
 use Rattle.replay.specs.Matching.{matching}
 use Rattle.replay.proofs.MatchingLaws.{matching-none, matching-grow}
-use Rattle.auditor.specs.Entries.{entryMatches, entriesMatch}
+use Rattle.accounts.specs.Entries.{entryMatches, entriesMatch}
 
 module _ (es : List Entry) (counts expiries : List ℕ) where
   pub entries-none : true ≡ entriesMatch es counts expiries 0

@@ -24,7 +24,7 @@ use Rattle.model.specs.Audit.{applied, replayed, beforesIn, befores, noMaps, sa
 use Rattle.replay.proofs.JournalRead.{backupIn}
 use Rattle.replay.proofs.MatchingLaws.{matching-same}
 use Rattle.replay.specs.Table.{rowSize, cellsAfter, cellsBefore, tableAfter, tableBefores}
-use Rattle.auditor.specs.TableMaps.{rowCell, rowMatches, tableMatches}
+use Rattle.accounts.specs.TableMaps.{rowCell, rowMatches, tableMatches}
 
 -- the cells of all volumes
 abbrev pub tableSize : ℕ

@@ -1,11 +1,11 @@
--- `auditor::maps::maps_match` meets its contract: the rows passed are tested and counted.
+-- `accounts::maps::maps_match` meets its contract: the rows passed are tested and counted.
 use Prim.Native.Nat.{_-_, _≤_}
 use Rattle.book.specs.Layout.{bookOf}
-use Rattle.auditor.proofs.MapsTakenLaws.{MapsTaking, taking-start, taking-long, taking-row, taking-end}
+use Rattle.accounts.proofs.MapsTakenLaws.{MapsTaking, taking-start, taking-long, taking-row, taking-end}
 use borrow.Author.Needs.{needs}
 use native.Mathlib.Omega.{arith}
-use Rattle.auditor.proofs.maps.maps_match.Statement.{statement}
-use Rattle.auditor.proofs.maps.maps_match.Tie as tie
+use Rattle.accounts.proofs.maps.maps_match.Statement.{statement}
+use Rattle.accounts.proofs.maps.maps_match.Tie as tie
 
 abbrev Inv-loop : tie.InvT-loop
 Inv-loop book cells counts₀ good₀ v₀ counts good v = (v ≤ 8) × MapsTaking (bookOf book) cells v good counts

@@ -1,9 +1,9 @@
--- `auditor::maps::count_one` meets its contract: a store at the block's counter, or none.
+-- `accounts::maps::count_one` meets its contract: a store at the block's counter, or none.
 use native.Mathlib.Omega.{arith}
-use Rattle.auditor.proofs.CountLaws.{counted-one, counted-past}
+use Rattle.accounts.proofs.CountLaws.{counted-one, counted-past}
 use borrow.Author.Needs.{needs}
-use Rattle.auditor.proofs.maps.count_one.Statement.{statement}
-use Rattle.auditor.proofs.maps.count_one.Tie as tie
+use Rattle.accounts.proofs.maps.count_one.Statement.{statement}
+use Rattle.accounts.proofs.maps.count_one.Tie as tie
 
 returns : tie.Need-returns
 returns c = counted-past _ _ (omega arith)

@@ -6,9 +6,9 @@ use mathlib.Core.List.{List, []}
 use lib.ListN.{getD, replicate}
 use Rattle.words.specs.Lists.{joined}
 use Rattle.book.specs.Book.{Book}
-use Rattle.auditor.specs.Counts.{Counted}
+use Rattle.accounts.specs.Counts.{Counted}
 use Rattle.replay.specs.Table.{poolBlocks}
-use Rattle.auditor.specs.TableMaps.{rowMatches, tableMatches}
+use Rattle.accounts.specs.TableMaps.{rowMatches, tableMatches}
 
 -- volume v: its test, and the counters a with its cells counted
 pub record RowTaken (x : Book) (cells : List ℕ) (v : ℕ) (a : List ℕ) (good : Bool) (a′ : List ℕ) : Type 0 where

@@ -1,0 +1,4 @@
+pub mod TableMapLaws
+pub mod CountLaws
+pub mod MapsTakenLaws
+pub mod EntryLaws

@@ -1,0 +1,5 @@
+pub mod TableMaps
+pub mod Counts
+pub mod MapsTaken
+pub mod Entries
+pub mod Passes
