@@ -1,21 +1,16 @@
 -- Laws of specs/Answers.antt: what a caller knows of a list that the check takes or refuses.
 use Prim.Native.Nat.{ℕ}
-use mathlib.Core.Path.{_≡_, refl, sym, ap, _∙_}
+use mathlib.Core.Path.{_≡_, sym, ap, _∙_}
 use mathlib.Core.List.{List}
-use Rattle.runs.specs.Changes.{pairCount, changeCount, listNumber}
-use Rattle.runs.proofs.Number.{number-accepted}
+use Rattle.runs.specs.Changes.{listNumber}
 use Rattle.pairs.specs.Answers.{shapeOf, checkedOf}
-use Rattle.pairs.proofs.Checks.{checkedNumber, good-accepted, accepted-good, number-of-checked}
+use Rattle.pairs.proofs.Checks.{checkedNumber, good-accepted, number-of-checked}
 use Rattle.pairs.specs.declared.Shape.{Shape}
 use Rattle.pairs.specs.declared.Checked.the-variants.{Good, Refused}
 
 module _ (L : ℕ) (b : List ℕ) where
   pub good-number : (s : Shape) → checkedOf L b ≡ Good s → listNumber L b ≡ 0
   good-number s e = sym (number-of-checked L b) ∙ ap checkedNumber e
-
-  pub number-good : listNumber L b ≡ 0 → checkedOf L b ≡ Good (shapeOf b)
-  unfolding shapeOf
-  number-good e = accepted-good L b (pairCount b) (changeCount b) (number-accepted L b e) refl refl
 
   pub refused-number : checkedOf L b ≡ Refused → listNumber L b ≡ 8
   refused-number e = sym (number-of-checked L b) ∙ ap checkedNumber e
