@@ -4,7 +4,8 @@ ghost use mathlib.Core.Path.{_≡_};
 ghost use Prim.Native.Nat.{_+_, _≤_, _<_};
 ghost use lib.ListN.{length};
 ghost use Rattle.words.specs.Laying.{Stored};
-ghost use Rattle.marks.specs.Passes.{rowAfter, pairOf, pairsFrom, counted, Counted, Passed};
+ghost use Rattle.runs.specs.Passing.{rowAfter};
+ghost use Rattle.marks.specs.Passes.{pairOf, pairsOf, counted, Counted, Passed};
 
 // What a pass over the marks counts: runs that ended, marked blocks, and marked blocks in a row up to here.
 pub struct Tally {
@@ -88,8 +89,8 @@ fn put_mark(list: &mut [u8], p: Progress, lbn: u16, mark: u8) -> Progress
 
 // The pairs of the longest runs, ended as in the count. As every writer of a section it answers the offset past it.
 pub fn put_runs(list: &mut [u8], at: usize, marks: &[u8]) -> usize
-    requires { ⌜ (length (now marks) ≤ 1024) × (at + length (pairsFrom 0 0 (now marks)) ≤ length (now list)) ⌝ }
-    ensures { λ r. ⌜ Stored (now (list .entry)) at (pairsFrom 0 0 (now (marks .entry))) (now (list .exit)) r ⌝ }
+    requires { ⌜ (length (now marks) ≤ 1024) × (at + length (pairsOf (now marks)) ≤ length (now list)) ⌝ }
+    ensures { λ r. ⌜ Stored (now (list .entry)) at (pairsOf (now (marks .entry))) (now (list .exit)) r ⌝ }
 {
     let mut p = Progress { at, row: 0 };
     let mut lbn = 0;

@@ -9,8 +9,8 @@ use lib.ListN.{drop, drop-of-length-le}
 use lib.Seq.{drop-cons}
 use Rattle.words.specs.Choice.{if_then_else_}
 use Rattle.words.specs.Lists.{sum}
-use Rattle.runs.specs.Changes.{Pair, pairCount, pairAt, pairs, lengths, changeCount, pairsFit}
-use Rattle.pairs.specs.Answers.{pairFits, countedOf}
+use Rattle.runs.specs.Changes.{Pair, pairCount, pairAt, pairs, lengths, changeCount, pairFits, pairsFit}
+use Rattle.pairs.specs.Answers.{countedOf}
 use Rattle.runs.proofs.Pairs.{length-pairs, getD-pairs, fit-sum}
 use Rattle.pairs.specs.declared.Counted.the-variants.{Fit, Unfit}
 

@@ -1,8 +1,7 @@
 -- What the check of a list and its helpers answer.
-use Prim.Native.Nat.{ℕ, _+_}
+use Prim.Native.Nat.{ℕ}
 use mathlib.Core.List.{List}
-use mathlib.Core.Bool.{Bool, not, _&&_}
-use lib.Dec.{leb, eqb}
+use lib.Dec.{eqb}
 use Rattle.words.specs.Choice.{if_then_else_}
 use Rattle.runs.specs.Changes.{pairs, pairCount, changeCount, pairsFit, listNumber}
 use Rattle.pairs.specs.declared.Shape.{Shape}
@@ -15,10 +14,7 @@ use Rattle.pairs.specs.declared.Checked.the-variants.{Good, Refused}
 unfoldable pub shapeOf : List ℕ → Shape
 shapeOf b = record { pairs = pairCount b; changes = changeCount b }
 
--- one pair after another that ends at `end`, and what the pairs of a list come to
-abbrev pub pairFits : ℕ → ℕ → ℕ → ℕ → Bool
-pairFits L end first many = not (eqb many 0) && leb end first && leb (first + many) L
-
+-- what the pairs of a list come to
 unfoldable pub countedOf : ℕ → List ℕ → Counted
 countedOf L b = if pairsFit L 0 (pairs b) then Fit (changeCount b) else Unfit
 

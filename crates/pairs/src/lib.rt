@@ -2,8 +2,8 @@
 ghost use mathlib.Core.Path.{_≡_};
 ghost use Prim.Native.Nat.{_+_, _*_, _≤_};
 ghost use lib.ListN.{length};
-ghost use Rattle.runs.specs.Changes.{pairCount, pairSize};
-ghost use Rattle.pairs.specs.Answers.{pairFits, countedOf, checkedOf};
+ghost use Rattle.runs.specs.Changes.{pairCount, pairFits, pairSize};
+ghost use Rattle.pairs.specs.Answers.{countedOf, checkedOf};
 use words::BLOCK_SIZE;
 use words::PRINT_SIZE;
 use words::u16_at;

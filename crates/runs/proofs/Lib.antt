@@ -4,6 +4,7 @@ pub mod Laws
 pub mod Cases
 pub mod ListBytes
 pub mod RunLaws
+pub mod PassingLaws
 pub mod Marked
 pub mod RoundTripLaws
 pub mod Example

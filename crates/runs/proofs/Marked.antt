@@ -14,8 +14,8 @@ use Rattle.words.specs.Sections.{flat}
 use Rattle.words.specs.Blocks.{blockSize, printSize}
 use Rattle.runs.specs.Changes.{Change}
 use Rattle.runs.proofs.ListBytes.{lbn, print, block, Fitting}
-use Rattle.runs.proofs.RunLaws.{marked-below, runs-named}
-use Rattle.runs.specs.Writer.{runs, markedFrom, imageChange, markedChanges, inputOk}
+use Rattle.runs.proofs.RunLaws.{marked-below, pairs-named}
+use Rattle.runs.specs.Writer.{markedPairs, markedFrom, imageChange, markedChanges, inputOk}
 
 -- ---- what an accepted input is
 
@@ -86,10 +86,10 @@ module _ (L : ℕ) (marks prints image : List ℕ) (g : Input L marks prints ima
   below : all (λ l. ltb l L) (markedFrom 0 marks) ≡ true
   below = marked-below marks 0 L (omega (arith, g .marks-long))
 
-  pub marked-fitting : Fitting (runs 0 0 marks) (markedChanges marks prints image)
+  pub marked-fitting : Fitting (markedPairs marks) (markedChanges marks prints image)
   unfolding markedChanges imageChange
   marked-fitting = record {
-    named = map-map lbn (imageChange prints image) (markedFrom 0 marks) ∙ map-id (markedFrom 0 marks) ∙ sym (runs-named marks);
+    named = map-map lbn (imageChange prints image) (markedFrom 0 marks) ∙ map-id (markedFrom 0 marks) ∙ sym (pairs-named marks);
     prints = sized-images L prints image printSize print (λ l h. print-long L prints image l h (g .prints-long)) (markedFrom 0 marks) below;
     blocks = sized-images L prints image blockSize block (λ l h. block-long L prints image l h (g .image-long)) (markedFrom 0 marks) below;
   }

@@ -2,7 +2,7 @@
 use Prim.Native.Nat.{ℕ, zero, suc, _+_, _-_, _≤_, _<_, zero-le}
 use mathlib.Core.Path.{_≡_, refl, ap, sym, _∙_}
 use mathlib.Core.Logic.{⊎-elim}
-use mathlib.Core.Bool.{Bool, true, not, _&&_}
+use mathlib.Core.Bool.{true, not, _&&_}
 use mathlib.Core.List.{List, [], _∷_, map}
 use native.Mathlib.Nat.{not-suc-le-zero, le-of-suc-le-suc, zero-add, pos-of-ne-zero}
 use native.Mathlib.Omega.{arith}
@@ -14,7 +14,7 @@ use Rattle.words.proofs.ChoiceLaws.{and-true}
 use Rattle.words.specs.Lists.{sum, joined}
 use Rattle.words.proofs.Ranges.{length-upFrom, getD-upFrom, below-or-not}
 use Rattle.words.proofs.SectionLaws.{length-tab, getD-tab}
-use Rattle.runs.specs.Changes.{Pair, pairCount, pairAt, pairs, run, lengths, pairsFit}
+use Rattle.runs.specs.Changes.{Pair, pairCount, pairAt, pairs, run, lengths, pairFits, pairsFit}
 
 -- ---- the pairs of any bytes
 module _ (b : List ℕ) where
@@ -56,10 +56,6 @@ run-at (p ∷ ps) (suc k) w d h j =
     ap (λ (m : ℕ). getD (runs (p ∷ ps)) m 0) (omega arith)
     ∙ later-run p ps (sum (lengths (take k ps)) + w)
     ∙ run-at ps k w d (le-of-suc-le-suc h) j
-
--- a pair's own tests, where the one before it ends at `end`
-abbrev pairFits : ℕ → ℕ → ℕ → ℕ → Bool
-pairFits L end first many = not (eqb many 0) && leb end first && leb (first + many) L
 
 -- what it says that a pair fits
 pub record Fits (L end first many : ℕ) : Type 0 where

@@ -14,8 +14,9 @@ use Rattle.words.specs.Lent.{Lent}
 use Rattle.words.specs.Lists.{allZero}
 use Rattle.runs.proofs.ListBytes.{changes-back, listNumber-back}
 use Rattle.runs.proofs.Marked.{input-facts, marked-fitting}
-use Rattle.runs.proofs.RunLaws.{marked-none, runs-fit, runs-none}
-use Rattle.runs.specs.Writer.{runs, markedChanges, listBytes, markedList, inputOk, writeNumber, answerAfter, outputAfter, Wrote}
+use Rattle.runs.proofs.PassingLaws.{pairs-fit}
+use Rattle.runs.proofs.RunLaws.{marked-none, pairs-none}
+use Rattle.runs.specs.Writer.{markedPairs, markedChanges, listBytes, markedList, inputOk, writeNumber, answerAfter, outputAfter, Wrote}
 use Rattle.runs.specs.RoundTrip.{Recovered}
 
 pub recovered : (L : ℕ) (marks prints image : List ℕ) → inputOk L marks prints image ≡ true
@@ -25,8 +26,8 @@ recovered L marks prints image h =
     let g = input-facts L marks prints image h in
     let f = marked-fitting L marks prints image g in
     record {
-      taken = listNumber-back (runs 0 0 marks) (markedChanges marks prints image) f L (runs-fit L marks (omega (arith, g .marks-long)));
-      found = changes-back (runs 0 0 marks) (markedChanges marks prints image) f;
+      taken = listNumber-back (markedPairs marks) (markedChanges marks prints image) f L (pairs-fit L marks (omega (arith, g .marks-long)));
+      found = changes-back (markedPairs marks) (markedChanges marks prints image) f;
     }
 
 -- ---- what an accepted call leaves: the list is as many bytes of the output as the answer says
@@ -61,4 +62,4 @@ module _ (L : ℕ) (marks prints image out : Lent (List ℕ)) (answer : Lent ℕ
 -- "E = 0 is a backup without changes"
 pub nothing-written : (marks prints image : List ℕ) → allZero marks ≡ true → markedList marks prints image ≡ 0 ∷ 0 ∷ []
 unfolding markedList markedChanges listBytes
-nothing-written marks prints image h = rw (runs-none marks 0 h, marked-none marks 0 h)
+nothing-written marks prints image h = rw (pairs-none marks h, marked-none marks 0 h)

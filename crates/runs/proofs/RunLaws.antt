@@ -1,5 +1,4 @@
--- Laws of specs/Runs.antt.
--- Laws of the writer's runs: their LBNs are the marked ones, the reader takes them as pairs, and no two touch.
+-- Laws of the writer's runs: their LBNs are the marked ones, and no two touch.
 use Prim.Native.Nat.{ℕ, zero, suc, _+_, _-_, _≤_, _<_}
 use mathlib.Core.Path.{_≡_, refl, ap, _∙_}
 use mathlib.Core.Bool.{Bool, true, false}
@@ -8,13 +7,13 @@ use native.Mathlib.Nat.{not-suc-le-zero, le-of-suc-le-suc, zero-add, add-zero, a
 use native.Mathlib.Omega.{arith}
 use lib.ListN.{length, getD}
 use lib.Dec.{ltb, eqb}
-use borrow.Author.Tests.{ltb-true, lt-ltb, le-leb, eq-eqb, ne-eqb, eqb-true}
+use borrow.Author.Tests.{ltb-true, lt-ltb, eq-eqb, ne-eqb, eqb-true}
 use Rattle.words.specs.Choice.{if_then_else_}
 use Rattle.words.proofs.ChoiceLaws.{and-true}
 use Rattle.words.proofs.Ranges.{upFrom-snoc}
 use Rattle.words.specs.Lists.{upFrom, joined, all, someOf, those, allZero}
-use Rattle.runs.specs.Changes.{Pair, run, pairsFit}
-use Rattle.runs.specs.Writer.{runBefore, runs, markedFrom}
+use Rattle.runs.specs.Changes.{Pair, run}
+use Rattle.runs.specs.Writer.{runBefore, runs, markedPairs, markedFrom}
 use Rattle.runs.specs.Runs.{startsPast, apart}
 
 -- ---- the marked LBNs
@@ -113,29 +112,16 @@ runs-none (m ∷ ms) i h =
     let t = and-true (eqb m 0) (allZero ms) h in
     rw (eqb-true m 0 (t .0)) (runs-none ms (suc i) (t .1))
 
--- ---- the reader takes the runs as pairs of a volume of L blocks
+-- ---- the same of the list's pairs
 
-fit-from : (L : ℕ) (ms : List ℕ) (end i k : ℕ) → end + k ≤ i → i + length ms ≤ L → pairsFit L end (runs i k ms) ≡ true
-fit-from L [] end i zero h b = refl
-fit-from L [] end i (suc k) h b =
-    rw (
-      ne-eqb (suc k) 0 (λ e. omega arith),
-      le-leb end (i - suc k) (omega arith),
-      le-leb (i - suc k + suc k) L
-          (omega arith),
-    )
-fit-from L (m ∷ ms) end i k h b = go (eqb m 1) k h (λ e n j. fit-from L ms e (suc i) n j (omega arith))
-  where
-    go : (t : Bool) (k : ℕ) → end + k ≤ i → ((e n : ℕ) → e + n ≤ suc i → pairsFit L e (runs (suc i) n ms) ≡ true)
-        → pairsFit L end (if t then runs (suc i) (suc k) ms else runBefore i k ++ runs (suc i) 0 ms) ≡ true
-    go true k h ih = ih end (suc k) (omega arith)
-    go false zero h ih = ih end 0 (omega arith)
-    go false (suc k) h ih =
-        rw (ne-eqb (suc k) 0 (λ e. omega arith), le-leb end (i - suc k) (omega arith), le-leb (i - suc k + suc k) L (omega arith))
-        (ih (i - suc k + suc k) 0 (omega arith))
+module _ (marks : List ℕ) where
+  pub pairs-named : joined (map run (markedPairs marks)) ≡ markedFrom 0 marks
+  unfolding markedPairs
+  pairs-named = runs-named marks
 
-pub runs-fit : (L : ℕ) (marks : List ℕ) → length marks ≤ L → pairsFit L 0 (runs 0 0 marks) ≡ true
-runs-fit L marks h = fit-from L marks 0 0 0 (omega arith) (omega arith)
+  pub pairs-none : allZero marks ≡ true → markedPairs marks ≡ []
+  unfolding markedPairs
+  pairs-none h = runs-none marks 0 h
 
 -- ---- "longest": no two runs touch
 

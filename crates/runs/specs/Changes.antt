@@ -71,10 +71,13 @@ changeAt b i = record {
 unfoldable pub changes : List ℕ → List Change
 changes b = tab (changeCount b) (changeAt b)
 
--- no length is 0, no pair starts before the last one's end, which is `end`, or passes L
+-- a pair's own tests: its length isn't 0, it starts at `end` or later, where the last one ended, and it doesn't pass L
+abbrev pub pairFits : ℕ → ℕ → ℕ → ℕ → Bool
+pairFits L end first many = not (eqb many 0) && leb end first && leb (first + many) L
+
 abbrev pub pairsFit : ℕ → ℕ → List Pair → Bool
 pairsFit L end [] = true
-pairsFit L end (p ∷ ps) = not (eqb (p .many) 0) && leb end (p .first) && leb (p .first + p .many) L && pairsFit L (p .first + p .many) ps
+pairsFit L end (p ∷ ps) = pairFits L end (p .first) (p .many) && pairsFit L (p .first + p .many) ps
 
 -- number 8
 unfoldable pub listNumber : ℕ → List ℕ → ℕ

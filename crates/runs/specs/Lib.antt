@@ -1,4 +1,5 @@
 pub mod Changes
 pub mod Writer
+pub mod Passing
 pub mod Runs
 pub mod RoundTrip

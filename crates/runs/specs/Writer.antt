@@ -24,6 +24,10 @@ abbrev pub runs : ℕ → ℕ → List ℕ → List Pair
 runs i k [] = runBefore i k
 runs i k (m ∷ ms) = if eqb m 1 then runs (suc i) (suc k) ms else runBefore i k ++ runs (suc i) 0 ms
 
+-- the pairs of the list
+unfoldable pub markedPairs : List ℕ → List Pair
+markedPairs marks = runs 0 0 marks
+
 -- the marked LBNs, where the marks are those from LBN i on
 abbrev pub markedFrom : ℕ → List ℕ → List ℕ
 markedFrom i [] = []
@@ -45,7 +49,7 @@ unfoldable pub listBytes : List Pair → List Change → List ℕ
 listBytes ps cs = two (length ps) ++ (flat pairBytes ps ++ (flat (λ (c : Change). c .print) cs ++ flat (λ (c : Change). c .block) cs))
 
 unfoldable pub markedList : List ℕ → List ℕ → List ℕ → List ℕ
-markedList marks prints image = listBytes (runs 0 0 marks) (markedChanges marks prints image)
+markedList marks prints image = listBytes (markedPairs marks) (markedChanges marks prints image)
 
 -- number 19: L is out of range, an input length is wrong, or a mark isn't 0 or 1; number 20: the output is shorter than the list
 unfoldable pub inputOk : ℕ → List ℕ → List ℕ → List ℕ → Bool

@@ -15,13 +15,13 @@ use Rattle.words.proofs.Flat.{flat-map}
 use Rattle.words.proofs.Parts.{length-part}
 use Rattle.runs.specs.Changes.{Change, pairSize}
 use Rattle.words.specs.Blocks.{blockSize, printSize}
-use Rattle.runs.specs.Writer.{runs, markedFrom, imageChange, markedChanges, pairBytes, listBytes, markedList}
-use Rattle.marks.specs.Passes.{pairsFrom}
+use Rattle.runs.specs.Writer.{markedPairs, markedFrom, imageChange, markedChanges, pairBytes, listBytes, markedList}
+use Rattle.marks.specs.Passes.{pairsOf}
 use Rattle.writer.specs.Elements.{element, markedElements}
 
-pub length-pairs : (i k : ℕ) (ms : List ℕ) → length (pairsFrom i k ms) ≡ length (runs i k ms) * pairSize
-unfolding pairsFrom pairBytes
-length-pairs i k ms = length-flat pairSize pairBytes (λ p. refl) (runs i k ms)
+pub length-pairs : (marks : List ℕ) → length (pairsOf marks) ≡ length (markedPairs marks) * pairSize
+unfolding pairsOf pairBytes
+length-pairs marks = length-flat pairSize pairBytes (λ p. refl) (markedPairs marks)
 
 pub length-element : (size : ℕ) (b : List ℕ) (l n : ℕ) → l < n → n * size ≤ length b → length (element size b l) ≡ size
 unfolding element
@@ -45,18 +45,18 @@ length-elements size b (m ∷ ms) i h =
 -- the changes' sections are those of the marked fingerprints and blocks
 module _ (prints image : List ℕ) where
   pub list-sections : (marks : List ℕ) → markedList marks prints image
-      ≡ two (length (runs 0 0 marks))
-      ++ (pairsFrom 0 0 marks ++ (markedElements printSize prints 0 marks ++ markedElements blockSize image 0 marks))
-  unfolding markedList listBytes markedChanges imageChange pairsFrom element markedElements
+      ≡ two (length (markedPairs marks))
+      ++ (pairsOf marks ++ (markedElements printSize prints 0 marks ++ markedElements blockSize image 0 marks))
+  unfolding markedList listBytes markedChanges imageChange pairsOf element markedElements
   list-sections marks =
-      ap₂ (λ (p q : List ℕ). two (length (runs 0 0 marks)) ++ (pairsFrom 0 0 marks ++ (p ++ q)))
+      ap₂ (λ (p q : List ℕ). two (length (markedPairs marks)) ++ (pairsOf marks ++ (p ++ q)))
       (flat-map (λ (c : Change). c .print) (imageChange prints image) (markedFrom 0 marks))
       (flat-map (λ (c : Change). c .block) (imageChange prints image) (markedFrom 0 marks))
 
   -- E pairs and n changes
   pub length-list : (marks : List ℕ) → length prints ≡ length marks * printSize → length image ≡ length marks * blockSize
-      → length (markedList marks prints image) ≡ 2 + 4 * length (runs 0 0 marks) + 528 * length (markedFrom 0 marks)
+      → length (markedList marks prints image) ≡ 2 + 4 * length (markedPairs marks) + 528 * length (markedFrom 0 marks)
   length-list marks hp hb =
       let p = length-elements printSize prints marks 0 (rw zero-add (omega arith)) in
       let b = length-elements blockSize image marks 0 (rw zero-add (omega arith)) in
-      rw (list-sections marks) (simp length-append (omega (arith, length-pairs 0 0 marks)))
+      rw (list-sections marks) (simp length-append (omega (arith, length-pairs marks)))

@@ -17,8 +17,8 @@ use Rattle.words.proofs.Filling.{put-sets}
 use Rattle.words.specs.Laying.{Stored}
 use Rattle.words.proofs.LayingLaws.{Left, left-all, left-room, left-more, sets-front}
 use Rattle.words.specs.Blocks.{blockSize, printSize}
-use Rattle.runs.specs.Writer.{runs, markedList, inputOk, writeNumber, answerAfter, outputAfter, listOf, Wrote}
-use Rattle.marks.specs.Passes.{pairsFrom}
+use Rattle.runs.specs.Writer.{markedPairs, markedList, inputOk, writeNumber, answerAfter, outputAfter, listOf, Wrote}
+use Rattle.marks.specs.Passes.{pairsOf}
 use Rattle.writer.specs.Elements.{markedElements, Room}
 use Rattle.writer.proofs.Lengths.{list-sections}
 
@@ -55,7 +55,7 @@ module _ (marks prints image : List ℕ) where
   -- what is left to store where the output held `out` at first and holds o now: after E, after the pairs, after the fingerprints
   module _ (out o : List ℕ) (at : ℕ) where
     abbrev pub AfterNumber : Type 0
-    AfterNumber = Left out 0 (markedList marks prints image) o at (pairsFrom 0 0 marks ++ changeSections)
+    AfterNumber = Left out 0 (markedList marks prints image) o at (pairsOf marks ++ changeSections)
 
     abbrev pub AfterPairs : Type 0
     AfterPairs = Left out 0 (markedList marks prints image) o at changeSections
@@ -69,21 +69,21 @@ module _ {out : List ℕ} {E : ℕ} {marks prints image : List ℕ} (r : Room ou
 
   pub number-room : 2 ≤ length out
   number-room =
-      left-room all-left (two (length (runs 0 0 marks))) (pairsFrom 0 0 marks ++ changeSections marks prints image)
+      left-room all-left (two (length (markedPairs marks))) (pairsOf marks ++ changeSections marks prints image)
       (list-sections prints image marks)
 
   pub number-stored : {o : List ℕ} → o ≡ put out 0 E → AfterNumber marks prints image out o 2
   number-stored e =
-      left-more all-left (two (length (runs 0 0 marks))) (pairsFrom 0 0 marks ++ changeSections marks prints image)
+      left-more all-left (two (length (markedPairs marks))) (pairsOf marks ++ changeSections marks prints image)
       (list-sections prints image marks)
       (record { list = e ∙ put-sets out 0 E ∙ ap (λ (n : ℕ). sets out 0 (two n)) (r .runs); place = refl })
 
   module _ {o : List ℕ} {at : ℕ} (l : AfterNumber marks prints image out o at) where
-    pub pairs-room : at + length (pairsFrom 0 0 marks) ≤ length o
-    pairs-room = left-room l (pairsFrom 0 0 marks) (changeSections marks prints image) refl
+    pub pairs-room : at + length (pairsOf marks) ≤ length o
+    pairs-room = left-room l (pairsOf marks) (changeSections marks prints image) refl
 
-    pub pairs-stored : {o′ : List ℕ} {at′ : ℕ} → Stored o at (pairsFrom 0 0 marks) o′ at′ → AfterPairs marks prints image out o′ at′
-    pairs-stored s = left-more l (pairsFrom 0 0 marks) (changeSections marks prints image) refl s
+    pub pairs-stored : {o′ : List ℕ} {at′ : ℕ} → Stored o at (pairsOf marks) o′ at′ → AfterPairs marks prints image out o′ at′
+    pairs-stored s = left-more l (pairsOf marks) (changeSections marks prints image) refl s
 
   module _ {o : List ℕ} {at : ℕ} (l : AfterPairs marks prints image out o at) where
     pub prints-room : at + length (markedElements printSize prints 0 marks) ≤ length o

@@ -7,7 +7,7 @@ use lib.ListN.{length}
 use Rattle.words.specs.Choice.{if_then_else_}
 use Rattle.words.specs.Sections.{flat, part}
 use Rattle.words.specs.Blocks.{blockSize, printSize}
-use Rattle.runs.specs.Writer.{runs, markedFrom, markedList}
+use Rattle.runs.specs.Writer.{markedPairs, markedFrom, markedList}
 
 -- the bytes of a block that is marked
 unfoldable pub ifMarked : ℕ → List ℕ → List ℕ
@@ -22,7 +22,7 @@ markedElements size b i ms = flat (element size b) (markedFrom i ms)
 
 -- what the writer of the whole list requires: E, inputs of as many elements as there are marks, and room for the list
 pub record Room (out : List ℕ) (E : ℕ) (ms ps bs : List ℕ) : Type 0 where
-  pub runs : E ≡ length (runs 0 0 ms)
+  pub runs : E ≡ length (markedPairs ms)
   pub most : length ms ≤ 1024
   pub prints : length ps ≡ length ms * printSize
   pub image : length bs ≡ length ms * blockSize

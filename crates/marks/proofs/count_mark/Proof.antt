@@ -1,11 +1,11 @@
 -- `count_mark`: the three cases of a mark.
 use borrow.Author.Needs.{needs}
-use Rattle.marks.proofs.Marks.{counted-marked, counted-none, counted-run}
+use Rattle.marks.proofs.Marks.{counted-on, counted-none, counted-run}
 use Rattle.marks.proofs.count_mark.Statement.{statement}
 use Rattle.marks.proofs.count_mark.Tie as tie
 
 returns : tie.Need-returns
-returns c = counted-marked _ _ _ (c .before .before .before .row-after .ensures) (c .before .if1 .taken)
+returns c = counted-on _ _ _ (c .before .before .before .row-after .ensures) (c .before .if1 .taken)
 
 returns-2 : tie.Need-returns-2
 returns-2 c =

@@ -1,10 +1,9 @@
 -- `count_marks`: what is counted and what is left come to E and n.
 use Prim.Native.Nat.{_≤_, _-_}
 use lib.ListN.{length}
-use native.Mathlib.Nat.{zero-add}
 use native.Mathlib.Omega.{arith}
 use borrow.Author.Needs.{needs}
-use Rattle.marks.proofs.Counting.{Counting, counting-more, counting-end}
+use Rattle.marks.proofs.Counting.{Counting, none-counted, counting-more, counting-end}
 use Rattle.marks.proofs.count_marks.Statement.{statement}
 use Rattle.marks.proofs.count_marks.Tie as tie
 
@@ -15,8 +14,7 @@ abbrev μ-loop : tie.MeasureT-loop
 μ-loop marks t₀ passed₀ t passed = length marks - passed
 
 loop-holds : tie.Need-loop-holds Inv-loop μ-loop
-loop-holds c =
-    (record { marked = zero-add _; ended = zero-add _; few-runs = omega arith; few-changes = omega arith }, omega arith)
+loop-holds c = (none-counted _, omega arith)
 
 count-mark-requires : tie.Need-count-mark-requires Inv-loop μ-loop
 count-mark-requires c κs = (omega arith, omega arith, omega arith)

@@ -6,8 +6,8 @@ use lib.Seq.{length-sets}
 use native.Mathlib.Omega.{arith}
 use borrow.Author.Needs.{needs}
 use Rattle.words.proofs.LayingLaws.{Left, left-all}
-use Rattle.marks.specs.Passes.{pairsFrom}
-use Rattle.marks.proofs.Writing.{next-room, last-room, next-stored, last-stored, row-room}
+use Rattle.marks.specs.Passes.{pairsOf}
+use Rattle.marks.proofs.Writing.{pairsLeft, all-left, next-room, last-room, next-stored, last-stored, row-room}
 use Rattle.marks.proofs.put_runs.Statement.{statement}
 use Rattle.marks.proofs.put_runs.Tie as tie
 
@@ -15,13 +15,13 @@ abbrev Inv-loop : tie.InvT-loop
 Inv-loop list₀ at marks p₀ lbn₀ list p lbn =
     (lbn ≤ length marks)
     × (p .row ≤ lbn)
-    × Left list₀ at (pairsFrom 0 0 marks) list (p .at) (pairsFrom lbn (p .row) (drop lbn marks))
+    × Left list₀ at (pairsOf marks) list (p .at) (pairsLeft lbn (p .row) (drop lbn marks))
 
 abbrev μ-loop : tie.MeasureT-loop
 μ-loop list₀ at marks p₀ lbn₀ list p lbn = length marks - lbn
 
 loop-holds : tie.Need-loop-holds Inv-loop μ-loop
-loop-holds c = (omega arith, omega arith, left-all (c .before .before .pre .1))
+loop-holds c = (omega arith, omega arith, rw all-left (left-all (c .before .before .pre .1)))
 
 put-mark-requires : tie.Need-put-mark-requires Inv-loop μ-loop
 put-mark-requires c κs =
