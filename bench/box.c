@@ -41,14 +41,20 @@ static void put_print(uint8_t *print, enum prints prints, unsigned number)
     differs[1] = (uint8_t)(number % 256);
 }
 
+unsigned runs_of(unsigned changes)
+{
+    return (changes + ASPEN_MAX_RUN - 1) / ASPEN_MAX_RUN;
+}
+
 size_t change_list(uint8_t *to, enum prints prints, unsigned lbn, unsigned changes, const uint16_t *numbers)
 {
-    size_t runs = changes > 0;
+    unsigned runs = runs_of(changes);
     uint8_t *print = to + aspen_list_size(runs, 0), *block = print + ASPEN_PRINT_SIZE * changes;
-    put_u16(to, (unsigned)runs);
-    if (runs == 1) {
-        put_u16(to + 2, lbn);
-        put_u16(to + 4, changes);
+    put_u16(to, runs);
+    for (unsigned r = 0; r < runs; r++) {
+        unsigned done = r * ASPEN_MAX_RUN, left = changes - done;
+        put_u16(to + aspen_list_size(r, 0), lbn + done);
+        put_u16(to + aspen_list_size(r, 0) + 2, left < ASPEN_MAX_RUN ? left : ASPEN_MAX_RUN);
     }
     for (unsigned i = 0; i < changes; i++) {
         put_print(print + ASPEN_PRINT_SIZE * i, prints, numbers[i]);

@@ -46,6 +46,9 @@ void box_make(struct box *box, const struct past *past);
 /* Book and pool as they were made; of the pool, the blocks from this one on. */
 void box_restore(struct box *box, unsigned from_block);
 
+/* How many runs a change list has for so many LBNs in a row. */
+unsigned runs_of(unsigned changes);
+
 /* The change list of so many LBNs from `lbn` on, each with a block of its own number, from `numbers`. Answers its length. */
 size_t change_list(uint8_t *list, enum prints prints, unsigned lbn, unsigned changes, const uint16_t *numbers);
 

@@ -78,7 +78,7 @@ void stage_move(struct stage *stage)
         return;
     memcpy(box->book, box->spare, box->book_len);
     uint8_t *to = scene->finds == NOWHERE ? box->pool + aspen_pool_size(stage->held) : box->room;
-    memcpy(to, list + aspen_list_size(scene->changes > 0, 0) + ASPEN_PRINT_SIZE * scene->changes, aspen_pool_size(scene->changes));
+    memcpy(to, list + aspen_list_size(runs_of(scene->changes), 0) + ASPEN_PRINT_SIZE * scene->changes, aspen_pool_size(scene->changes));
 }
 
 static void fail(const struct stage *stage, const char *what, const struct side *side)

@@ -4,7 +4,8 @@
 
 #include "twin_layout.h"
 
-enum { PAIR = 4 };
+/* Bytes of a pair, and the most blocks of a run. */
+enum { PAIR = 4, MAX_RUN = 64 };
 
 /* A list that was checked: its pairs, then the fingerprints and the blocks of its n changes. */
 struct list {
@@ -23,7 +24,7 @@ static inline int list_of(struct list *list, const uint8_t *bytes, size_t len, s
         return 0;
     for (const uint8_t *pair = bytes + 2; pair < bytes + 2 + PAIR * pairs; pair += PAIR) {
         size_t first = u16_at(pair), length = u16_at(pair + 2);
-        if (length == 0 || first < end || first + length > l)
+        if (length == 0 || length > MAX_RUN || first < end || first + length > l)
             return 0;
         end = first + length;
         n += length;

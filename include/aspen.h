@@ -42,18 +42,21 @@ extern "C" {
 #define ASPEN_VERSION_MINOR 1
 #define ASPEN_VERSION_PATCH 0
 
-/* Limits. The numbers of blocks, slots and records, and the retention, are 1 at least. */
+/* Limits. The numbers of blocks, slots and records, the blocks of a run, and the retention, are 1
+ * at least. */
 #define ASPEN_BLOCK_SIZE 512      /* bytes of a block */
 #define ASPEN_PRINT_SIZE 16       /* bytes of a fingerprint */
 #define ASPEN_VOLUMES 8           /* volumes are 0 to 7 */
 #define ASPEN_MAX_BLOCKS 4096     /* n: blocks of the pool */
 #define ASPEN_MAX_LBNS 1024       /* l: logical blocks of each volume */
+#define ASPEN_MAX_RUN 64          /* blocks of one run of a change list */
 #define ASPEN_MAX_SLOTS 1024      /* s: backups that the book has room for */
 #define ASPEN_MAX_RECORDS 16384   /* j: changes that the book has room for */
 #define ASPEN_MAX_RETENTION 5000  /* days */
 #define ASPEN_MAX_DAY 60000
 
-/* Sizes in bytes. Constant expressions where the arguments are; each argument is used once. */
+/* Sizes in bytes. Constant expressions where the arguments are; each argument is used once, but for
+ * that of aspen_list_bound, which is used twice. */
 
 /* The book of n pool blocks, l logical blocks a volume, s slots and j records. */
 #define aspen_book_size(n, l, s, j) \
@@ -66,8 +69,9 @@ extern "C" {
 #define aspen_list_size(runs, changes) \
     ((size_t)2 + (size_t)4 * (runs) + (size_t)(ASPEN_PRINT_SIZE + ASPEN_BLOCK_SIZE) * (changes))
 
-/* The longest list that aspen_write_list writes for l blocks: all of them, in one run. */
-#define aspen_list_bound(l) aspen_list_size(1, l)
+/* The longest list that aspen_write_list writes for l blocks: all of them, in as few runs as there
+ * can be. */
+#define aspen_list_bound(l) aspen_list_size(((l) + (ASPEN_MAX_RUN - 1)) / ASPEN_MAX_RUN, l)
 
 /* Rows that aspen_backups, aspen_cells and aspen_blocks write. */
 #define ASPEN_BACKUP_ROW 8   /* bytes for a backup */
@@ -152,7 +156,9 @@ uint16_t aspen_enrol(uint8_t *book, size_t book_len, uint16_t volume, uint16_t r
 
 /*
  * Takes the change list `list` as the volume's backup of this day, which has to be after its
- * last one and not before the book's day. The whole list is taken or nothing.
+ * last one and not before the book's day. The whole list is taken or nothing. No run may have more
+ * than ASPEN_MAX_RUN blocks: a list with a longer one, as lists had them before there was this
+ * limit, is refused by ASPEN_BAD_LIST.
  *
  * The spare is room to work in, as long as the book at least; what it holds afterwards means
  * nothing. The pool changes only at blocks that were free before the call, so a host that
@@ -329,6 +335,8 @@ uint16_t aspen_play(uint8_t *book, size_t book_len, uint8_t *pool, size_t pool_l
  *   prints  l fingerprints of ASPEN_PRINT_SIZE bytes
  *   image   l blocks of ASPEN_BLOCK_SIZE bytes
  *   list    the output; aspen_list_bound(l) bytes are always enough
+ * A longest run of marked blocks, which no marked block stands beside, is cut from its start into
+ * pieces of ASPEN_MAX_RUN blocks, the rest last. Each piece is a run of the list.
  *
  * Answer: *written, the list's length in bytes. The output past it is as it was.
  *

@@ -8,5 +8,6 @@ int main(void)
     test_sizes();
     test_texts();
     test_writer();
+    test_pieces();
     return check_report();
 }

@@ -24,6 +24,13 @@ size_t case_record(unsigned record)
     return case_slot(CASE_S) + RECORD * record;
 }
 
+size_t record_in(const uint8_t *book, unsigned record)
+{
+    size_t n = get_u16(book, AT_N), l = get_u16(book, AT_L), s = get_u16(book, AT_S);
+
+    return HEADER + ENTRY * n + CELL * VOLUMES * l + SLOT * s + RECORD * record;
+}
+
 unsigned get_u16(const uint8_t *bytes, size_t at)
 {
     return bytes[at] + 256u * bytes[at + 1];

@@ -35,6 +35,8 @@ size_t case_entry(unsigned pbn);
 size_t case_cell(unsigned volume, unsigned lbn);
 size_t case_slot(unsigned slot);
 size_t case_record(unsigned record);
+/* Where a record starts in a book of any sizes. */
+size_t record_in(const uint8_t *book, unsigned record);
 
 unsigned get_u16(const uint8_t *bytes, size_t at);
 void put_u16(uint8_t *bytes, size_t at, unsigned value);

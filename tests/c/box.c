@@ -7,15 +7,20 @@
 
 #include <string.h>
 
-struct box box_fresh(void)
+struct box box_of(unsigned n, unsigned l, unsigned s, unsigned j)
 {
     struct box box;
 
-    box.book = buffer_new(CASE_BOOK);
-    box.pool = buffer_filled(aspen_pool_size(CASE_N), POOL_BYTE);
-    box.spare = buffer_new(CASE_BOOK);
-    book_fresh(box.book.bytes, CASE_N, CASE_L, CASE_S, CASE_J);
+    box.book = buffer_new(aspen_book_size(n, l, s, j));
+    box.pool = buffer_filled(aspen_pool_size(n), POOL_BYTE);
+    box.spare = buffer_new(box.book.length);
+    book_fresh(box.book.bytes, n, l, s, j);
     return box;
+}
+
+struct box box_fresh(void)
+{
+    return box_of(CASE_N, CASE_L, CASE_S, CASE_J);
 }
 
 struct box box_after_d(void)

@@ -1,5 +1,6 @@
-/* A box of the cases' sizes, and calls that check what every call owes: its number, that a refused
- * one left book, pool and answers as they were, and that nothing was written outside the buffers.
+/* A box, mostly of the cases' sizes, and calls that check what every call owes: its number, that a
+ * refused one left book, pool and answers as they were, and that nothing was written outside the
+ * buffers.
  */
 #ifndef ASPEN_TESTS_BOX_H
 #define ASPEN_TESTS_BOX_H
@@ -17,7 +18,9 @@ struct backed_up {
 /* The byte that the pool's blocks have before they are taken. */
 enum { POOL_BYTE = 0x5A };
 
-/* A fresh book with no volume enrolled. */
+/* A fresh book of these sizes with no volume enrolled. */
+struct box box_of(unsigned n, unsigned l, unsigned s, unsigned j);
+/* One of the cases' sizes. */
 struct box box_fresh(void);
 /* The box after case d. */
 struct box box_after_d(void);

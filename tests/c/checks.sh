@@ -7,7 +7,7 @@ warnings=(-Wall -Wextra -Werror -pedantic)
 # The sources of a program, by name.
 units_of() {
     case $1 in
-    aid) printf '%s\n' aid sizes texts writer ;;
+    aid) printf '%s\n' aid sizes texts writer pieces writing ;;
     engine) printf '%s\n' engine form cases format_audit count views refusals lists changes play ;;
     esac
     printf '%s\n' check buffer books box calls

@@ -20,20 +20,54 @@ static struct buffer list_of_pairs(const unsigned *pairs, unsigned number, size_
     return list;
 }
 
-/* Backs a list up after case d. If it is taken, its records have the LBNs of the pairs in order. */
+/* Backs a list up. If it is taken, its records have the LBNs of the pairs in order. */
+static void check_list_in(struct box *box, const unsigned *pairs, unsigned number, size_t changes,
+                          uint16_t expected)
+{
+    const uint8_t *book = box->book.bytes;
+    unsigned record = get_u16(book, AT_RECORDS_USED), i, within;
+
+    call_backup(box, 0, 10, list_of_pairs(pairs, number, changes), expected);
+    if (expected != ASPEN_OK)
+        return;
+    for (i = 0; i < number; i++)
+        for (within = 0; within < pairs[2 * i + 1]; within++, record++)
+            CHECK_EQ(get_u16(book, record_in(book, record) + RECORD_LBN), pairs[2 * i] + within);
+    CHECK_EQ(get_u16(book, AT_RECORDS_USED), record);
+}
+
+/* After case d. */
 static void check_list(const unsigned *pairs, unsigned number, size_t changes, uint16_t expected)
 {
     struct box box = box_after_d();
-    unsigned record = 5, i, within;
 
-    call_backup(&box, 0, 10, list_of_pairs(pairs, number, changes), expected);
-    if (expected == ASPEN_OK) {
-        for (i = 0; i < number; i++)
-            for (within = 0; within < pairs[2 * i + 1]; within++, record++)
-                CHECK_EQ(get_u16(box.book.bytes, case_record(record) + RECORD_LBN),
-                         pairs[2 * i] + within);
-        CHECK_EQ(get_u16(box.book.bytes, AT_RECORDS_USED), record);
-    }
+    check_list_in(&box, pairs, number, changes, expected);
+    box_free(&box);
+}
+
+/* A fresh box whose volumes have more LBNs than two runs, with volume 0 enrolled. */
+enum { WIDE = 130 };
+
+static struct box wide_box(void)
+{
+    struct box box = box_of(WIDE, WIDE, 2, 2 * WIDE);
+
+    call_enrol(&box, 0, 10, ASPEN_OK);
+    return box;
+}
+
+/* In a wide box, with as many changes as the pairs say. */
+static void check_runs(unsigned first, unsigned length, unsigned next, unsigned next_length,
+                       uint16_t expected)
+{
+    struct box box = wide_box();
+    unsigned pairs[4];
+
+    pairs[0] = first;
+    pairs[1] = length;
+    pairs[2] = next;
+    pairs[3] = next_length;
+    check_list_in(&box, pairs, next_length == 0 ? 1 : 2, length + next_length, expected);
     box_free(&box);
 }
 
@@ -106,6 +140,54 @@ static void test_pairs(void)
     check_pairs(0, 1, 2, 1, 3, ASPEN_BAD_LIST);
 }
 
+static void test_runs(void)
+{
+    check_about("runs of up to 64 blocks");
+    check_runs(0, 63, 0, 0, ASPEN_OK);
+    check_runs(0, 64, 0, 0, ASPEN_OK);
+    check_runs(WIDE - 64, 64, 0, 0, ASPEN_OK);
+    check_runs(0, 64, 64, 1, ASPEN_OK);
+    check_runs(0, 1, 1, 64, ASPEN_OK);
+    check_runs(0, 64, 64, 64, ASPEN_OK);
+    check_runs(0, 32, 32, 33, ASPEN_OK);
+    check_about("a run of more, as lists had them before: the rest of the list is right");
+    check_runs(0, 65, 0, 0, ASPEN_BAD_LIST);
+    check_runs(WIDE - 65, 65, 0, 0, ASPEN_BAD_LIST);
+    check_runs(0, 66, 0, 0, ASPEN_BAD_LIST);
+    check_runs(0, 128, 0, 0, ASPEN_BAD_LIST);
+    check_runs(0, WIDE, 0, 0, ASPEN_BAD_LIST);
+    check_runs(0, 65, 65, 1, ASPEN_BAD_LIST);
+    check_runs(0, 1, 1, 65, ASPEN_BAD_LIST);
+    check_runs(0, 64, 64, 65, ASPEN_BAD_LIST);
+}
+
+/* Two runs that touch, where one was enough before: each block is read back from its LBN. */
+static void test_runs_read_back(void)
+{
+    static const unsigned pairs[4] = { 20, 64, 84, 1 };
+    struct box box = wide_box();
+    struct buffer list = list_of_pairs(pairs, 2, 65);
+    uint8_t *prints = list.bytes + aspen_list_size(2, 0);
+    uint8_t *blocks = prints + ASPEN_PRINT_SIZE * 65, block[ASPEN_BLOCK_SIZE];
+    uint16_t lbn;
+    int i;
+
+    check_about("runs of 64 blocks and 1 that touch");
+    for (i = 0; i < 65; i++) {
+        memset(prints + ASPEN_PRINT_SIZE * i, 100 + i, ASPEN_PRINT_SIZE);
+        memset(blocks + ASPEN_BLOCK_SIZE * i, i, ASPEN_BLOCK_SIZE);
+    }
+    CHECK_EQ(call_backup(&box, 0, 10, list, ASPEN_OK).taken, 65);
+    for (lbn = 20; lbn < 85; lbn++) {
+        memset(block, lbn - 20, sizeof block);
+        CHECK_BYTES(box.pool.bytes + call_read(&box, 0, 1, lbn, ASPEN_OK), block, sizeof block);
+    }
+    call_read(&box, 0, 1, 19, ASPEN_UNMAPPED);
+    call_read(&box, 0, 1, 85, ASPEN_UNMAPPED);
+    CHECK_EQ(call_audit(&box, ASPEN_OK), 1);
+    box_free(&box);
+}
+
 static void test_lengths(void)
 {
     static const unsigned pairs[4] = { 0, 1, 1, 1 };
@@ -150,6 +232,8 @@ void test_lists(void)
 {
     test_pair();
     test_pairs();
+    test_runs();
+    test_runs_read_back();
     test_lengths();
     test_no_changes();
 }

@@ -11,6 +11,27 @@ enum {
     LARGEST_ROWS = aspen_blocks_size(ASPEN_MAX_BLOCKS)
 };
 
+typedef uint8_t list_of_two_runs[aspen_list_bound(ASPEN_MAX_RUN + 1)];
+
+/* The longest list of so many blocks: all of them, in runs of 64 and a rest. */
+static void test_bounds(void)
+{
+    const uint16_t blocks = ASPEN_MAX_LBNS;
+
+    check_about("bounds of lists");
+    CHECK_EQ(ASPEN_MAX_RUN, 64);
+    CHECK_EQ(aspen_list_bound(1), 2 + 4 + 528);
+    CHECK_EQ(aspen_list_bound(63), 2 + 4 + 63 * 528);
+    CHECK_EQ(aspen_list_bound(64), 2 + 4 + 64 * 528);
+    CHECK_EQ(aspen_list_bound(65), 2 + 2 * 4 + 65 * 528);
+    CHECK_EQ(aspen_list_bound(128), 2 + 2 * 4 + 128 * 528);
+    CHECK_EQ(aspen_list_bound(129), 2 + 3 * 4 + 129 * 528);
+    CHECK_EQ(aspen_list_bound(blocks), 540738);
+    CHECK_EQ(LARGEST_LIST, 2 + 16 * 4 + 1024 * 528);
+    CHECK_EQ(sizeof(list_of_two_runs), aspen_list_size(2, 65));
+    CHECK_EQ(aspen_list_bound(60 + 5), aspen_list_bound(65));
+}
+
 static void test_rows(void)
 {
     const uint16_t cells = ASPEN_MAX_LBNS;
@@ -45,9 +66,9 @@ void test_sizes(void)
     CHECK_EQ(aspen_pool_size(blocks), 2097152);
     CHECK_EQ(aspen_list_size(0, 0), 2);
     CHECK_EQ(aspen_list_size(2, 3), 2 + 8 + 3 * 528);
-    CHECK_EQ(LARGEST_LIST, 2 + 4 + 1024 * 528);
     CHECK_EQ(ASPEN_MAX_RETENTION, 5000);
     CHECK_EQ(ASPEN_MAX_DAY, 60000);
     CHECK_EQ(ASPEN_VOLUMES, 8);
+    test_bounds();
     test_rows();
 }

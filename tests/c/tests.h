@@ -6,6 +6,7 @@
 void test_sizes(void);
 void test_texts(void);
 void test_writer(void);
+void test_pieces(void);
 
 /* With libengine.a. */
 void test_form(void);

@@ -54,3 +54,25 @@ blocks ABCDEFGH >image
 expect 0 "3 of 8 blocks sent, 0 new" backup box 0 image --day "$(date_of $((day + 1)))"
 check "no temporary file is left" same "$(find . -name '*.new*')" ""
 check "nothing lies beside the images" same "$(find . -name '*.aspen')" ""
+
+# Changed blocks in a row go to the box in runs of 64 blocks at most, which a user never sees: rows shorter than a run, as long as
+# one, longer, and up to the image's end are sent, and every backup restores to its own image.
+store=rows
+expect 0 "made" format rows --blocks 900 --cells 300 --slots 10 --journal 900 --day-zero 2026-01-01
+expect 0 "enrolled" enrol rows 0 --keep 30
+head -c $((512 * 300)) /dev/urandom >image.1
+expect 0 "300 of 300 blocks sent, 300 new" backup rows 0 image.1 --day "$(date_of 1)"
+number=1
+# Where a row starts and how many blocks it has.
+for row in 20:63 20:64 20:65 7:128 7:129 235:65; do
+    first=${row%:*} changed=${row#*:}
+    number=$((number + 1))
+    cp image.$((number - 1)) image.$number
+    head -c $((512 * changed)) /dev/urandom | dd of=image.$number bs=512 seek="$first" conv=notrunc status=none
+    expect 0 "$changed of 300 blocks sent, $changed new" backup rows 0 image.$number --day "$(date_of $number)"
+done
+for i in $(seq $number); do
+    expect 0 "restored" restore rows 0 "$i" out --force
+    check "backup $i of rows" cmp out "image.$i"
+done
+expect 0 "sound" audit rows

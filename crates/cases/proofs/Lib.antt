@@ -2,6 +2,7 @@ pub mod Open
 pub mod Letters
 pub mod Cases
 pub mod Edges
+pub mod LongRuns
 pub mod Refusals
 pub mod Audits
 pub mod Examples

@@ -2,7 +2,7 @@
 use Prim.Native.Nat.{ℕ, zero, suc, _+_, _≤_, _<_}
 use mathlib.Core.Path.{_≡_, refl, sym, ap, subst, _∙_}
 use mathlib.Core.Bool.{Bool, true, false}
-use mathlib.Core.List.{List, [], _∷_}
+use mathlib.Core.List.{List, []}
 use native.Mathlib.Nat.{zero-add}
 use native.Mathlib.Numerals.{add-one}
 use native.Mathlib.Omega.{arith}
@@ -16,6 +16,7 @@ use Rattle.words.proofs.Prefixes.{bit-one}
 use Rattle.runs.specs.Writer.{runBefore, markedPairs, markedFrom}
 use Rattle.runs.specs.Passing.{goesOn, endedRun, rowAfter, pairsFrom}
 use Rattle.runs.proofs.PassingLaws.{pairs-passed}
+use Rattle.runs.proofs.RunLaws.{marked-cons}
 use Rattle.marks.specs.Passes.{counted, Counted}
 use Rattle.marks.specs.declared.Tally.{Tally}
 use Rattle.marks.proofs.Marks.{pairs-more, pairs-end}
@@ -38,14 +39,7 @@ ended-length i k m = go (goesOn k m) k
 
 marked-more : (ms : List ℕ) (i : ℕ) → i < length ms
     → length (markedFrom i (drop i ms)) ≡ bit (eqb (getD ms i 0) 1) + length (markedFrom (i + 1) (drop (i + 1) ms))
-marked-more ms i h = rw (drop-cons ms i 0 h, add-one i) (go (eqb (getD ms i 0) 1))
-  where
-    rest : List ℕ
-    rest = markedFrom (suc i) (drop (suc i) ms)
-
-    go : (t : Bool) → length (if t then i ∷ rest else rest) ≡ bit t + length rest
-    go true = omega arith
-    go false = omega arith
+marked-more ms i h = rw (drop-cons ms i 0 h, add-one i) (marked-cons (getD ms i 0) (drop (suc i) ms) i)
 
 few : (t : Tally) (m : ℕ) → (counted t m .runs + counted t m .row ≤ t .runs + t .row + 1) × (counted t m .changes ≤ t .changes + 1)
 unfolding counted endedRun rowAfter

@@ -1,22 +1,27 @@
 -- What one mark does in each of its cases, and one turn of `pairsFrom`.
 use Prim.Native.Nat.{ℕ, zero, suc, _+_, _-_, _≤_, _<_}
 use mathlib.Core.Path.{_≡_, refl, sym, ap, _∙_}
-use mathlib.Core.Bool.{Bool, true, false}
+use mathlib.Core.Logic.{_⊎_, inl, inr}
+use mathlib.Core.Bool.{Bool, true, false, _&&_}
 use mathlib.Core.List.{List, [], _∷_, _++_}
 use native.Mathlib.Nat.{add-zero}
 use native.Mathlib.Numerals.{add-one}
 use native.Mathlib.Omega.{arith}
-use lib.Dec.{eqb}
-use borrow.Author.Tests.{eq-eqb, ne-eqb, eqb-true}
+use lib.Dec.{ltb, eqb}
+use borrow.Author.Tests.{lt-ltb, le-ltb, eq-eqb, ne-eqb}
 use lib.ListN.{length, getD, drop, drop-of-length-le}
 use lib.Seq.{drop-cons}
 use Rattle.words.specs.Choice.{if_then_else_}
 use Rattle.words.specs.Lists.{bit}
+use Rattle.words.proofs.Prefixes.{bit-one}
+use Rattle.words.proofs.Ranges.{below-or-not}
 use Rattle.words.specs.Numbers.{two, put}
 use Rattle.words.proofs.Filling.{put-sets}
 use Rattle.words.specs.Laying.{Stored}
 use Rattle.words.proofs.LayingLaws.{sets-next}
+use Rattle.runs.specs.Changes.{maxRun}
 use Rattle.runs.specs.Writer.{runBefore, pairBytes}
+use Rattle.runs.proofs.PassingLaws.{on-marked}
 use Rattle.runs.specs.Passing.{goesOn, endedRun, rowAfter, pairsFrom}
 use Rattle.marks.specs.Passes.{counted, pairOf}
 use Rattle.marks.specs.declared.Tally.{Tally}
@@ -24,22 +29,19 @@ use Rattle.marks.specs.declared.Tally.{Tally}
 -- ---- one mark: the run goes on, or there was none, or it ends
 
 module _ (k m : ℕ) where
-  pub on-marked : goesOn k m ≡ true → m ≡ 1
-  unfolding goesOn
-  on-marked e = eqb-true m 1 e
-
   pub not-on : (m ≡ 1 → ⊥) → goesOn k m ≡ false
   unfolding goesOn
-  not-on n = ne-eqb m 1 n
+  not-on n = rw (ne-eqb m 1 n)
 
   -- the row grows exactly where the run goes on
   pub row-grows : (r : ℕ) → r ≡ rowAfter k m → k < r → goesOn k m ≡ true
   unfolding goesOn rowAfter
-  row-grows r = go (eqb m 1)
+  row-grows r = go (eqb m 1) (below-or-not k maxRun)
     where
-      go : (t : Bool) → r ≡ (if t then k + 1 else bit t) → k < r → t ≡ true
-      go true f h = refl
-      go false f h = absurd (omega arith)
+      go : (t : Bool) → (k < maxRun) ⊎ (maxRun ≤ k) → r ≡ (if t && ltb k maxRun then k + 1 else bit t) → k < r → (t && ltb k maxRun) ≡ true
+      go true (inl less) f h = lt-ltb k maxRun less
+      go true (inr full) f h = absurd (let g = rw (le-ltb k maxRun full) at f in omega arith)
+      go false _ f h = absurd (omega arith)
 
   pub row-stops : (r : ℕ) → r ≡ rowAfter k m → r ≤ k → goesOn k m ≡ false
   unfolding rowAfter
@@ -52,6 +54,10 @@ module _ (k m : ℕ) where
   pub row-ended : goesOn k m ≡ false → rowAfter k m ≡ bit (eqb m 1)
   unfolding rowAfter
   row-ended e = rw e
+
+  -- past a run that ends, the open one has at most the block with this mark
+  pub row-anew : (r : ℕ) → r ≡ rowAfter k m → r ≤ k → r ≤ 1
+  row-anew r e h = omega (arith, row-ended (row-stops r e h), bit-one (eqb m 1))
 
 module _ (i k m : ℕ) where
   pub ended-on : goesOn k m ≡ true → endedRun i k m ≡ []
@@ -89,11 +95,11 @@ module _ (t : Tally) (m r : ℕ) (e : r ≡ rowAfter (t .row) m) where
       rw (ended-none 0 (t .row) m z, b, add-zero (t .runs), add-zero (t .changes), ← e)
       (ap (λ (x : ℕ). record { runs = t .runs; changes = t .changes; row = x }) k)
 
-  pub counted-run : r ≤ t .row → (t .row ≡ 0 → ⊥) → record { runs = t .runs + 1; changes = t .changes; row = r } ≡ counted t m
-  unfolding counted goesOn
+  pub counted-run : r ≤ t .row → (t .row ≡ 0 → ⊥) → record { runs = t .runs + 1; changes = t .changes + r; row = r } ≡ counted t m
+  unfolding counted
   counted-run h z =
       let n = row-stops (t .row) m r e h in
-      rw (ended-run 0 (t .row) m n z, n, add-zero (t .changes), ← e)
+      rw (ended-run 0 (t .row) m n z, ← row-ended (t .row) m n, ← e)
 
 -- nothing is stored where no run ends, else the run's two numbers
 module _ (out : List ℕ) (at i k m : ℕ) where

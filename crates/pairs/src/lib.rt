@@ -6,6 +6,7 @@ ghost use Rattle.runs.specs.Changes.{pairCount, pairFits, pairSize};
 ghost use Rattle.pairs.specs.Answers.{countedOf, checkedOf};
 use words::BLOCK_SIZE;
 use words::PRINT_SIZE;
+use words::limits::MAX_RUN;
 use words::u16_at;
 
 pub const PAIR_SIZE: usize = 4;
@@ -28,12 +29,15 @@ enum Counted {
     Unfit,
 }
 
-// Whether a pair is of some blocks, starts at `end` or later, and doesn't pass l.
+// Whether a pair is of some blocks and not too many, starts at `end` or later, and doesn't pass l.
 fn pair_fits(end: usize, first: usize, many: usize, l: usize) -> bool
     requires { ⌜ (first ≤ 65535) × (many ≤ 65535) ⌝ }
     ensures { λ r. ⌜ r ≡ pairFits l end first many ⌝ }
 {
     if many == 0 {
+        return false;
+    }
+    if many > MAX_RUN {
         return false;
     }
     if first < end {

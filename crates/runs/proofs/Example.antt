@@ -6,7 +6,7 @@ use mathlib.Core.List.{List, [], _∷_, _++_}
 use lib.ListN.{replicate}
 use Rattle.runs.specs.Changes.{Change, changes, listNumber, pairCount, pairAt, pairs, changeCount, lbns, printsFrom, blocksFrom}
 use Rattle.runs.specs.Changes.{listSize, changeAt}
-use Rattle.runs.specs.Writer.{markedPairs, imageChange, markedChanges, pairBytes, listBytes, markedList, inputOk, writeNumber}
+use Rattle.runs.specs.Writer.{pieces, markedPairs, imageChange, markedChanges, pairBytes, listBytes, markedList, inputOk, writeNumber}
 
 marks : List ℕ
 marks = 1 ∷ 1 ∷ 0 ∷ 1 ∷ []
@@ -35,7 +35,7 @@ unfolding inputOk marks letters
 accepted = refl
 
 written : markedList marks (letters 16) (letters 512) ≡ bytes
-unfolding marks letters bytes imageChange markedPairs markedChanges pairBytes listBytes markedList
+unfolding marks letters bytes imageChange pieces markedPairs markedChanges pairBytes listBytes markedList
 written = refl
 
 taken : listNumber 4 bytes ≡ 0
@@ -48,9 +48,9 @@ found = refl
 
 -- 1,594 bytes of room are enough, one less is refused
 room : writeNumber 4 marks (letters 16) (letters 512) (replicate 1594 0) ≡ 0
-unfolding marks letters imageChange markedPairs markedChanges pairBytes listBytes markedList inputOk writeNumber
+unfolding marks letters imageChange pieces markedPairs markedChanges pairBytes listBytes markedList inputOk writeNumber
 room = refl
 
 short : writeNumber 4 marks (letters 16) (letters 512) (replicate 1593 0) ≡ 20
-unfolding marks letters imageChange markedPairs markedChanges pairBytes listBytes markedList inputOk writeNumber
+unfolding marks letters imageChange pieces markedPairs markedChanges pairBytes listBytes markedList inputOk writeNumber
 short = refl

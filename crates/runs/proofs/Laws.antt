@@ -1,6 +1,7 @@
 -- What is known of the changes of a list: of any bytes, and of a list that is not refused.
 use Prim.Native.Nat.{ℕ, _+_, _*_, _≤_, _<_, zero-le}
 use mathlib.Core.Path.{_≡_, refl, _∙_}
+use mathlib.Core.Logic.{⊎-elim}
 use mathlib.Core.List.{List, map}
 use native.Mathlib.Omega.{arith}
 use lib.ListN.{length, getD}
@@ -8,11 +9,11 @@ use Rattle.words.specs.Sections.{part}
 use Rattle.words.proofs.SectionLaws.{length-tab, getD-tab, tab-list}
 use Rattle.words.proofs.Ranges.{map-tab}
 use Rattle.words.proofs.Parts.{length-part, part-part}
-use Rattle.runs.specs.Changes.{Change, pairSize, pairCount, pairAt, pairs, changeCount, lbns, printsFrom, blocksFrom, listSize}
+use Rattle.runs.specs.Changes.{Change, pairSize, maxRun, pairCount, pairAt, pairs, changeCount, lbns, printsFrom, blocksFrom, listSize}
 use Rattle.runs.specs.Changes.{changeAt, changes, listNumber}
 use Rattle.words.specs.Blocks.{blockSize, printSize}
 use Rattle.runs.proofs.Pairs.{length-pairs, getD-pairs, length-runs, fit-sum, fit-count, fit-each, fit-bounds, fit-rise}
-use Rattle.runs.proofs.Number.{number-accepted}
+use Rattle.runs.proofs.Number.{number-accepted, number-either}
 
 -- ---- the changes of any bytes
 module _ (b : List ℕ) where
@@ -53,7 +54,9 @@ module _ (L : ℕ) (b : List ℕ) (good : listNumber L b ≡ 0) where
   unfolding changeCount
   pairs-within = rw length-pairs at (fit-count L 0 (pairs b) (number-accepted L b good .fit))
 
-  pub pair-bounds : (k : ℕ) → k < pairCount b → (0 < pairAt b k .many) × (pairAt b k .first + pairAt b k .many ≤ L)
+  -- every pair has from 1 to maxRun blocks, and they lie below L
+  pub pair-bounds : (k : ℕ) → k < pairCount b
+      → (0 < pairAt b k .many) × (pairAt b k .many ≤ maxRun) × (pairAt b k .first + pairAt b k .many ≤ L)
   pair-bounds k h =
       rw (getD-pairs b k (pairAt b k) h) at (fit-each L 0 (pairs b) (pairAt b k) k (number-accepted L b good .fit) (rw length-pairs h))
 
@@ -72,6 +75,10 @@ module _ (L : ℕ) (b : List ℕ) (good : listNumber L b ≡ 0) where
   pub changes-rise : (i j : ℕ) → i < j → j < changeCount b
       → getD (map (λ (c : Change). c .lbn) (changes b)) i 0 < getD (map (λ (c : Change). c .lbn) (changes b)) j 0
   changes-rise i j h k = rw (changes-lbns b) (lbns-rise i j h k)
+
+-- a list with a longer pair is refused, whatever else it says
+pub long-refused : (L : ℕ) (b : List ℕ) (k : ℕ) → k < pairCount b → maxRun < pairAt b k .many → listNumber L b ≡ 8
+long-refused L b k h long = ⊎-elim (λ good. absurd (omega (arith, pair-bounds L b good k h))) (λ e. e) (number-either L b)
 
 -- ---- the parts of a list that is as long as its pairs say
 module _ (b : List ℕ) (size : length b ≡ listSize b) (i : ℕ) (h : i < changeCount b) where

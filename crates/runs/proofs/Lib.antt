@@ -3,8 +3,11 @@ pub mod Number
 pub mod Laws
 pub mod Cases
 pub mod ListBytes
+pub mod PieceLaws
 pub mod RunLaws
 pub mod PassingLaws
 pub mod Marked
 pub mod RoundTripLaws
+pub mod RoomLaws
 pub mod Example
+pub mod CutCases

@@ -1,6 +1,7 @@
 -- Number 8 by its tests.
 use Prim.Native.Nat.{ℕ, _≤_}
 use mathlib.Core.Path.{_≡_, refl, sym, _∙_}
+use mathlib.Core.Logic.{_⊎_, inl, inr}
 use mathlib.Core.Bool.{Bool, true, false, not}
 use mathlib.Core.List.{List}
 use native.Mathlib.Omega.{arith}
@@ -28,6 +29,15 @@ module _ (L : ℕ) (b : List ℕ) where
   pub accepted-number : Accepted L b → listNumber L b ≡ 0
   accepted-number a =
       number-ladder ∙ rw (le-ltb (length b) 2 (a .long), a .fit, eq-eqb (length b) (listSize b) (a .size))
+
+  pub number-either : (listNumber L b ≡ 0) ⊎ (listNumber L b ≡ 8)
+  number-either = rw number-ladder (go (ltb (length b) 2) (pairsFit L 0 (pairs b)) (eqb (length b) (listSize b)))
+    where
+      go : (s f n : Bool) → (ladder s f n ≡ 0) ⊎ (ladder s f n ≡ 8)
+      go true f n = inr refl
+      go false false n = inr refl
+      go false true false = inr refl
+      go false true true = inl refl
 
   pub number-accepted : listNumber L b ≡ 0 → Accepted L b
   number-accepted e = go (ltb (length b) 2) (pairsFit L 0 (pairs b)) (eqb (length b) (listSize b)) refl refl refl (sym number-ladder ∙ e)

@@ -14,7 +14,7 @@ use Rattle.words.proofs.ChoiceLaws.{and-true}
 use Rattle.words.specs.Lists.{sum, joined}
 use Rattle.words.proofs.Ranges.{length-upFrom, getD-upFrom, below-or-not}
 use Rattle.words.proofs.SectionLaws.{length-tab, getD-tab}
-use Rattle.runs.specs.Changes.{Pair, pairCount, pairAt, pairs, run, lengths, pairFits, pairsFit}
+use Rattle.runs.specs.Changes.{Pair, pairCount, pairAt, pairs, run, lengths, maxRun, pairFits, pairsFit}
 
 -- ---- the pairs of any bytes
 module _ (b : List ℕ) where
@@ -60,15 +60,18 @@ run-at (p ∷ ps) (suc k) w d h j =
 -- what it says that a pair fits
 pub record Fits (L end first many : ℕ) : Type 0 where
   pub some : 0 < many
+  pub short : many ≤ maxRun
   pub after : end ≤ first
   pub within : first + many ≤ L
 
 pub pair-fits : (L end first many : ℕ) → pairFits L end first many ≡ true → Fits L end first many
 pair-fits L end first many e =
-    let own = and-true (not (eqb many 0) && leb end first) (leb (first + many) L) e in
-    let low = and-true (not (eqb many 0)) (leb end first) (own .0) in
+    let own = and-true (not (eqb many 0) && leb many maxRun && leb end first) (leb (first + many) L) e in
+    let low = and-true (not (eqb many 0) && leb many maxRun) (leb end first) (own .0) in
+    let size = and-true (not (eqb many 0)) (leb many maxRun) (low .0) in
     record {
-      some = pos-of-ne-zero (eqb-false many 0 (not-true (eqb many 0) (low .0)));
+      some = pos-of-ne-zero (eqb-false many 0 (not-true (eqb many 0) (size .0)));
+      short = leb-true many maxRun (size .1);
       after = leb-true end first (low .1);
       within = leb-true (first + many) L (own .1);
     }
@@ -98,9 +101,9 @@ module _ (L : ℕ) where
       omega arith
 
   pub fit-each : (end : ℕ) (ps : List Pair) (d : Pair) (k : ℕ) → pairsFit L end ps ≡ true → k < length ps
-      → (0 < getD ps k d .many) × (getD ps k d .first + getD ps k d .many ≤ L)
+      → (0 < getD ps k d .many) × (getD ps k d .many ≤ maxRun) × (getD ps k d .first + getD ps k d .many ≤ L)
   fit-each end [] d k e h = absurd (not-suc-le-zero h)
-  fit-each end (p ∷ ps) d zero e h = let f = first-fits end p ps e in (f .some, f .within)
+  fit-each end (p ∷ ps) d zero e h = let f = first-fits end p ps e in (f .some, f .short, f .within)
   fit-each end (p ∷ ps) d (suc k) e h = fit-each (p .first + p .many) ps d k (rest-fit end p ps e) (le-of-suc-le-suc h)
 
   -- their LBNs lie from `end` to L, and rise

@@ -11,10 +11,11 @@ use borrow.Author.Tests.{ltb-true, lt-ltb, eq-eqb, ne-eqb, eqb-true}
 use Rattle.words.specs.Choice.{if_then_else_}
 use Rattle.words.proofs.ChoiceLaws.{and-true}
 use Rattle.words.proofs.Ranges.{upFrom-snoc}
-use Rattle.words.specs.Lists.{upFrom, joined, all, someOf, those, allZero}
+use Rattle.words.specs.Lists.{upFrom, joined, all, someOf, those, allZero, bit}
 use Rattle.runs.specs.Changes.{Pair, run}
 use Rattle.runs.specs.Writer.{runBefore, runs, markedPairs, markedFrom}
 use Rattle.runs.specs.Runs.{startsPast, apart}
+use Rattle.runs.proofs.PieceLaws.{cut, cut-named}
 
 -- ---- the marked LBNs
 
@@ -73,6 +74,17 @@ marked-below (m ∷ ms) i n h = go (eqb m 1) (marked-below ms (suc i) n (omega a
     go true ih = rw (lt-ltb i n (omega arith)) ih
     go false ih = ih
 
+-- how many they are, by the first mark
+pub marked-cons : (m : ℕ) (ms : List ℕ) (i : ℕ) → length (markedFrom i (m ∷ ms)) ≡ bit (eqb m 1) + length (markedFrom (suc i) ms)
+marked-cons m ms i = go (eqb m 1)
+  where
+    rest : List ℕ
+    rest = markedFrom (suc i) ms
+
+    go : (t : Bool) → length (if t then i ∷ rest else rest) ≡ bit t + length rest
+    go true = omega arith
+    go false = omega arith
+
 pub marked-none : (ms : List ℕ) (i : ℕ) → allZero ms ≡ true → markedFrom i ms ≡ []
 marked-none [] i h = refl
 marked-none (m ∷ ms) i h =
@@ -112,16 +124,16 @@ runs-none (m ∷ ms) i h =
     let t = and-true (eqb m 0) (allZero ms) h in
     rw (eqb-true m 0 (t .0)) (runs-none ms (suc i) (t .1))
 
--- ---- the same of the list's pairs
+-- ---- the same of the list's pairs, which are their pieces
 
 module _ (marks : List ℕ) where
   pub pairs-named : joined (map run (markedPairs marks)) ≡ markedFrom 0 marks
   unfolding markedPairs
-  pairs-named = runs-named marks
+  pairs-named = cut-named (runs 0 0 marks) ∙ runs-named marks
 
   pub pairs-none : allZero marks ≡ true → markedPairs marks ≡ []
   unfolding markedPairs
-  pairs-none h = runs-none marks 0 h
+  pairs-none h = ap cut (runs-none marks 0 h)
 
 -- ---- "longest": no two runs touch
 

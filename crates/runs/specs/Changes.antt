@@ -14,6 +14,10 @@ use Rattle.words.specs.Sections.{tab, part}
 abbrev pub pairSize : ℕ
 pairSize = 4
 
+-- "at most 64 blocks in one run" (document 02, K1)
+abbrev pub maxRun : ℕ
+maxRun = 64
+
 -- "pairs of u16 first LBN and length"
 pub record Pair : Type 0 where
   pub first : ℕ
@@ -71,9 +75,9 @@ changeAt b i = record {
 unfoldable pub changes : List ℕ → List Change
 changes b = tab (changeCount b) (changeAt b)
 
--- a pair's own tests: its length isn't 0, it starts at `end` or later, where the last one ended, and it doesn't pass L
+-- a pair's own tests: its length is from 1 to maxRun, it starts at `end` or later, where the last one ended, and it doesn't pass L
 abbrev pub pairFits : ℕ → ℕ → ℕ → ℕ → Bool
-pairFits L end first many = not (eqb many 0) && leb end first && leb (first + many) L
+pairFits L end first many = not (eqb many 0) && leb many maxRun && leb end first && leb (first + many) L
 
 abbrev pub pairsFit : ℕ → ℕ → List Pair → Bool
 pairsFit L end [] = true

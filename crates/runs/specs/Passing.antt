@@ -1,17 +1,17 @@
 -- The pairs of the list from left to right, one mark after the other, as the code makes them. They are those of specs/Writer.antt by
 -- proofs/PassingLaws.antt.
 use Prim.Native.Nat.{ℕ, suc, _+_}
-use mathlib.Core.Bool.{Bool}
+use mathlib.Core.Bool.{Bool, _&&_}
 use mathlib.Core.List.{List, [], _∷_, _++_}
-use lib.Dec.{eqb}
+use lib.Dec.{ltb, eqb}
 use Rattle.words.specs.Choice.{if_then_else_}
 use Rattle.words.specs.Lists.{bit}
-use Rattle.runs.specs.Changes.{Pair}
+use Rattle.runs.specs.Changes.{Pair, maxRun}
 use Rattle.runs.specs.Writer.{runBefore}
 
 -- whether a block with the mark m goes on with the open run, which has k blocks
 unfoldable pub goesOn : ℕ → ℕ → Bool
-goesOn k m = eqb m 1
+goesOn k m = eqb m 1 && ltb k maxRun
 
 -- the run that ends before LBN i, where the open run has the k blocks before i and i's mark is m: none if i goes on with it
 unfoldable pub endedRun : ℕ → ℕ → ℕ → List Pair

@@ -1,5 +1,5 @@
 -- The writer on the aid (document 01, "The writer on the aid"; numbers 19 and 20).
-use Prim.Native.Nat.{ℕ, zero, suc, _-_, _*_}
+use Prim.Native.Nat.{ℕ, zero, suc, _+_, _-_, _*_, _/_, _%_}
 use mathlib.Core.Path.{_≡_}
 use mathlib.Core.Bool.{Bool, not, _&&_}
 use mathlib.Core.List.{List, [], _∷_, _++_, map}
@@ -8,11 +8,11 @@ use lib.Dec.{leb, ltb, eqb}
 use denote.Ref.{now}
 use Rattle.words.specs.Choice.{if_then_else_}
 use Rattle.words.specs.Lent.{Lent}
-use Rattle.words.specs.Lists.{all}
+use Rattle.words.specs.Lists.{all, joined}
 use Rattle.words.specs.Numbers.{two}
 use Rattle.words.specs.Sections.{flat, part}
 use Rattle.words.specs.Blocks.{blockSize, printSize}
-use Rattle.runs.specs.Changes.{Pair, Change}
+use Rattle.runs.specs.Changes.{Pair, Change, pairSize, maxRun}
 
 -- the run of k blocks that ends before LBN i; none where k is 0
 abbrev pub runBefore : ℕ → ℕ → List Pair
@@ -24,9 +24,17 @@ abbrev pub runs : ℕ → ℕ → List ℕ → List Pair
 runs i k [] = runBefore i k
 runs i k (m ∷ ms) = if eqb m 1 then runs (suc i) (suc k) ms else runBefore i k ++ runs (suc i) 0 ms
 
--- the pairs of the list
+-- "pieces of 64 from its start, the rest last" (document 02, K1): s full ones from LBN `first` on, then the k blocks that are left, if any
+abbrev pub piecesFrom : ℕ → ℕ → ℕ → List Pair
+piecesFrom first zero k = runBefore (first + k) k
+piecesFrom first (suc s) k = record { first = first; many = maxRun } ∷ piecesFrom (first + maxRun) s k
+
+unfoldable pub pieces : Pair → List Pair
+pieces p = piecesFrom (p .first) (p .many / maxRun) (p .many % maxRun)
+
+-- the pairs of the list: the pieces of the longest runs
 unfoldable pub markedPairs : List ℕ → List Pair
-markedPairs marks = runs 0 0 marks
+markedPairs marks = joined (map pieces (runs 0 0 marks))
 
 -- the marked LBNs, where the marks are those from LBN i on
 abbrev pub markedFrom : ℕ → List ℕ → List ℕ
@@ -66,6 +74,10 @@ writeNumber L marks prints image out =
     if not (inputOk L marks prints image) then 19 else
     if ltb (length out) (length (markedList marks prints image)) then 20 else
     0
+
+-- room that is enough for any marks of L blocks: `aspen_list_bound` of the C header
+unfoldable pub listBound : ℕ → ℕ
+listBound L = 2 + (L + (maxRun - 1)) / maxRun * pairSize + L * (printSize + blockSize)
 
 -- "answers its length in bytes"; "output past the list is unchanged"; a refusal leaves both as they were
 unfoldable pub answerAfter : ℕ → List ℕ → ℕ → ℕ

@@ -4,7 +4,7 @@ use mathlib.Core.Path.{_≡_, refl, ap, _∙_}
 use mathlib.Core.Logic.{_⊎_, inl, inr}
 use mathlib.Core.List.{List, [], _∷_, _++_, map}
 use mathlib.Core.Bool.{Bool, true, false}
-use native.Mathlib.Nat.{not-suc-le-zero, le-of-suc-le-suc, add-zero, add-suc, suc-add}
+use native.Mathlib.Nat.{not-suc-le-zero, le-of-suc-le-suc, zero-add, add-zero, add-suc, suc-add}
 use native.Mathlib.Omega.{arith}
 use lib.Dec.{ltb}
 use lib.ListN.{length, getD, take}
@@ -33,6 +33,12 @@ getD-upFrom i (suc m) (suc k) h = getD-upFrom (suc i) m k (le-of-suc-le-suc h) �
 pub upFrom-snoc : (i m : ℕ) → upFrom i (suc m) ≡ upFrom i m ++ (i + m) ∷ []
 upFrom-snoc i zero = rw add-zero
 upFrom-snoc i (suc m) = rw (add-suc i m, ← suc-add i m) (ap (λ (r : List ℕ). i ∷ r) (upFrom-snoc (suc i) m))
+
+-- two ranges, one after the other
+pub upFrom-add : (i m n : ℕ) → upFrom i (m + n) ≡ upFrom i m ++ upFrom (i + m) n
+upFrom-add i zero n = rw (zero-add n, add-zero i)
+upFrom-add i (suc m) n =
+    rw (suc-add m n) (ap (λ (r : List ℕ). i ∷ r) (upFrom-add (suc i) m n) ∙ rw (suc-add i m, ← add-suc i m))
 
 module _ {A : Type 0} where
   pub map-tab : {B : Type 0} (f : A → B) (n : ℕ) (g : ℕ → A) → map f (tab n g) ≡ tab n (λ k. f (g k))

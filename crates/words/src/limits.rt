@@ -1,7 +1,11 @@
-// How large a book can be (document 01, "The book"), and the tables that have room for the largest.
+// How large a book can be (document 01, "The book"), how long a run of a change list, and the tables that have room for
+// the largest book.
 pub const MAX_BLOCKS: usize = 4096;
 
 pub const MAX_LBNS: usize = 1024;
+
+// Blocks of one run (document 02, K1).
+pub const MAX_RUN: usize = 64;
 
 pub const MAX_SLOTS: u16 = 1024;
 

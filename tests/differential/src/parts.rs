@@ -36,6 +36,7 @@ impl Job {
 pub fn check() -> Vec<Job> {
     let mut quick = Vec::new();
     let mut lists = play::jobs(Shape::LongLists, 0..6);
+    lists.extend(play::jobs(Shape::Pieces, 0..10));
     for seed in 0..100 {
         for shape in Shape::QUICK {
             quick.extend(runs::jobs(shape, seed..seed + 1));
@@ -50,6 +51,7 @@ pub fn check() -> Vec<Job> {
         quick,
         lists,
         play::broken(),
+        runs::jobs(Shape::Pieces, 0..30),
         runs::jobs(Shape::AnySizes, 0..40),
         runs::jobs(Shape::LongLists, 0..12),
         runs::jobs(Shape::Largest, 0..4),
@@ -90,6 +92,8 @@ pub fn more(index: u64) -> Vec<Job> {
         24..=25 => formats::jobs(many),
         26 => play::jobs(Shape::LongLists, seeds),
         27..=35 => play::jobs(quick, seeds),
+        36..=41 => runs::jobs(Shape::Pieces, seeds),
+        42 => play::jobs(Shape::Pieces, seeds),
         _ => runs::jobs(quick, seeds),
     }
 }

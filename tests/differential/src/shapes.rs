@@ -3,6 +3,7 @@
 
 mod backup;
 mod buffers;
+mod lists;
 mod others;
 mod play;
 mod views;
@@ -13,10 +14,14 @@ pub use play::numbers as listed_numbers;
 use std::collections::BTreeMap;
 
 use reference::call::Call;
+use reference::change_list::RUN_MAX;
 use reference::view::View;
 
 use crate::request::{Playing, Request, Viewed};
 use crate::seen::Seen;
+
+/// The most blocks of a run.
+const MOST: usize = RUN_MAX as usize;
 
 /// The shapes that a call may have, each with whether it has it.
 type Shape = (&'static str, bool);
@@ -43,7 +48,9 @@ impl Shapes {
             Request::Play(playing) => self.note_play(playing, seen),
             Request::View(viewed) => self.note_view(request.name(), viewed, seen),
             Request::WriteList(input) => {
-                self.count("write_list", writer::Written::new(input, seen).shapes());
+                let written = writer::Written::new(input, seen);
+                self.count("write_list", written.shapes());
+                self.count("write_list", written.piece_shapes());
             }
             Request::Call { stored, call } => {
                 let buffers = buffers::Buffers::new(stored, call);
@@ -88,6 +95,7 @@ impl Shapes {
                 let backup = backup::Backup::new(book, (*volume, *day), list, seen);
                 self.count("backup", backup.change_shapes());
                 self.count("backup", backup.accepted_shapes());
+                self.count("backup", backup.list_shapes());
                 self.count("backup", backup.refused_shapes(pool));
             }
             Call::Collect { day } => {

@@ -153,7 +153,7 @@ fn list_of(image: &str) -> Vec<u8> {
         .chunks(BLOCK_BYTES)
         .flat_map(|block| block[..FINGERPRINT_BYTES].to_vec())
         .collect();
-    let mut list = vec![0; change_list::list_bytes(1, lbns)];
+    let mut list = vec![0; change_list::list_bound(lbns)];
     let length = change_list::write(SIZES.lbns, &marks, &prints, &blocks, &mut list);
     list.truncate(length.expect("an image of the volume's size") as usize);
     list

@@ -2,6 +2,9 @@
  * its bits if the control's shape is odd. They are repeated as often as the control's calls say. */
 #include "../fuzz.h"
 
+#include <stdio.h>
+#include <stdlib.h>
+
 int LLVMFuzzerTestOneInput(const uint8_t *input, size_t length);
 
 typedef __typeof__(aspen_write_list) write_call;
@@ -29,16 +32,42 @@ static struct buffer numbered(size_t parts, size_t part)
     return buffer;
 }
 
-/* As long as the list of the marks. */
+/* As long as the list of the marks: a pair for each piece of a longest run. */
 static size_t list_length(const struct buffer *marks)
 {
-    size_t i, runs = 0, marked = 0;
+    size_t i, run = 0, pieces = 0, marked = 0;
 
     for (i = 0; i < marks->length; i++) {
-        marked += marks->bytes[i] == 1;
-        runs += marks->bytes[i] == 1 && (i == 0 || marks->bytes[i - 1] != 1);
+        run = marks->bytes[i] == 1 ? run + 1 : 0;
+        marked += run != 0;
+        pieces += run % ASPEN_MAX_RUN == 1;
     }
-    return aspen_list_size(runs, marked);
+    return aspen_list_size(pieces, marked);
+}
+
+/* How many lists had a longest run in pieces, printed at the end. */
+static unsigned long in_pieces;
+
+static void print_in_pieces(void)
+{
+    fprintf(stderr, "in pieces: %lu\n", in_pieces);
+}
+
+static void note_pieces(const struct buffer *list)
+{
+    static int noted;
+    size_t pair, end = 2 + 4 * (size_t)aspen_u16(list->bytes);
+
+    if (!noted)
+        noted = atexit(print_in_pieces) == 0;
+    for (pair = 2; pair + 4 < end; pair += 4) {
+        const uint8_t *at = list->bytes + pair;
+
+        if (aspen_u16(at) + aspen_u16(at + 2) == aspen_u16(at + 4)) {
+            in_pieces++;
+            return;
+        }
+    }
 }
 
 static uint16_t call(write_call *write, struct side *side, uint16_t l, uint32_t *written)
@@ -78,6 +107,8 @@ int LLVMFuzzerTestOneInput(const uint8_t *input, size_t length)
 
     CHECK_EQ(number, call(reference_write_list, &theirs, sent.number[0], &expected));
     check_answer(number, written, expected, UNTOUCHED_WIDE);
+    if (number == ASPEN_OK)
+        note_pieces(&ours.part[OUTPUT]);
     check_left(number, &sent, &ours, &theirs);
     return 0;
 }

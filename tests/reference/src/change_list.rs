@@ -5,6 +5,9 @@ use crate::layout::{
 };
 use crate::refusal::{require, Refusal};
 
+/// The most blocks that the cradle radio sends in one run.
+pub const RUN_MAX: u16 = 64;
+
 const COUNT_BYTES: usize = 2;
 const PAIR_BYTES: usize = 4;
 
@@ -28,6 +31,11 @@ pub fn list_bytes(pairs: usize, changes: usize) -> usize {
     COUNT_BYTES + PAIR_BYTES * pairs + (FINGERPRINT_BYTES + BLOCK_BYTES) * changes
 }
 
+/// How many bytes the longest list has that `write` makes for this many LBNs: that of all of them.
+pub fn list_bound(lbns: usize) -> usize {
+    list_bytes(lbns.div_ceil(usize::from(RUN_MAX)), lbns)
+}
+
 /// Reads a list for volumes of `lbns_max` logical blocks; refusal 8 if it isn't one.
 pub fn read(bytes: &[u8], lbns_max: u16) -> Result<ChangeList<'_>, Refusal> {
     require(bytes.len() >= COUNT_BYTES, Refusal::List)?;
@@ -37,9 +45,11 @@ pub fn read(bytes: &[u8], lbns_max: u16) -> Result<ChangeList<'_>, Refusal> {
     let mut last_end = 0;
     for pair in 0..pairs {
         let at = COUNT_BYTES + PAIR_BYTES * pair;
-        let first = u32::from(get_u16(bytes, at));
-        let end = first + u32::from(get_u16(bytes, at + 2));
-        let holds = end > first && end <= u32::from(lbns_max) && first >= last_end;
+        let (first, length) = (get_u16(bytes, at), get_u16(bytes, at + 2));
+        require((1..=RUN_MAX).contains(&length), Refusal::List)?;
+        let first = u32::from(first);
+        let end = first + u32::from(length);
+        let holds = end <= u32::from(lbns_max) && first >= last_end;
         require(holds, Refusal::List)?;
         lbns.extend((first..end).map(|lbn| Lbn(lbn as u16)));
         last_end = end;
@@ -73,7 +83,8 @@ impl<'a> ChangeList<'a> {
     }
 }
 
-/// Writes the list of the marked blocks in longest runs and answers its length in bytes.
+/// Writes the list of the marked blocks, their longest runs in pieces, and answers its length in
+/// bytes.
 pub fn write(
     lbns: u16,
     marks: &[u8],
@@ -95,7 +106,7 @@ pub fn write(
 }
 
 fn marked_blocks(marks: &[u8], fingerprints: &[u8], image: &[u8]) -> Vec<u8> {
-    let runs = longest_runs(marks);
+    let runs: Vec<Run> = longest_runs(marks).into_iter().flat_map(pieces).collect();
     let mut list = vec![0; list_bytes(runs.len(), 0)];
     put_u16(&mut list, 0, runs.len() as u16);
     for (pair, &(first, length)) in runs.iter().enumerate() {
@@ -114,9 +125,12 @@ fn marked_blocks(marks: &[u8], fingerprints: &[u8], image: &[u8]) -> Vec<u8> {
     list
 }
 
-/// First and length of each run of ones that no one stands beside.
-fn longest_runs(marks: &[u8]) -> Vec<(usize, usize)> {
-    let mut runs: Vec<(usize, usize)> = Vec::new();
+/// Marked blocks in a row: the first and how many.
+type Run = (usize, usize);
+
+/// Each run of ones that no one stands beside.
+fn longest_runs(marks: &[u8]) -> Vec<Run> {
+    let mut runs: Vec<Run> = Vec::new();
     for (lbn, _) in marks.iter().enumerate().filter(|(_, &mark)| mark == 1) {
         match runs.last_mut() {
             Some((first, length)) if *first + *length == lbn => *length += 1,
@@ -124,4 +138,12 @@ fn longest_runs(marks: &[u8]) -> Vec<(usize, usize)> {
         }
     }
     runs
+}
+
+/// Cuts a longest run from its start into pieces of the most blocks that a run has; the rest is
+/// last.
+fn pieces((first, length): Run) -> Vec<Run> {
+    let (end, most) = (first + length, usize::from(RUN_MAX));
+    let starts = (first..end).step_by(most);
+    starts.map(|start| (start, most.min(end - start))).collect()
 }

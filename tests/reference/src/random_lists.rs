@@ -2,6 +2,7 @@
 //! some broken.
 
 use crate::cases::list_of;
+use crate::change_list::RUN_MAX;
 use crate::layout::{Block, Fingerprint, BLOCK_BYTES, FINGERPRINT_BYTES};
 use crate::prng::Prng;
 
@@ -25,13 +26,16 @@ pub fn letter_block(letter: u16) -> Block {
     block
 }
 
+/// First LBN and length.
+type Run = (u16, u16);
+
 pub struct RandomLists {
     pub lbns: u16,
     /// The letters in use: this many from `first_letter` up, which moves on with time.
     pub letters: u16,
     pub first_letter: u16,
-    /// The longest run of changed LBNs.
-    pub run_max: u16,
+    /// The longest row of changed LBNs; the list has it in runs that touch.
+    pub row_max: u16,
     /// How often a list has zero blocks only.
     pub zeros_once_in: u64,
     /// How often a list has all LBNs.
@@ -51,28 +55,52 @@ impl RandomLists {
         list
     }
 
-    /// First LBN and length of runs that may touch.
-    fn pairs(&mut self, prng: &mut Prng) -> Vec<(u16, u16)> {
+    /// The rows in runs, as the writer cuts them or anywhere. Now and then a run has more blocks
+    /// than the reader takes: one more, or all of its row.
+    fn pairs(&mut self, prng: &mut Prng) -> Vec<Run> {
+        let rows = self.rows(prng);
+        let (most, anywhere) = match prng.below(12) {
+            0 => (self.lbns, false),
+            1 => (RUN_MAX + 1, false),
+            2..=5 => (RUN_MAX, true),
+            _ => (RUN_MAX, false),
+        };
+        let mut pairs = Vec::new();
+        for (first, length) in rows {
+            let (mut start, end) = (first, first + length);
+            while start < end {
+                let longest = most.min(end - start);
+                let shortest = if anywhere { 1 } else { longest };
+                let length = prng.between(shortest, longest);
+                pairs.push((start, length));
+                start += length;
+            }
+        }
+        pairs
+    }
+
+    /// Changed LBNs, in rows that may touch.
+    fn rows(&mut self, prng: &mut Prng) -> Vec<Run> {
         if prng.once_in(self.whole_once_in) {
             return match prng.once_in(2) {
                 true => vec![(0, self.lbns)],
                 false => (0..self.lbns).map(|lbn| (lbn, 1)).collect(),
             };
         }
-        let mut pairs = Vec::new();
+        let mut rows = Vec::new();
         let mut end = 0;
         loop {
             let first = end + prng.between(0, self.lbns / 2);
-            let length = prng.between(1, self.run_max);
+            let length = prng.between(1, self.row_max);
             if first + length > self.lbns {
-                return pairs;
+                return rows;
             }
-            pairs.push((first, length));
+            rows.push((first, length));
             end = first + length;
         }
     }
 
-    fn list(&mut self, prng: &mut Prng, pairs: &[(u16, u16)]) -> Vec<u8> {
+    fn list(&mut self, prng: &mut Prng, pairs: &[Run]) -> Vec<u8> {
         let number: u16 = pairs.iter().map(|(_, length)| length).sum();
         let zeros = prng.once_in(self.zeros_once_in);
         let mut changes: Vec<_> = (0..number)
@@ -94,7 +122,7 @@ impl RandomLists {
     }
 
     /// Breaks one of the pairs; the fingerprints and blocks will be as many as they say.
-    fn spoil_pairs(&self, prng: &mut Prng, pairs: &mut Vec<(u16, u16)>) {
+    fn spoil_pairs(&self, prng: &mut Prng, pairs: &mut Vec<Run>) {
         if pairs.is_empty() {
             pairs.push((self.lbns - 1, 1));
         }

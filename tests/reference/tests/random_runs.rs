@@ -4,10 +4,12 @@ use std::collections::BTreeSet;
 
 use reference::agreement;
 use reference::call::{Answer, Call, Stored};
+use reference::change_list::list_bytes;
 use reference::history::History;
 use reference::layout::VOLUMES;
 use reference::plain::Plain;
 use reference::random_calls::{RandomCalls, Shape};
+use reference::refusal::Refusal;
 use reference::store;
 
 const RUNS: u64 = 300;
@@ -22,6 +24,8 @@ struct Seen {
     shared: u64,
     blocks_read: u64,
     kept_read: u64,
+    /// Backups of more changes than fit in one run.
+    in_pieces: u64,
 }
 
 impl Seen {
@@ -31,9 +35,10 @@ impl Seen {
                 self.refusals.insert(refusal.number());
             }
             (_, Answer::Freed(freed)) => self.freed += u64::from(*freed),
-            (_, Answer::BackedUp(backed_up)) => {
+            (Call::Backup { list, .. }, Answer::BackedUp(backed_up)) => {
                 self.taken += u64::from(backed_up.taken);
                 self.shared += u64::from(backed_up.touched > backed_up.taken);
+                self.in_pieces += u64::from(list.len() >= list_bytes(2, 65));
             }
             (Call::Read { volume, number, .. }, Answer::Block(_)) => {
                 self.blocks_read += 1;
@@ -128,6 +133,17 @@ fn box_plain_store_and_history_agree() {
         seen.kept_read,
     ];
     assert!(counts.iter().all(|&times| times > 500), "{counts:?}");
+}
+
+#[test]
+fn they_agree_on_rows_in_several_runs() {
+    let mut seen = Seen::default();
+    for seed in 0..20 {
+        let calls = RandomCalls::shaped(Shape::Pieces, seed);
+        run(&format!("pieces, seed {seed}"), calls, 60, &mut seen);
+    }
+    assert!(seen.in_pieces > 50, "{}", seen.in_pieces);
+    assert!(seen.refusals.contains(&Refusal::List.number()));
 }
 
 #[test]

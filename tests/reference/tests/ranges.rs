@@ -1,9 +1,11 @@
 //! Both ends of every range: sizes, retentions, days, numbers, lists and counts.
 
-use reference::call::Stored;
+use reference::agreement;
+use reference::call::{Answer, Call, Stored};
 use reference::cases::{after_d, block, fingerprint, list, list_of, SIZES};
 use reference::form;
 use reference::layout::{Book, Header, Lbn, Pbn, Sizes};
+use reference::plain::Plain;
 use reference::refusal::Refusal;
 use reference::store::{self, BackedUp};
 
@@ -132,12 +134,17 @@ fn expiries_reach_65_000() {
     assert_eq!(store::audit(&stored.book), Ok(true));
 }
 
+/// A list of these pairs, with as many changes as they say.
+fn list_of_pairs(pairs: &[(u16, u16)]) -> Vec<u8> {
+    let number: u32 = pairs.iter().map(|(_, length)| u32::from(*length)).sum();
+    let change = (fingerprint('A'), block('A'));
+    list_of(pairs, &vec![change; number as usize])
+}
+
 #[test]
 fn lists_keep_within_the_volume() {
-    let change = (fingerprint('A'), block('A'));
     let taken = |pairs: &[(u16, u16)]| {
-        let number: u32 = pairs.iter().map(|(_, length)| u32::from(*length)).sum();
-        let list = list_of(pairs, &vec![change; number as usize]);
+        let list = list_of_pairs(pairs);
         reference::change_list::read(&list, 4).is_ok()
     };
     assert!(taken(&[]));
@@ -155,6 +162,74 @@ fn lists_keep_within_the_volume() {
     // First and length that pass 65,535 together.
     assert!(!taken(&[(65_535, 2)]));
     assert!(!taken(&[(2, 65_535)]));
+}
+
+#[test]
+fn runs_have_64_blocks_at_most() {
+    let taken = |pairs: &[(u16, u16)]| {
+        let list = list_of_pairs(pairs);
+        let read = reference::change_list::read(&list, 1_024);
+        read.map(|list| list.number())
+    };
+    assert_eq!(taken(&[(0, 63)]), Ok(63));
+    assert_eq!(taken(&[(0, 64)]), Ok(64));
+    assert_eq!(taken(&[(960, 64)]), Ok(64));
+    for length in [65, 66, 128, 1_024] {
+        assert_eq!(taken(&[(0, length)]), Err(Refusal::List));
+    }
+    assert_eq!(taken(&[(959, 65)]), Err(Refusal::List));
+    // Runs that touch are runs all the same, short ones too.
+    assert_eq!(taken(&[(0, 64), (64, 1)]), Ok(65));
+    assert_eq!(taken(&[(0, 1), (1, 64)]), Ok(65));
+    assert_eq!(taken(&[(0, 32), (32, 33)]), Ok(65));
+    assert_eq!(taken(&[(0, 64), (64, 65)]), Err(Refusal::List));
+    assert_eq!(taken(&[(0, 65), (65, 64)]), Err(Refusal::List));
+    let all: Vec<_> = (0..16).map(|piece| (64 * piece, 64)).collect();
+    assert_eq!(taken(&all), Ok(1_024));
+}
+
+/// As it was written before runs had a most: it is refused by both stores, and nothing changes.
+#[test]
+fn a_list_in_the_old_form_is_refused() {
+    let sizes = Sizes {
+        blocks: 4,
+        lbns: 130,
+        slots: 4,
+        records: 300,
+    };
+    let (mut stored, mut plain) = (fresh(sizes), Plain::new(sizes));
+    let mut call = |call: Call| {
+        let before = stored.clone();
+        let answer = stored.call(&call);
+        assert_eq!(plain.call(&call), answer);
+        let agreed = agreement::check(&stored.book, &stored.pool, &plain);
+        assert_eq!(agreed, Ok(()));
+        let same = stored.book == before.book && stored.pool == before.pool;
+        assert_eq!(same, matches!(answer, Answer::Refused(_)));
+        answer
+    };
+    let backup = |day, pairs: &[(u16, u16)]| Call::Backup {
+        volume: 2,
+        day,
+        list: list_of_pairs(pairs),
+    };
+    let enrol = Call::Enrol {
+        volume: 2,
+        retention: 9,
+    };
+    assert_eq!(call(enrol), Answer::Enrolled);
+    for first in [0, 65] {
+        let old = backup(1, &[(first, 65)]);
+        assert_eq!(call(old), Answer::Refused(Refusal::List));
+    }
+    let taken = Answer::BackedUp(BackedUp {
+        number: 1,
+        taken: 1,
+        touched: 65,
+    });
+    assert_eq!(call(backup(1, &[(65, 64), (129, 1)])), taken);
+    let old = backup(2, &[(0, 1), (1, 65), (66, 64)]);
+    assert_eq!(call(old), Answer::Refused(Refusal::List));
 }
 
 #[test]
@@ -207,7 +282,11 @@ fn a_block_is_named_255_times_at_most() {
     };
     let mut stored = fresh(sizes);
     store::enrol(&mut stored.book, 3, 1).unwrap();
-    let many = |length: usize| list(&[(0, &"A".repeat(length))]);
+    let many = |length: u16| {
+        let starts = (0..length).step_by(64);
+        let pairs: Vec<_> = starts.map(|lbn| (lbn, (length - lbn).min(64))).collect();
+        list_of_pairs(&pairs)
+    };
     let result = backup(&mut stored, 3, 1, &many(256));
     assert_eq!(result, Err(Refusal::CountFull));
     assert!(backup(&mut stored, 3, 1, &many(255)).is_ok());

@@ -1,6 +1,6 @@
-//! The aid's writer: longest runs, what the reader recovers, refusals 19 and 20.
+//! The aid's writer: longest runs and their pieces, what the reader recovers, refusals 19 and 20.
 
-use reference::change_list::{list_bytes, read, write};
+use reference::change_list::{list_bound, list_bytes, read, write};
 use reference::prng::Prng;
 use reference::refusal::Refusal;
 
@@ -53,6 +53,95 @@ fn pairs_are_longest_runs() {
     assert_eq!(output[list_bytes(3, 6)..], [0xEE; 5]);
 }
 
+/// Marks of so many LBNs, with ones in these rows.
+fn rows(lbns: usize, rows: &[(usize, usize)]) -> Vec<u8> {
+    let mut marks = vec![0; lbns];
+    for &(first, length) in rows {
+        marks[first..first + length].fill(1);
+    }
+    marks
+}
+
+/// The pairs of the list that is written for marks. The reader recovers them from it, and a byte
+/// less is too short.
+fn pairs_written(marks: Vec<u8>) -> Vec<(u16, u16)> {
+    let marked = marks.iter().filter(|&&mark| mark == 1).count();
+    let aid = Aid::new(&mut Prng::seeded(7), marks);
+    let mut list = vec![0; list_bound(aid.marks.len())];
+    let length = aid.write(&mut list).unwrap() as usize;
+    list.truncate(length);
+    aid.reads_back(&list);
+    let number = usize::from(u16::from_le_bytes([list[0], list[1]]));
+    assert_eq!(length, list_bytes(number, marked));
+    let mut short = vec![7; length - 1];
+    assert_eq!(aid.write(&mut short), Err(Refusal::ShortOutput));
+    assert!(short.iter().all(|&byte| byte == 7));
+    let pairs = list[2..2 + 4 * number].as_chunks().0;
+    let pair = |&[a, b, c, d]: &[u8; 4]| (u16::from_le_bytes([a, b]), u16::from_le_bytes([c, d]));
+    pairs.iter().map(pair).collect()
+}
+
+#[test]
+fn a_longest_run_is_cut_into_pieces_of_64_the_rest_last() {
+    let lengths: [(usize, &[u16]); 8] = [
+        (1, &[1]),
+        (63, &[63]),
+        (64, &[64]),
+        (65, &[64, 1]),
+        (66, &[64, 2]),
+        (128, &[64, 64]),
+        (129, &[64, 64, 1]),
+        (1_024, &[64; 16]),
+    ];
+    for (length, pieces) in lengths {
+        for first in [0, 1, 37, 64, 1_024 - length] {
+            if first + length > 1_024 {
+                continue;
+            }
+            let starts = (first as u16..).step_by(64);
+            let pairs: Vec<_> = starts.zip(pieces.iter().copied()).collect();
+            // In the volume's midst, at its end, and as all of it.
+            for lbns in [1_024, first + length] {
+                assert_eq!(pairs_written(rows(lbns, &[(first, length)])), pairs);
+            }
+        }
+    }
+}
+
+#[test]
+fn each_longest_run_is_cut_from_its_own_start() {
+    let marks = rows(500, &[(10, 200), (211, 200), (450, 3)]);
+    let pairs = [
+        (10, 64),
+        (74, 64),
+        (138, 64),
+        (202, 8),
+        (211, 64),
+        (275, 64),
+        (339, 64),
+        (403, 8),
+        (450, 3),
+    ];
+    assert_eq!(pairs_written(marks), pairs);
+    let at_the_end = rows(100, &[(0, 34), (35, 65)]);
+    assert_eq!(pairs_written(at_the_end), [(0, 34), (35, 64), (99, 1)]);
+}
+
+/// Room for one pair a longest run isn't enough where it has several pieces.
+#[test]
+fn every_piece_needs_its_pair() {
+    for (length, pieces) in [(65, 2), (128, 2), (129, 3), (1_024, 16)] {
+        let aid = Aid::new(&mut Prng::seeded(8), vec![1; length]);
+        assert_eq!(list_bound(length), list_bytes(pieces, length));
+        for room in list_bytes(1, length)..list_bound(length) {
+            let result = aid.write(&mut vec![0; room]);
+            assert_eq!(result, Err(Refusal::ShortOutput));
+        }
+        let written = aid.write(&mut vec![0; list_bound(length)]);
+        assert_eq!(written, Ok(list_bound(length) as u32));
+    }
+}
+
 #[test]
 fn no_marks_give_two_zero_bytes() {
     let aid = Aid::new(&mut Prng::seeded(2), vec![0; 5]);
@@ -74,7 +163,7 @@ fn the_reader_recovers_what_was_marked() {
         let density = 1 + prng.below(4);
         let marks: Vec<u8> = (0..lbns).map(|_| prng.once_in(density).into()).collect();
         let aid = Aid::new(&mut prng, marks);
-        let mut output = vec![0; list_bytes(lbns, lbns)];
+        let mut output = vec![0; list_bound(lbns)];
         let written = aid.write(&mut output).unwrap() as usize;
         aid.reads_back(&output[..written]);
         let mut exact = vec![0; written];
@@ -90,7 +179,7 @@ fn the_reader_recovers_what_was_marked() {
 fn both_ends_of_the_number_of_blocks() {
     for lbns in [1, 1_024] {
         let aid = Aid::new(&mut Prng::seeded(4), vec![1; lbns]);
-        let mut output = vec![0; list_bytes(1, lbns)];
+        let mut output = vec![0; list_bound(lbns)];
         assert_eq!(aid.write(&mut output), Ok(output.len() as u32));
         aid.reads_back(&output);
     }

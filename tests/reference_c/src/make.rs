@@ -11,12 +11,13 @@ use reference::random_books::disturb;
 use reference::random_calls::{RandomCalls, Shape};
 
 /// Shapes of small books.
-const SHAPES: [Shape; 5] = [
+const SHAPES: [Shape; 6] = [
     Shape::Small,
     Shape::Sharing,
     Shape::TinyPool,
     Shape::FewSlots,
     Shape::ShortJournal,
+    Shape::Pieces,
 ];
 const SEEDS: u16 = 16;
 const CALLS: [usize; 3] = [20, 60, 120];

@@ -7,6 +7,9 @@ use reference::play::encode;
 /// Longer books make slow inputs.
 const BOOK_MAX: usize = 2_048;
 
+/// The number of the shape with rows in several runs, among those of `reference_make`.
+const PIECES: u8 = 5;
+
 /// What is XORed with a call's numbers: volumes, days, retentions, numbers of backups, LBNs.
 const NUMBERS: [[u16; 3]; 6] = [
     [0, 0, 0],
@@ -44,13 +47,25 @@ pub fn all() -> Vec<(String, Vec<u8>)> {
         let book = cases::after_d().book;
         seeds.push((format!("after-d-{index}"), given(&book, numbers)));
     }
-    for shape in 0..5 {
+    for shape in 0..6 {
         for (calls, disturbed) in [(1, 0), (2, 0), (3, 0), (1, 1), (2, 3)] {
             let name = format!("made-{shape}-{calls}-{disturbed}");
             let seed = u16::from(3 * shape + calls);
             seeds.push((name, control(calls, shape, seed, disturbed, [0; 3])));
         }
     }
+    // Among their next backups are some with a run of 64 blocks, and some with a longer one.
+    for seed in 0..16 {
+        let input = control(1, PIECES, seed, 0, [0; 3]);
+        seeds.push((format!("pieces-{seed}"), input));
+    }
+    for length in [63, 64, 65, 66, 128, 129] {
+        seeds.push((
+            format!("marks-{length}"),
+            marks(&[&[0], &vec![1; length], &[0]], 1),
+        ));
+    }
+    seeds.push(("marks-1024".into(), marks(&[&[1; 128]], 8)));
     for calls in 0..3 {
         for mended in 0..2 {
             let mut input = control(calls, calls, 0, 0, [mended, 0, 0]);
@@ -85,6 +100,13 @@ fn list(fresh: bool) -> Vec<u8> {
         Call::Audit,
     ]);
     encode(&calls)
+}
+
+/// These marks one after the other for the writer, and all of it so many times.
+fn marks(rows: &[&[u8]], times: u8) -> Vec<u8> {
+    let mut input = control(times - 1, 0, 0, 0, [0; 3]);
+    input.extend(rows.concat());
+    input
 }
 
 /// A book as it is, and a list of one change.

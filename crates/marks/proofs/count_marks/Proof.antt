@@ -17,7 +17,7 @@ loop-holds : tie.Need-loop-holds Inv-loop μ-loop
 loop-holds c = (none-counted _, omega arith)
 
 count-mark-requires : tie.Need-count-mark-requires Inv-loop μ-loop
-count-mark-requires c κs = (omega arith, omega arith, omega arith)
+count-mark-requires c κs = (omega arith, omega arith)
 
 loop-again : tie.Need-loop-again Inv-loop μ-loop
 loop-again c =
@@ -26,7 +26,7 @@ loop-again c =
     (counting-more _ (l .t) _ (l .passed) more (c .count-mark .ensures) (l .inv .0), omega arith)
 
 count-mark-requires-2 : tie.Need-count-mark-requires-2 Inv-loop μ-loop
-count-mark-requires-2 c κs = (omega arith, omega arith, omega arith)
+count-mark-requires-2 c κs = (omega arith, omega arith)
 
 returns : tie.Need-returns Inv-loop μ-loop
 returns c =

@@ -29,6 +29,7 @@ pub fn jobs(shape: Shape, seeds: Range<u64>) -> Vec<Job> {
         Shape::FewSlots => "runs, few slots",
         Shape::ShortJournal => "runs, short journals",
         Shape::FullCounts => "runs, counts up to 255",
+        Shape::Pieces => "runs, rows in several runs of a list",
         Shape::AnySizes => "runs, any sizes",
         Shape::LongLists => "runs, long lists",
         Shape::Largest => "runs, largest sizes",

@@ -5,7 +5,7 @@ use reference::layout::{
     Book, Fingerprint, Header, Pbn, Record, DAY_MAX, FREE, HELD, UNMAPPED, VOLUMES,
 };
 
-use super::Shape;
+use super::{lists, Shape};
 use crate::seen::Seen;
 
 type View<'a> = Book<&'a [u8]>;
@@ -85,6 +85,11 @@ impl<'a> Backup<'a> {
             ("the day passes a retention", passes),
             ("the day is 60,000", accepted && day == DAY_MAX),
         ]
+    }
+
+    /// Of the list's pairs.
+    pub fn list_shapes(&self) -> impl IntoIterator<Item = Shape> {
+        lists::shapes(self.bytes, self.before.sizes().lbns, self.number)
     }
 
     /// The pool is that before the call.

@@ -16,6 +16,8 @@ pub enum Shape {
     ShortJournal,
     /// One block in so many cells that its count reaches 255.
     FullCounts,
+    /// Rows of changed blocks that a list has in several runs.
+    Pieces,
     /// Each size from 1 to its largest, small and large ones alike.
     AnySizes,
     /// Up to 1,024 changes in a list.
@@ -38,6 +40,7 @@ impl Shape {
     pub fn calls(self) -> usize {
         match self {
             Shape::FewSlots | Shape::ShortJournal => 40,
+            Shape::Pieces => 60,
             Shape::LongLists => 50,
             Shape::Largest => 60,
             _ => 150,
@@ -53,6 +56,7 @@ impl Shape {
             Shape::FewSlots => [(4, 24), (4, 8), (1, 6), (40, 250)],
             Shape::ShortJournal => [(4, 24), (4, 8), (10, 60), (1, 16)],
             Shape::FullCounts => [(2, 24), (48, 128), (60, 200), (4_000, 9_000)],
+            Shape::Pieces => [(60, 200), (65, 200), (20, 60), (1_000, 3_000)],
             Shape::AnySizes => [(1, 4_096), (1, 1_024), (1, 1_024), (1, 16_384)],
             Shape::LongLists => [(600, 1_400), (1_024, 1_024), (10, 40), (8_000, 16_384)],
             Shape::Largest => {
@@ -91,8 +95,9 @@ impl Shape {
             Shape::Largest => 3_000,
             _ => prng.between(1, 1 + sizes.blocks / 2),
         };
-        let (run_max, zeros_once_in, whole_once_in) = match self {
+        let (row_max, zeros_once_in, whole_once_in) = match self {
             Shape::FullCounts => (64, 2, 4),
+            Shape::Pieces => (150, 4, 12),
             Shape::LongLists => (200, 12, 3),
             Shape::Largest | Shape::AnySizes => (400, 4, 12),
             _ => (4, 4, 12),
@@ -101,7 +106,7 @@ impl Shape {
             lbns: sizes.lbns,
             letters,
             first_letter: 0,
-            run_max: sizes.lbns.min(run_max),
+            row_max: sizes.lbns.min(row_max),
             zeros_once_in,
             whole_once_in,
         }

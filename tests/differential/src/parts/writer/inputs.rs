@@ -18,6 +18,7 @@ impl WriteList {
             1 => prng.pick(&[0, 0, 1_025]),
             2..=9 => prng.between(1, 3),
             10..=15 => prng.between(40, 200),
+            16..=20 => prng.between(64, 400),
             _ => prng.between(1, 40),
         };
         let number = usize::from(lbns);
@@ -78,12 +79,14 @@ impl WriteList {
     /// An output's length: too short, exact or longer.
     fn room(&self, prng: &mut Prng) -> usize {
         let exact = self.exact();
-        match prng.below(10) {
+        match prng.below(11) {
             0 => prng.index(exact),
             1 => exact - 1,
             2 => prng.pick(&[0, 1, 2]),
             3..=5 => exact,
             6 => exact + 1,
+            // A pair short, and two.
+            7 => exact.saturating_sub(prng.pick(&[4, 5, 8])),
             _ => exact + prng.index(600),
         }
     }
@@ -95,6 +98,7 @@ fn random_marks(prng: &mut Prng, number: usize) -> Vec<u8> {
         0 => return vec![0; number],
         1 => return vec![1; number],
         2 => return (0..number).map(|lbn| (lbn % 2) as u8).collect(),
+        3..=8 if number >= 64 => return rows_of_pieces(prng, number),
         _ => {}
     }
     let (first, change_once_in) = (prng.once_in(2), prng.pick(&[1, 2, 4, 12, 5_000]));
@@ -105,4 +109,24 @@ fn random_marks(prng: &mut Prng, number: usize) -> Vec<u8> {
             u8::from(mark)
         })
         .collect()
+}
+
+/// Marks in rows that are about as long as whole pieces, with gaps between them; the last goes to
+/// the volume's end as often as not.
+fn rows_of_pieces(prng: &mut Prng, number: usize) -> Vec<u8> {
+    let mut marks = vec![0; number];
+    let mut first = prng.index(4);
+    loop {
+        let any = 1 + prng.index(number);
+        let length = prng.pick(&[63, 64, 65, 66, 128, 129, 192, any]);
+        if first + length > number {
+            break;
+        }
+        marks[first..first + length].fill(1);
+        first += length + 1 + prng.index(20);
+    }
+    if prng.once_in(2) && first < number {
+        marks[first..].fill(1);
+    }
+    marks
 }
