@@ -17,8 +17,7 @@ static void put_u16(uint8_t *b, unsigned v)
     b[1] = (uint8_t)(v >> 8);
 }
 
-/* Bytes that look random but depend on seed only. */
-static void scatter(uint8_t *b, size_t n, uint64_t seed)
+void scatter(uint8_t *b, size_t n, uint64_t seed)
 {
     for (size_t i = 0; i < n; i += 8) {
         uint64_t z = seed += 0x9E3779B97F4A7C15u;
@@ -29,7 +28,7 @@ static void scatter(uint8_t *b, size_t n, uint64_t seed)
     }
 }
 
-static void put_print(uint8_t *print, enum prints prints, unsigned number)
+void put_print(uint8_t *print, enum prints prints, unsigned number)
 {
     if (prints == APART) {
         scatter(print, ASPEN_PRINT_SIZE, number);

@@ -46,6 +46,12 @@ void box_make(struct box *box, const struct past *past);
 /* Book and pool as they were made; of the pool, the blocks from this one on. */
 void box_restore(struct box *box, unsigned from_block);
 
+/* Bytes that look random but depend on the seed only; n is a multiple of 8. */
+void scatter(uint8_t *b, size_t n, uint64_t seed);
+
+/* The fingerprint of the block of this number. */
+void put_print(uint8_t *print, enum prints prints, unsigned number);
+
 /* How many runs a change list has for so many LBNs in a row. */
 unsigned runs_of(unsigned changes);
 

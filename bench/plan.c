@@ -5,6 +5,7 @@
 #define ROOM .blocks = ASPEN_MAX_BLOCKS, .records = RECORDS - CELLS
 
 #define BACKUP_OF(n, where) .call = BACKUP, .finds = where, .changes = n, ROOM
+#define WRITE_OF(n) .call = WRITE_LIST, .fresh = true, .changes = n, FULL
 #define LEFT .left = true, .blocks = ASPEN_MAX_BLOCKS, .records = 2 * FIRST_RECORDS
 
 const struct row rows[ROWS] = {
@@ -36,6 +37,8 @@ const struct row rows[ROWS] = {
     { "read, oldest backup", { .call = READ, .oldest = true, FULL } },
     { "audit", { .call = AUDIT, FULL } },
     { "audit, alike", { .call = AUDIT, .prints = ALIKE, FULL } },
+    { "write_list, all of 1,024 blocks marked", { WRITE_OF(1024) } },
+    { "write_list, 51 of 1,024 marked here and there", { WRITE_OF(51) } },
 };
 
 const struct row lookups[LOOKUPS] = {

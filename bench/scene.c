@@ -4,7 +4,11 @@
 #include <stdlib.h>
 #include <string.h>
 
+/* The list of a backup, or the one that write_list writes. */
 static uint8_t list[aspen_list_bound(CELLS)];
+
+/* The volume that write_list is given. */
+static uint8_t marks[CELLS], prints[ASPEN_PRINT_SIZE * CELLS], image[ASPEN_BLOCK_SIZE * CELLS];
 
 bool same_scene(const struct scene *a, const struct scene *b)
 {
@@ -22,6 +26,25 @@ static void set_list(struct stage *stage)
     stage->list_len = change_list(list, scene->prints, 0, scene->changes, numbers);
 }
 
+static uint16_t write_list(const struct side *side, uint8_t *to, uint32_t *written)
+{
+    return side->write_list(CELLS, marks, sizeof marks, prints, sizeof prints, image, sizeof image, to, sizeof list, written);
+}
+
+/* Steps of 37 LBNs round the volume come to each once. */
+static void set_volume(struct stage *stage)
+{
+    uint32_t written = 0;
+    memset(marks, 0, sizeof marks);
+    for (unsigned i = 0; i < stage->scene.changes; i++)
+        marks[37 * i % CELLS] = 1;
+    for (unsigned i = 0; i < CELLS; i++)
+        put_print(prints + ASPEN_PRINT_SIZE * i, APART, i);
+    scatter(image, sizeof image, CELLS);
+    write_list(&sides[PROVED], list, &written);
+    stage->list_len = written;
+}
+
 void stage_set(struct stage *stage, const struct scene *scene)
 {
     *stage = (struct stage){ .scene = *scene };
@@ -33,7 +56,10 @@ void stage_set(struct stage *stage, const struct scene *scene)
                          .held = stage->held,
                          .records = scene->records };
     box_make(&stage->box, &past);
-    set_list(stage);
+    if (scene->call == WRITE_LIST)
+        set_volume(stage);
+    else
+        set_list(stage);
     stage->volume = scene->call == ENROL ? AIDS : 0;
     stage->day = (uint16_t)(stage->box.day + (scene->call == COLLECT ? RETENTION + 1 : 1));
     stage->number = scene->oldest ? 1 : stage->box.newest;
@@ -65,6 +91,8 @@ uint16_t stage_call(struct stage *stage, const struct side *side)
         return side->read(box->book, box->book_len, box->pool, box->pool_len, stage->volume, stage->number, stage->lbn, &stage->at);
     case AUDIT:
         return side->audit(box->book, box->book_len, &answers[0]);
+    case WRITE_LIST:
+        return write_list(side, box->room, &stage->at);
     }
     return 0;
 }
@@ -73,6 +101,10 @@ void stage_move(struct stage *stage)
 {
     const struct scene *scene = &stage->scene;
     struct box *box = &stage->box;
+    if (scene->call == WRITE_LIST) {
+        memcpy(box->room, list, stage->list_len);
+        return;
+    }
     memcpy(box->spare, box->book, box->book_len);
     if (scene->call != BACKUP)
         return;
@@ -83,7 +115,7 @@ void stage_move(struct stage *stage)
 
 static void fail(const struct stage *stage, const char *what, const struct side *side)
 {
-    static const char *const names[] = { "form", "format", "enrol", "backup", "collect", "read", "audit" };
+    static const char *const names[] = { "form", "format", "enrol", "backup", "collect", "read", "audit", "write_list" };
     const struct scene *scene = &stage->scene;
     fprintf(stderr, "\nbench: %s with N = %u, U = %u, n = %u: %s %s\n", names[scene->call], scene->blocks, scene->records, scene->changes,
             side->name, what);
@@ -94,6 +126,7 @@ static void call_accepted(struct stage *stage, const struct side *side)
 {
     memset(stage->answers, 0, sizeof stage->answers);
     stage->at = 0;
+    memset(stage->box.room, 0, sizeof list);
     stage_restore(stage);
     if (stage_call(stage, side) != 0)
         fail(stage, "refuses what it should accept", side);
@@ -101,12 +134,13 @@ static void call_accepted(struct stage *stage, const struct side *side)
 
 void stage_compare(struct stage *stage)
 {
-    static uint8_t book[aspen_book_size(ASPEN_MAX_BLOCKS, CELLS, SLOTS, RECORDS)], pool[aspen_pool_size(ASPEN_MAX_BLOCKS)];
+    static uint8_t book[aspen_book_size(ASPEN_MAX_BLOCKS, CELLS, SLOTS, RECORDS)], pool[aspen_pool_size(ASPEN_MAX_BLOCKS)], written[sizeof list];
     struct box *box = &stage->box;
     call_accepted(stage, &sides[PROVED]);
     struct stage proved = *stage;
     memcpy(book, box->book, box->book_len);
     memcpy(pool, box->pool, box->pool_len);
+    memcpy(written, box->room, sizeof written);
     for (int s = PROVED + 1; s < SIDES; s++) {
         call_accepted(stage, &sides[s]);
         if (memcmp(proved.answers, stage->answers, sizeof stage->answers) != 0 || proved.at != stage->at)
@@ -115,6 +149,8 @@ void stage_compare(struct stage *stage)
             fail(stage, "leaves another book than the proved call", &sides[s]);
         if (memcmp(pool, box->pool, box->pool_len) != 0)
             fail(stage, "leaves another pool than the proved call", &sides[s]);
+        if (memcmp(written, box->room, sizeof written) != 0)
+            fail(stage, "writes another list than the proved call", &sides[s]);
     }
     stage_restore(stage);
 }

@@ -5,7 +5,7 @@
 #include "box.h"
 #include "sides.h"
 
-enum call { FORM, FORMAT, ENROL, BACKUP, COLLECT, READ, AUDIT };
+enum call { FORM, FORMAT, ENROL, BACKUP, COLLECT, READ, AUDIT, WRITE_LIST };
 
 /* Where a backup's blocks are found. */
 enum finds { FIRST_BLOCKS, LAST_BLOCKS, NOWHERE };
@@ -20,7 +20,8 @@ struct scene {
     bool left;
     enum finds finds;
     bool oldest; /* read: the volume's first backup, else its newest */
-    unsigned blocks, records, changes;
+    unsigned blocks, records;
+    unsigned changes; /* of a backup; write_list: how many LBNs are marked, here and there until all are */
 };
 
 bool same_scene(const struct scene *a, const struct scene *b);
@@ -33,7 +34,7 @@ struct stage {
     uint16_t volume, day, number, lbn;
     size_t list_len;
     uint16_t answers[3];
-    uint32_t at;
+    uint32_t at; /* read's answer, or how many bytes write_list wrote */
 };
 
 void stage_set(struct stage *stage, const struct scene *scene);
@@ -44,11 +45,11 @@ void stage_restore(struct stage *stage);
 /* Answers 0 or the number of the refusal. */
 uint16_t stage_call(struct stage *stage, const struct side *side);
 
-/* memcpy of what the call has to move: a backup the book into the spare and back, and its blocks; every other call, which goes through the whole
- * book, that book. */
+/* memcpy of what the call has to move: a backup the book into the spare and back, and its blocks; write_list as many bytes as its list has; every
+ * other call, which goes through the whole book, that book. */
 void stage_move(struct stage *stage);
 
-/* Calls each side once and compares answers, book and pool. A refusal or a difference ends the program with a message. */
+/* Calls each side once and compares answers, book, pool and the list that was written. A refusal or a difference ends the program with a message. */
 void stage_compare(struct stage *stage);
 
 #endif

@@ -25,4 +25,7 @@ uint16_t twin_read(const uint8_t *book, size_t book_len, const uint8_t *pool, si
 
 uint16_t twin_audit(const uint8_t *book, size_t len, uint16_t *sound);
 
+uint16_t twin_write_list(uint16_t l, const uint8_t *marks, size_t marks_len, const uint8_t *prints, size_t prints_len, const uint8_t *image,
+                         size_t image_len, uint8_t *list, size_t list_len, uint32_t *written);
+
 #endif
