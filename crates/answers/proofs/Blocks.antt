@@ -24,12 +24,12 @@ use Rattle.model.specs.OnBytes.{readBytes, readNumberBytes, readPlaceBytes, aud
 use Rattle.model.specs.Pool.{blockAt}
 use Rattle.model.specs.Read
 use Rattle.model.specs.Read.{image, readNumber}
+use Rattle.model.proofs.form.ImageIn.{image-in}
 use Rattle.model.specs.Sides.{answersOf, Ours, ours, oursEnrolled, oursBacked, oursCollected, readAnswer, auditAnswer}
 use Rattle.buffers.proofs.BuffersLaws.{pool-size}
 use Rattle.calls.proofs.AnswerLaws.{isWhole}
 use Rattle.calls.proofs.Proper.{number-unless}
 use Rattle.restorer.specs.Contracts.{Located}
-use Rattle.restorer.proofs.ImageIn.{image-in}
 use Rattle.restorer.proofs.ReadingLaws.{number-mapped}
 
 -- the three numbers of a read that is accepted

@@ -26,8 +26,8 @@ use Rattle.model.specs.Journal.{Backup}
 use Rattle.model.specs.JournalAt.{backupAt, backupsFrom}
 use Rattle.model.proofs.kept.JournalAtLaws.{day-at, records-at, from-own, from-end}
 use Rattle.model.specs.Views.{keptUntil, backupRow}
-use Rattle.restorer.specs.After.{keptFrom}
-use Rattle.restorer.proofs.AfterLaws.{kept-newest, kept-replaced}
+use Rattle.keeping.specs.After.{keptFrom}
+use Rattle.keeping.proofs.AfterLaws.{kept-newest, kept-replaced}
 use Rattle.calendar.specs.Own.{NextIs}
 use Rattle.calendar.specs.Row.{rowSize, untilFrom, rowFrom}
 

@@ -8,7 +8,7 @@ use Rattle.words.specs.Lists.{bit}
 use Rattle.words.specs.Numbers.{two}
 use Rattle.words.specs.Sections.{flat}
 use Rattle.book.specs.Book.{Book, slotAt}
-use Rattle.restorer.specs.After.{keptFrom}
+use Rattle.keeping.specs.After.{keptFrom}
 
 abbrev pub rowSize : ℕ
 rowSize = 8

@@ -15,7 +15,7 @@ use fields::header;
 use figures::enrolled::enrolled_number;
 use figures::volume::count_backups;
 use journal::slot;
-use restorer::image::is_kept;
+use keeping::is_kept;
 use words::put_three;
 use words::put_u16;
 use words::refusals;

@@ -1,4 +1,5 @@
--- Form: every accepted call leaves a book in form (well-formed), and the calls on bytes are the calls on the book.
+-- Form: every accepted call leaves a book in form (well-formed), the calls on bytes are the calls on the book, and in a book in form images
+-- name blocks of the pool.
 pub mod Bounds
 pub mod BackupAllowed
 pub mod FitParts
@@ -13,3 +14,4 @@ pub mod MoveFit
 pub mod RunFit
 pub mod BackupFit
 pub mod OnBytesFit
+pub mod ImageIn

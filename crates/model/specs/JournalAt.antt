@@ -5,12 +5,12 @@ use mathlib.Core.Bool.{Bool, not, _||_}
 use mathlib.Core.List.{List, [], _∷_}
 use lib.Dec.{eqb, leb}
 use lib.ListN.{getD, drop}
-use Rattle.book.specs.Book.{Rec, Book, retentionOf}
+use Rattle.book.specs.Book.{Rec, Book, cellAt, retentionOf}
 use Rattle.model.specs.Journal.{Backup, journal, backupsIn}
 use Rattle.words.specs.Blocks.{unmapped}
 use Rattle.words.specs.Lists.{firstThat, all, upFrom}
 use Rattle.model.specs.Audit.{cellSound}
-use Rattle.model.specs.Read.{beforeOr}
+use Rattle.model.specs.Read.{recordsOf, beforeOr}
 
 abbrev pub noBackup : Backup
 noBackup = record { volume = 0; day = 0; records = [] }
@@ -31,6 +31,10 @@ ownAt x v q = backupsIn v (backupAt x q ∷ [])
 -- the before of the first record of l, else p
 abbrev pub firstBefore : ℕ → List Rec → ℕ → ℕ
 firstBefore l rs p = beforeOr p (firstThat (λ r. eqb (r .lbn) l) rs)
+
+-- what the volume had at an LBN before its backups in the slots from q on: the first before among them, else the current map
+unfoldable pub imageFrom : Book → ℕ → ℕ → ℕ → ℕ
+imageFrom x v q lbn = firstBefore lbn (recordsOf (backupsFrom x v q)) (cellAt (x .maps) v lbn)
 
 -- a backup that reaches the day has replaced blocks that are held still: its first records' befores are unmapped or held
 unfoldable pub takenSound : Book → Backup → Bool

@@ -5,6 +5,7 @@ pub mod Enrol
 pub mod Backup
 pub mod Collect
 pub mod Read
+pub mod Kept
 pub mod Audit
 pub mod OnBytes
 pub mod Views

@@ -1,5 +1,3 @@
-pub mod AfterLaws
 pub mod BeforeLaws
-pub mod ImageIn
 pub mod ReadingLaws
 pub mod ReadCalls

@@ -4,8 +4,8 @@ use mathlib.Core.List.{List}
 use mathlib.Core.Option.{Option, none, some}
 use lib.Dec.{eqb}
 use Rattle.words.specs.Lists.{firstThat}
-use Rattle.book.specs.Book.{Rec, Book, cellAt}
-use Rattle.model.specs.Read.{recordsOf, beforeOr}
+use Rattle.book.specs.Book.{Rec, Book}
+use Rattle.model.specs.Read.{recordsOf}
 use Rattle.model.specs.JournalAt.{backupsFrom}
 use Rattle.restorer.specs.declared.image.Before.{Before}
 use Rattle.restorer.specs.declared.image.Before.the-variants.{At, Nothing}
@@ -27,8 +27,3 @@ beforeIn lbn rs = beforeOf (firstOf lbn rs)
 -- the first before among the volume's backups in the slots from q on
 unfoldable pub beforeFrom : Book → ℕ → ℕ → ℕ → Before
 beforeFrom x v q lbn = beforeIn lbn (recordsOf (backupsFrom x v q))
-
--- ---- "the before of that LBN's first record in the volume's backups after k, else the current map"
-
-unfoldable pub imageFrom : Book → ℕ → ℕ → ℕ → ℕ
-imageFrom x v q lbn = beforeOr (cellAt (x .maps) v lbn) (firstOf lbn (recordsOf (backupsFrom x v q)))

@@ -1,4 +1,3 @@
 pub mod Contracts
-pub mod After
 pub mod Befores
 pub mod Reading

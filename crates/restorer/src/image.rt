@@ -1,4 +1,4 @@
-// A backup's image: where the volume's later backups start, whether it is kept, and the block that it has at an LBN.
+// A backup's image: the block that it has at an LBN, by the slot where the volume's later backups start.
 ghost use mathlib.Core.Path.{_≡_};
 ghost use Prim.Native.Nat.{_+_, _≤_, _<_};
 ghost use lib.ListN.{length, take, drop};
@@ -6,9 +6,8 @@ ghost use Rattle.book.specs.Book.{volumes};
 ghost use Rattle.book.specs.Layout.{told, Holds};
 ghost use Rattle.book.specs.FormFacts.{FormFacts};
 ghost use Rattle.model.specs.Read.{recordsOf};
-ghost use Rattle.model.specs.JournalAt.{ownAt};
-ghost use Rattle.restorer.specs.After.{AfterIs, keptFrom};
-ghost use Rattle.restorer.specs.Befores.{beforeIn, beforeFrom, imageFrom};
+ghost use Rattle.model.specs.JournalAt.{ownAt, imageFrom};
+ghost use Rattle.restorer.specs.Befores.{beforeIn, beforeFrom};
 use fields::header;
 use fields::map;
 use journal::record;
@@ -20,46 +19,6 @@ use words::PBN;
 pub enum Before {
     At(PBN),
     Nothing,
-}
-
-// A volume's backups after number k. Slot `at` holds the first of them; where there is none, `at` is past the used
-// slots. The volume lacks `missing` backups to have a number k.
-pub struct After {
-    pub missing: u16,
-    pub at: u16,
-}
-
-pub fn backups_after(book: &[u8], v: u16, k: u16) -> After
-    requires { ⌜ Holds (now book) ⌝ }
-    ensures { λ r. ⌜ AfterIs (told (book .entry)) v k r ⌝ }
-{
-    let used = header::used_slots(book);
-    let mut missing = k;
-    let mut q = 0;
-    while q < used {
-        let slot = slot::slot_at(book, q);
-        if slot.volume == v {
-            if missing == 0 {
-                return After { missing, at: q };
-            }
-            missing -= 1;
-        }
-        q += 1;
-    }
-    After { missing, at: used }
-}
-
-// Whether a backup is kept: slot `at` holds the one that replaced it, if any, and the volume keeps it for `days` days
-// after that.
-pub fn is_kept(book: &[u8], at: u16, days: u16) -> bool
-    requires { ⌜ Holds (now book) ⌝ }
-    ensures { λ r. ⌜ r ≡ keptFrom (told (book .entry)) at days ⌝ }
-{
-    if header::used_slots(book) <= at {
-        return true;
-    }
-    let slot = slot::slot_at(book, at);
-    (slot.day as u32) + (days as u32) >= (header::day(book) as u32)
 }
 
 // The before of the LBN's first record, among `number` records from `first` on. It may be unmapped.

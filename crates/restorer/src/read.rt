@@ -3,60 +3,26 @@ ghost use mathlib.Core.Path.{_≡_};
 ghost use Prim.Native.Nat.{_*_, _<_};
 ghost use Rattle.words.specs.Blocks.{blockSize};
 ghost use Rattle.book.specs.Book.{volumes};
-ghost use Rattle.book.specs.Layout.{told, Holds};
+ghost use Rattle.book.specs.Layout.{told};
 ghost use Rattle.book.specs.FormFacts.{FormFacts};
 ghost use Rattle.model.specs.OnBytes.{readBytes, readNumberBytes, blockAfter};
 ghost use Rattle.restorer.specs.Contracts.{Located};
-ghost use Rattle.restorer.specs.Reading.{KeptIs, soughtOf, soughtNumber, soughtFrom, soughtBytes};
-use super::image::backups_after;
+ghost use Rattle.restorer.specs.Reading.{soughtOf, soughtNumber, soughtFrom, soughtBytes};
 use super::image::image_at;
-use super::image::is_kept;
 use buffers::buffers_number;
 use fields::header;
+use keeping::Kept;
+use keeping::kept_backup;
 use words::BLOCK_SIZE;
 use words::LBN;
 use words::PBN;
 use words::UNMAPPED;
-use words::limits::LAST_VOLUME;
 use words::refusals;
-
-// A backup that is there and kept: its volume's later backups are in the slots from this one on. Else the number of the
-// refusal.
-enum Kept {
-    Before(u16),
-    Refused(u16),
-}
 
 // The block that a read gives, or the number of the refusal.
 enum Sought {
     At(PBN),
     Refused(u16),
-}
-
-// Numbers 5, 15 and 16.
-fn kept_backup(book: &[u8], v: u16, k: u16) -> Kept
-    requires { ⌜ Holds (now book) ⌝ }
-    ensures { λ r. ⌜ KeptIs (told (book .entry)) v k r ⌝ }
-{
-    if v > LAST_VOLUME {
-        return Kept::Refused(refusals::BAD_VOLUME);
-    }
-    let days = header::retention(book, v);
-    if days == 0 {
-        return Kept::Refused(refusals::BAD_VOLUME);
-    }
-    if k == 0 {
-        return Kept::Refused(refusals::NO_BACKUP);
-    }
-    let after = backups_after(book, v, k);
-    if after.missing != 0 {
-        return Kept::Refused(refusals::NO_BACKUP);
-    }
-    let at = after.at;
-    if !is_kept(book, at, days) {
-        return Kept::Refused(refusals::NOT_KEPT);
-    }
-    Kept::Before(at)
 }
 
 // Numbers 17 and 18.

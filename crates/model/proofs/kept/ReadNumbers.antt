@@ -19,6 +19,20 @@ refusal a b c d e =
     if e then 18 else
     0
 
+-- the first three of them, and then d
+abbrev pub numbers : Bool → Bool → Bool → ℕ → ℕ
+numbers a b c d =
+    if a then 5 else
+    if b then 15 else
+    if not c then 16 else
+    d
+
+pub numbers-then : {A : Type 0} (a b c : Bool) (d : ℕ) (o : Outcome A) → unless (numbers a b c d) o ≡ unless (numbers a b c 0) (unless d o)
+numbers-then true b c d o = refl
+numbers-then false true c d o = refl
+numbers-then false false false d o = refl
+numbers-then false false true d o = refl
+
 -- two of them are alike, where each test may rely on those before it
 pub same-refusal : {A : Type 0} (a b b′ c c′ d d′ e e′ : Bool) (o o′ : Outcome A) → (a ≡ false → b ≡ b′)
     → (a ≡ false → b ≡ false → (c ≡ c′) × (d ≡ d′))

@@ -7,8 +7,9 @@ use Rattle.book.specs.FormFacts.{FormFacts}
 use Rattle.book.proofs.FormFactLaws.{form-facts}
 use Rattle.buffers.specs.Buffers.{buffersNumber}
 use Rattle.buffers.proofs.BuffersLaws.{buffers-facts}
-use Rattle.restorer.specs.Reading.{KeptIs}
-use Rattle.restorer.proofs.ReadingLaws.{kept-volume, sought-before, sought-refused}
+use Rattle.keeping.specs.Kept.{KeptIs}
+use Rattle.keeping.proofs.KeptLaws.{kept-volume}
+use Rattle.restorer.proofs.ReadingLaws.{sought-before, sought-refused}
 use Rattle.restorer.proofs.ReadCalls.{sought-stopped, sought-on}
 use Rattle.restorer.proofs.read.locate.Statement.{statement}
 use Rattle.restorer.proofs.read.locate.Tie as tie

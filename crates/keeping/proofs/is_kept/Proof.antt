@@ -1,11 +1,11 @@
--- `restorer::image::is_kept` meets its contract, by the two ways in which a backup is kept.
+-- `keeping::is_kept` meets its contract, by the two ways in which a backup is kept.
 use borrow.Author.Needs.{needs}
 use mathlib.Core.Path.{sym}
 use native.Mathlib.Omega.{arith}
 use Rattle.book.specs.Layout.{told}
-use Rattle.restorer.proofs.AfterLaws.{kept-newest, kept-replaced}
-use Rattle.restorer.proofs.image.is_kept.Statement.{statement}
-use Rattle.restorer.proofs.image.is_kept.Tie as tie
+use Rattle.keeping.proofs.AfterLaws.{kept-newest, kept-replaced}
+use Rattle.keeping.proofs.is_kept.Statement.{statement}
+use Rattle.keeping.proofs.is_kept.Tie as tie
 
 returns : tie.Need-returns
 returns c = sym (kept-newest _ _ _ (omega arith))

@@ -1,11 +1,11 @@
--- `restorer::read::kept_backup` meets its contract: each way out gives its number, the last one the slots after it.
+-- `keeping::kept_backup` meets its contract: each way out gives its number, the last one the slots after it.
 use borrow.Author.Needs.{needs}
 use native.Mathlib.Omega.{arith}
 use Rattle.words.proofs.ChoiceLaws.{failed, passed}
-use Rattle.restorer.proofs.ReadingLaws.{backup-above, backup-unenrolled, backup-zero, backup-missing}
-use Rattle.restorer.proofs.ReadingLaws.{backup-lapsed, backup-kept}
-use Rattle.restorer.proofs.read.kept_backup.Statement.{statement}
-use Rattle.restorer.proofs.read.kept_backup.Tie as tie
+use Rattle.keeping.proofs.KeptLaws.{backup-above, backup-unenrolled, backup-zero, backup-missing}
+use Rattle.keeping.proofs.KeptLaws.{backup-lapsed, backup-kept}
+use Rattle.keeping.proofs.kept_backup.Statement.{statement}
+use Rattle.keeping.proofs.kept_backup.Tie as tie
 
 returns : tie.Need-returns
 returns c = backup-above _ _ _ (omega arith)

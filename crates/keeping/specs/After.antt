@@ -7,7 +7,7 @@ use lib.ListN.{length, drop}
 use Rattle.book.specs.Book.{Book, slotAt}
 use Rattle.model.specs.Journal.{backups, days}
 use Rattle.model.specs.JournalAt.{backupsFrom}
-use Rattle.restorer.specs.declared.image.After.{After}
+use Rattle.keeping.specs.declared.After.{After}
 
 -- what the code answers
 pub record AfterIs (x : Book) (v k : ℕ) (r : After) : Type 0 where

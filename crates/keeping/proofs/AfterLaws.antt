@@ -18,8 +18,8 @@ use Rattle.model.specs.Days.{keptBefore, kept}
 use Rattle.model.specs.Journal.{Backup, backups, days}
 use Rattle.model.specs.JournalAt.{backupAt, backupsFrom}
 use Rattle.model.proofs.kept.JournalAtLaws.{day-at, from-start, from-own, from-other, from-end}
-use Rattle.restorer.specs.declared.image.After.{After}
-use Rattle.restorer.specs.After.{AfterIs, keptFrom}
+use Rattle.keeping.specs.declared.After.{After}
+use Rattle.keeping.specs.After.{AfterIs, keptFrom}
 
 -- before slot q all but `left` of k backups were passed
 pub record Skipped (x : Book) (v k q left : ℕ) : Type 0 where

@@ -1,13 +1,13 @@
--- `restorer::image::backups_after` meets its contract: a turn passes one slot, until the volume's next backup after k.
+-- `keeping::backups_after` meets its contract: a turn passes one slot, until the volume's next backup after k.
 use Prim.Native.Nat.{_-_, _≤_, _<_}
 use mathlib.Core.Logic.{⊎-elim}
 use native.Mathlib.Omega.{arith}
 use lib.ListN.{length}
 use Rattle.book.specs.Layout.{bookOf, told}
-use Rattle.restorer.proofs.AfterLaws.{Skipped, skipped-none, skipped-own, skipped-other, skipped-stop}
-use Rattle.restorer.proofs.AfterLaws.{skipped-end}
-use Rattle.restorer.proofs.image.backups_after.Statement.{statement}
-use Rattle.restorer.proofs.image.backups_after.Tie as tie
+use Rattle.keeping.proofs.AfterLaws.{Skipped, skipped-none, skipped-own, skipped-other, skipped-stop}
+use Rattle.keeping.proofs.AfterLaws.{skipped-end}
+use Rattle.keeping.proofs.backups_after.Statement.{statement}
+use Rattle.keeping.proofs.backups_after.Tie as tie
 
 abbrev Inv-loop : tie.InvT-loop
 Inv-loop book v k used missing₀ q₀ missing q = (q ≤ used) × Skipped (bookOf book) v k q missing

@@ -1,0 +1,72 @@
+-- Laws of the check of a backup: each way out of the code gives the number, or the slot, that the definitions give.
+use Prim.Native.Nat.{ℕ, _≤_, _<_}
+use mathlib.Core.Path.{_≡_, refl, _∙_}
+use mathlib.Core.Bool.{Bool, true, false, not, _||_}
+use native.Mathlib.Omega.{arith}
+use lib.Dec.{ltb, eqb}
+use lib.ListN.{length}
+use borrow.Author.Tests.{eq-eqb, ne-eqb, lt-ltb, le-ltb}
+use Rattle.words.proofs.ChoiceLaws.{or-l, or-r}
+use Rattle.book.specs.Book.{volumes, Book, retentionOf}
+use Rattle.model.proofs.agreement.AgreeLaws.{volume-inside}
+use Rattle.model.specs.Days.{kept}
+use Rattle.model.specs.Journal.{days, noVolume}
+use Rattle.model.specs.Kept.{keptNumber}
+use Rattle.model.proofs.kept.ReadNumbers.{numbers}
+use Rattle.keeping.specs.declared.After.{After}
+use Rattle.keeping.specs.declared.Kept.the-variants.{Before, Refused}
+use Rattle.keeping.specs.After.{AfterIs, keptFrom}
+use Rattle.keeping.specs.Kept.{KeptIs}
+use Rattle.keeping.proofs.AfterLaws.{kept-from}
+
+module _ (x : Book) (v k : ℕ) where
+  backup-5 : noVolume x v ≡ true → KeptIs x v k (Refused 5)
+  unfolding keptNumber
+  backup-5 e = (rw e, omega arith)
+
+  pub backup-above : 7 < v → KeptIs x v k (Refused 5)
+  unfolding noVolume
+  backup-above h = backup-5 (or-l (ltb 7 v) _ (lt-ltb 7 v h))
+
+  pub backup-unenrolled : retentionOf x v ≡ 0 → KeptIs x v k (Refused 5)
+  unfolding noVolume
+  backup-unenrolled e = backup-5 (or-r (ltb 7 v) (not (not (eqb (retentionOf x v) 0))) (rw (eq-eqb (retentionOf x v) 0 e)))
+
+  module _ (r : ℕ) (same : r ≡ retentionOf x v) (inside : v ≤ 7) (enrolled : r ≡ 0 → ⊥) where
+    there : noVolume x v ≡ false
+    unfolding noVolume
+    there = rw (le-ltb 7 v inside, ne-eqb (retentionOf x v) 0 (λ e. enrolled (same ∙ e)))
+
+    pub backup-zero : k ≡ 0 → KeptIs x v k (Refused 15)
+    unfolding keptNumber
+    backup-zero e = (rw (there, eq-eqb k 0 e), omega arith)
+
+    module _ (a : After) (is : AfterIs x v k a) (some : k ≡ 0 → ⊥) where
+      pub backup-missing : (a .missing ≡ 0 → ⊥) → KeptIs x v k (Refused 15)
+      unfolding keptNumber
+      backup-missing n =
+          let m = is .missing in
+          (rw (there, ne-eqb k 0 some, lt-ltb (length (days x v)) k (omega arith)), omega arith)
+
+      module _ (full : a .missing ≡ 0) where
+        number-there : (eqb k 0 || ltb (length (days x v)) k) ≡ false
+        number-there = let m = is .missing in rw (ne-eqb k 0 some, le-ltb (length (days x v)) k (omega arith))
+
+        pub backup-lapsed : keptFrom x (a .at) r ≡ false → KeptIs x v k (Refused 16)
+        unfolding keptNumber
+        backup-lapsed f = (rw (there, number-there, ← same, kept-from x v k r a is, f), omega arith)
+
+        pub backup-kept : keptFrom x (a .at) r ≡ true → KeptIs x v k (Before (a .at))
+        unfolding keptNumber
+        backup-kept f = (rw (there, number-there, ← same, kept-from x v k r a is, f), is .later)
+
+-- the volume of a backup that is there
+pub kept-volume : (x : Book) (v k : ℕ) → keptNumber x v k ≡ 0 → v < volumes
+unfolding keptNumber
+kept-volume x v k e =
+    volume-inside x v (go (noVolume x v) (eqb k 0 || ltb (length (days x v)) k)
+    (kept (days x v) (retentionOf x v) (x .day) k) e)
+  where
+    go : (a b c : Bool) → numbers a b c 0 ≡ 0 → a ≡ false
+    go true b c f = absurd (omega arith)
+    go false b c f = refl
