@@ -3,8 +3,8 @@
  *
  * An aid writes the list of its changed blocks (aspen_write_list). The box takes such a list as
  * a backup (aspen_backup), keeps equal blocks once, frees what no kept backup needs
- * (aspen_collect), and reads old backups (aspen_read). aspen_play makes a whole list of such calls
- * that is stored as bytes.
+ * (aspen_collect), and reads old backups, a block (aspen_read) or a run of blocks (aspen_restore).
+ * aspen_play makes a whole list of such calls that is stored as bytes.
  *
  * Memory. The box lives in two buffers of the caller's: the book, which notes what each volume
  * held and when, and the pool, which holds the blocks. The library allocates nothing and keeps
@@ -15,7 +15,8 @@
  * must not overlap. Byte buffers need no alignment; numbers in them are little-endian.
  *
  * Results. Each function returns ASPEN_OK or the number of its refusal. Checks are made in the
- * order of the numbers and the first that fails decides; 11 to 14 are checked change by change.
+ * order of the numbers and the first that fails decides; 11 to 14 are checked change by change, and
+ * 21 before 18.
  * A refused call leaves every buffer but the spare as it was and writes no answer. A byte
  * buffer may hold any bytes and have any length: what doesn't fit is refused.
  *
@@ -23,8 +24,9 @@
  * may calls that only read the same ones. While a call writes a buffer nothing else may use it;
  * to have one writer at a time is the caller's duty.
  *
- * Stack. On x86-64 aspen_play takes 49,728 bytes of it, aspen_audit 49,440 and aspen_backup 24,928,
- * nearly all for tables that live for one call; every other function takes 256 at most.
+ * Stack. On x86-64 aspen_play takes 49,744 bytes of it, aspen_audit 49,440, aspen_backup 24,928 and
+ * aspen_restore 2,272, nearly all for tables that live for one call; every other function takes 256
+ * at most.
  */
 #ifndef ASPEN_H
 #define ASPEN_H
@@ -65,6 +67,9 @@ extern "C" {
 /* The pool of n blocks. */
 #define aspen_pool_size(n) ((size_t)ASPEN_BLOCK_SIZE * (n))
 
+/* The blocks of a run of so many, as aspen_restore writes them. */
+#define aspen_run_size(length) ((size_t)ASPEN_BLOCK_SIZE * (length))
+
 /* The change list of so many changed blocks in so many runs. */
 #define aspen_list_size(runs, changes) \
     ((size_t)2 + (size_t)4 * (runs) + (size_t)(ASPEN_PRINT_SIZE + ASPEN_BLOCK_SIZE) * (changes))
@@ -90,9 +95,13 @@ extern "C" {
 /* A call in a list for aspen_play starts with a head of so many bytes. */
 #define ASPEN_CALL_HEAD 14
 
-/* The longest answers of a list of so many backups, so many reads and so many other calls. */
+/* The longest answers of a list of so many backups, so many reads and so many other calls; a list
+ * with restores has aspen_runs_bound more. */
 #define aspen_answers_bound(backups, reads, others) \
     ((size_t)7 * (backups) + (size_t)(1 + ASPEN_BLOCK_SIZE) * (reads) + (size_t)3 * (others))
+
+/* The longest answers of so many restores, whose lengths add up to so many blocks. */
+#define aspen_runs_bound(restores, blocks) ((size_t)3 * (restores) + aspen_run_size(blocks))
 
 /* The kinds of calls in a list, with the numbers of the head that each uses. */
 enum aspen_call {
@@ -100,7 +109,8 @@ enum aspen_call {
     ASPEN_CALL_BACKUP = 1,   /* a is the volume, b the day; the data is the change list */
     ASPEN_CALL_COLLECT = 2,  /* a is the day */
     ASPEN_CALL_READ = 3,     /* a is the volume, b the backup's number, c the LBN */
-    ASPEN_CALL_AUDIT = 4     /* none */
+    ASPEN_CALL_AUDIT = 4,    /* none */
+    ASPEN_CALL_RESTORE = 5   /* a and b as for a read, c the first LBN, d the length */
 };
 
 /* The tags of the answers to a list, with what follows each. */
@@ -109,7 +119,8 @@ enum aspen_answer {
     ASPEN_ANSWER_BACKED = 1,  /* of a backup: number, taken, touched */
     ASPEN_ANSWER_FREED = 2,   /* of a collect: freed */
     ASPEN_ANSWER_BLOCK = 3,   /* of a read: the ASPEN_BLOCK_SIZE bytes of the block */
-    ASPEN_ANSWER_SOUND = 4    /* of an audit: sound */
+    ASPEN_ANSWER_SOUND = 4,   /* of an audit: sound */
+    ASPEN_ANSWER_RUN = 5      /* of a restore: the length, and then the bytes of its blocks */
 };
 
 /* What the functions return: 0, or the number of a refusal. */
@@ -134,7 +145,8 @@ enum aspen_result {
     ASPEN_BAD_LBN = 17,       /* the LBN is l or more */
     ASPEN_UNMAPPED = 18,      /* that backup has no block at this LBN */
     ASPEN_BAD_INPUT = 19,     /* writer: a wrong l, mark or length; play: no list of calls */
-    ASPEN_SHORT_OUTPUT = 20   /* the output is shorter than what is to be written, or may be */
+    ASPEN_SHORT_OUTPUT = 20,  /* the output is shorter than what is to be written, or may be */
+    ASPEN_BAD_RUN = 21        /* the run ends after the volume, or the output is too short for it */
 };
 
 /*
@@ -198,6 +210,23 @@ uint16_t aspen_collect(uint8_t *book, size_t book_len, uint16_t day, uint16_t *f
  */
 uint16_t aspen_read(const uint8_t *book, size_t book_len, const uint8_t *pool, size_t pool_len,
                     uint16_t volume, uint16_t number, uint16_t lbn, uint32_t *at);
+
+/*
+ * Writes a run of blocks, as a volume had them in its backup of this number: those of the LBNs from
+ * `first` on, `length` of them. The output's first aspen_run_size(length) bytes become what
+ * aspen_read finds at these LBNs, one after the other; what follows is as it was. It may be longer
+ * than the run. A length of 0 writes nothing, and everything but ASPEN_UNMAPPED is checked.
+ *
+ * If one of the blocks isn't there, none is written: the call is refused by ASPEN_UNMAPPED. By
+ * ASPEN_BAD_RUN it is refused if `first` plus `length` is above l, or if the output is shorter than
+ * the run; this comes before ASPEN_UNMAPPED.
+ *
+ * Returns ASPEN_OK, ASPEN_BAD_LAYOUT, ASPEN_BAD_FORM, ASPEN_BAD_POOL, ASPEN_BAD_VOLUME,
+ * ASPEN_NO_BACKUP, ASPEN_NOT_KEPT, ASPEN_BAD_RUN or ASPEN_UNMAPPED.
+ */
+uint16_t aspen_restore(const uint8_t *book, size_t book_len, const uint8_t *pool, size_t pool_len,
+                       uint16_t volume, uint16_t number, uint16_t first, uint16_t length,
+                       uint8_t *out, size_t out_len);
 
 /*
  * Replays the book's journal and compares: the maps, the counts, the days until which blocks are
@@ -310,16 +339,19 @@ uint16_t aspen_blocks(const uint8_t *book, size_t book_len, uint8_t *out, size_t
  * number, and the list goes on. Bytes that are no list are refused as a whole.
  *
  * A call in bytes is a head of ASPEN_CALL_HEAD bytes and then its data:
- *    0  its kind in one byte, from ASPEN_CALL_ENROL to ASPEN_CALL_AUDIT
+ *    0  its kind in one byte, from ASPEN_CALL_ENROL to ASPEN_CALL_RESTORE
  *    1  a zero byte
  *    2  four numbers of two bytes, a, b, c and d; what its kind doesn't use is 0
  *   10  how many bytes of data follow, in four bytes; 0 unless it is a backup
  * A list is calls one after the other to the end of the bytes; it may have none.
  *
  * The answers stand one after the other at the front of `answers`, each a tag of one byte, from
- * ASPEN_ANSWER_NUMBER to ASPEN_ANSWER_SOUND, and then numbers of two bytes or a block. There has to
- * be room for the longest that these calls can have (aspen_answers_bound): 513 bytes for a read, 7
- * for a backup and 3 for any other call. Room above 4,294,967,295 bytes isn't counted.
+ * ASPEN_ANSWER_NUMBER to ASPEN_ANSWER_RUN, and then numbers of two bytes, a block, or a length and
+ * so many blocks. There has to be room for the longest that these calls can have
+ * (aspen_answers_bound, and aspen_runs_bound for restores): 513 bytes for a read, 7 for a backup,
+ * aspen_run_size of its length and 3 for a restore, whatever that length is, and 3 for any other
+ * call. Room above 4,294,967,295 bytes isn't counted. A restore in a list has an output of just its
+ * run, so ASPEN_BAD_RUN comes for its end alone.
  *
  * Answer: *written, the length of the answers in bytes. What follows them is as it was.
  *
@@ -370,7 +402,8 @@ static inline const char *aspen_text(uint16_t number)
         "the volume has no such LBN",
         "the backup has no block at this LBN",
         "wrong inputs of the writer, or no list of calls",
-        "the output is too short"
+        "the output is too short",
+        "the run ends after the volume, or the output is too short"
     };
 
     return number < sizeof texts / sizeof texts[0] ? texts[number] : "no number of the box";

@@ -39,6 +39,10 @@ struct backed_up call_backup(struct box *box, uint16_t volume, uint16_t day, str
 uint16_t call_collect(struct box *box, uint16_t day, uint16_t expected);
 uint32_t call_read(const struct box *box, uint16_t volume, uint16_t number, uint16_t lbn,
                    uint16_t expected);
+/* Restores to an output of so many bytes, and checks its blocks, a letter for each, and that the
+ * rest is as it was; after a refusal all of it. */
+void call_restore(const struct box *box, uint16_t volume, uint16_t number, uint16_t first,
+                  uint16_t length, size_t room, const char *letters, uint16_t expected);
 uint16_t call_audit(const struct box *box, uint16_t expected);
 
 #endif

@@ -4,8 +4,11 @@
 #include "box.h"
 #include "check.h"
 
+#include <string.h>
+
 static const uint16_t untouched = 0xBEEF;
 static const uint32_t untouched_offset = 0xDEADBEEF;
+static const uint8_t untouched_byte = 0xA5;
 
 static struct box copied(const struct box *box)
 {
@@ -113,6 +116,26 @@ uint32_t call_read(const struct box *box, uint16_t volume, uint16_t number, uint
         CHECK_EQ(at[1], untouched_offset);
     check_after(box, &before, 0);
     return at[1];
+}
+
+void call_restore(const struct box *box, uint16_t volume, uint16_t number, uint16_t first,
+                  uint16_t length, size_t room, const char *letters, uint16_t expected)
+{
+    struct box before = copied(box);
+    struct buffer out = buffer_filled(room, untouched_byte), wanted = buffer_copy(&out);
+    uint16_t refusal = aspen_restore(box->book.bytes, box->book.length, box->pool.bytes,
+                                     box->pool.length, volume, number, first, length, out.bytes,
+                                     out.length);
+    size_t i;
+
+    CHECK_EQ(refusal, expected);
+    for (i = 0; expected == ASPEN_OK && i < length; i++)
+        memset(wanted.bytes + aspen_run_size(i), letters[i], ASPEN_BLOCK_SIZE);
+    CHECK_BYTES(out.bytes, wanted.bytes, out.length);
+    CHECK_GUARDS(&out);
+    check_after(box, &before, 0);
+    buffer_free(&wanted);
+    buffer_free(&out);
 }
 
 uint16_t call_audit(const struct box *box, uint16_t expected)

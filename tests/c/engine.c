@@ -13,6 +13,7 @@ int main(void)
     test_refusals();
     test_lists();
     test_changes();
+    test_restore();
     test_play();
     return check_report();
 }

@@ -11,8 +11,8 @@
 enum { OUT_BYTE = 0xA5, UNTOUCHED = 0xFEED };
 
 /* Adds a call to a list. The data may be null. */
-static void add(struct buffer *calls, enum aspen_call kind, unsigned a, unsigned b, unsigned c,
-                const struct buffer *data)
+static void add_four(struct buffer *calls, enum aspen_call kind, unsigned a, unsigned b,
+                     unsigned c, unsigned d, const struct buffer *data)
 {
     size_t place = calls->length, length = data == NULL ? 0 : data->length;
     uint8_t *head;
@@ -23,9 +23,16 @@ static void add(struct buffer *calls, enum aspen_call kind, unsigned a, unsigned
     put_u16(head, 2, a);
     put_u16(head, 4, b);
     put_u16(head, 6, c);
+    put_u16(head, 8, d);
     put_u16(head, 10, (unsigned)length);
     if (length != 0)
         memcpy(head + ASPEN_CALL_HEAD, data->bytes, length);
+}
+
+static void add(struct buffer *calls, enum aspen_call kind, unsigned a, unsigned b, unsigned c,
+                const struct buffer *data)
+{
+    add_four(calls, kind, a, b, c, 0, data);
 }
 
 static void add_backup(struct buffer *calls, unsigned volume, unsigned day, unsigned lbn,
@@ -133,14 +140,21 @@ static struct buffer one_of_each(void)
     add(&calls, ASPEN_CALL_COLLECT, 9, 0, 0, NULL);
     add(&calls, ASPEN_CALL_READ, 0, 1, 0, NULL);
     add(&calls, ASPEN_CALL_AUDIT, 0, 0, 0, NULL);
+    add_four(&calls, ASPEN_CALL_RESTORE, 0, 1, 0, 2, NULL);
     add_backup(&calls, 0, 10, 2, "D", "D");
     return calls;
+}
+
+/* Room for their longest answers. */
+static size_t room_of_each(void)
+{
+    return aspen_answers_bound(1, 1, 3) + aspen_runs_bound(1, 2);
 }
 
 static void test_cut(void)
 {
     struct buffer calls = one_of_each();
-    size_t room = aspen_answers_bound(1, 1, 3), last = 4 * ASPEN_CALL_HEAD;
+    size_t room = room_of_each(), last = 5 * ASPEN_CALL_HEAD;
 
     check_about("lists cut off");
     check_play(&calls, room, ASPEN_OK);
@@ -160,20 +174,21 @@ static void check_head(size_t at, uint8_t byte, uint16_t expected)
     struct buffer calls = one_of_each();
 
     calls.bytes[at] = byte;
-    check_play(&calls, aspen_answers_bound(1, 2, 2), expected);
+    /* A length may have another high byte. */
+    check_play(&calls, aspen_answers_bound(1, 2, 2) + aspen_runs_bound(1, 512), expected);
     buffer_free(&calls);
 }
 
 static void test_heads(void)
 {
-    static const size_t used[] = { 6, 4, 8, 2, 6 };
+    static const size_t used[] = { 6, 4, 8, 2, 10, 6 };
     size_t call, at;
 
     check_about("heads of calls");
-    for (call = 0; call < 5; call++) {
+    for (call = 0; call < 6; call++) {
         size_t place = call * ASPEN_CALL_HEAD;
 
-        check_head(place, 5, ASPEN_BAD_INPUT);
+        check_head(place, 6, ASPEN_BAD_INPUT);
         check_head(place, 255, ASPEN_BAD_INPUT);
         check_head(place + 1, 1, ASPEN_BAD_INPUT);
         for (at = 2; at < used[call]; at++)
@@ -187,11 +202,11 @@ static void test_heads(void)
 static void check_data(uint32_t length)
 {
     struct buffer calls = one_of_each();
-    uint8_t *head = calls.bytes + 4 * ASPEN_CALL_HEAD;
+    uint8_t *head = calls.bytes + 5 * ASPEN_CALL_HEAD;
 
     put_u16(head, 10, (unsigned)(length & 0xFFFF));
     put_u16(head, 12, (unsigned)(length >> 16));
-    check_play(&calls, aspen_answers_bound(1, 1, 3), ASPEN_BAD_INPUT);
+    check_play(&calls, room_of_each(), ASPEN_BAD_INPUT);
     buffer_free(&calls);
 }
 
@@ -204,14 +219,14 @@ static void test_data(void)
     check_data(right - 1);
     check_data(right + 1);
     check_data(65536 + right);
-    for (less = 0; less < 4 * ASPEN_CALL_HEAD; less++)
+    for (less = 0; less < 5 * ASPEN_CALL_HEAD; less++)
         check_data(0xFFFFFFFFu - less);
 }
 
 static void test_room(void)
 {
     struct buffer calls = one_of_each(), none = buffer_new(0);
-    size_t exact = aspen_answers_bound(1, 1, 3), room;
+    size_t exact = room_of_each(), room;
 
     check_about("room for the answers");
     for (room = 0; room < exact; room++)
@@ -226,9 +241,9 @@ static void test_room(void)
 /* A list goes on after a refused call, and knows the lengths of pool and spare. */
 static void test_refused_calls(void)
 {
-    static const uint8_t expected[] = { 0, 5, 0, 2, 0, 0, 0, 3, 0, 4, 1, 0, 0, 3, 0 };
+    static const uint8_t expected[] = { 0, 5, 0, 2, 0, 0, 0, 3, 0, 4, 1, 0, 0, 3, 0, 0, 3, 0 };
     static const uint8_t short_spare[] = { 0, 4, 0 };
-    struct buffer calls = one_of_each(), answers = buffer_filled(sizeof expected + 600, OUT_BYTE);
+    struct buffer calls = one_of_each(), answers = buffer_filled(room_of_each(), OUT_BYTE);
     struct box box = box_after_d();
 
     check_about("refused calls in a list");
@@ -239,11 +254,56 @@ static void test_refused_calls(void)
     box_free(&box);
     box = box_after_d();
     buffer_resize(&box.spare, box.spare.length - 1);
-    CHECK_EQ(play(&box, &calls, &answers, ASPEN_OK), 3 + 3 + 513 + 3 + 3);
-    CHECK_BYTES(answers.bytes + 522, short_spare, sizeof short_spare);
+    CHECK_EQ(play(&box, &calls, &answers, ASPEN_OK), 3 + 3 + 513 + 3 + 1027 + 3);
+    CHECK_BYTES(answers.bytes + 1549, short_spare, sizeof short_spare);
     box_free(&box);
     buffer_free(&calls);
     buffer_free(&answers);
+}
+
+/* Restores in a list: with blocks, with none, refused. Nothing in book or pool moves. */
+static void test_restores(void)
+{
+    static const uint8_t last[] = { 5, 0, 0, 0, 21, 0, 0, 21, 0, 0, 18, 0, 0, 15, 0, OUT_BYTE };
+    size_t room = aspen_runs_bound(6, 2 + 0 + 0 + 4 + 2 + 3), blocks = aspen_run_size(2);
+    struct buffer calls = buffer_new(0), answers = buffer_filled(room, OUT_BYTE);
+    struct box box = box_after_d(), before = box_after_d();
+
+    check_about("restores in a list");
+    add_four(&calls, ASPEN_CALL_RESTORE, 0, 1, 0, 2, NULL);
+    add_four(&calls, ASPEN_CALL_RESTORE, 0, 1, 4, 0, NULL);
+    add_four(&calls, ASPEN_CALL_RESTORE, 0, 1, 5, 0, NULL);
+    add_four(&calls, ASPEN_CALL_RESTORE, 0, 1, 1, 4, NULL);
+    add_four(&calls, ASPEN_CALL_RESTORE, 0, 1, 1, 2, NULL);
+    add_four(&calls, ASPEN_CALL_RESTORE, 0, 3, 65535, 3, NULL);
+    CHECK_EQ(play(&box, &calls, &answers, ASPEN_OK), 3 + blocks + sizeof last - 1);
+    CHECK_EQ(answers.bytes[0], ASPEN_ANSWER_RUN);
+    CHECK_EQ(aspen_u16(answers.bytes + 1), 2);
+    CHECK_BYTES(answers.bytes + 3, box.pool.bytes, blocks);
+    CHECK_BYTES(answers.bytes + 3 + blocks, last, sizeof last);
+    CHECK_BYTES(box.book.bytes, before.book.bytes, CASE_BOOK);
+    CHECK_BYTES(box.pool.bytes, before.pool.bytes, before.pool.length);
+    check_play(&calls, room - 1, ASPEN_SHORT_OUTPUT);
+    box_free(&box);
+    box_free(&before);
+    buffer_free(&calls);
+    buffer_free(&answers);
+}
+
+/* Restores that ask in all for 390 bytes more than four bytes can tell. */
+static void test_wrapping_room(void)
+{
+    struct buffer calls = buffer_new(0);
+    size_t i;
+
+    check_about("restores whose room wraps in four bytes");
+    for (i = 0; i < 128; i++)
+        add_four(&calls, ASPEN_CALL_RESTORE, 0, 1, 0, 65535, NULL);
+    add_four(&calls, ASPEN_CALL_RESTORE, 0, 1, 0, 127, NULL);
+    add_four(&calls, ASPEN_CALL_RESTORE, 0, 1, 0, 1, NULL);
+    check_play(&calls, 390, ASPEN_SHORT_OUTPUT);
+    check_play(&calls, 5000, ASPEN_SHORT_OUTPUT);
+    buffer_free(&calls);
 }
 
 void test_play(void)
@@ -254,4 +314,6 @@ void test_play(void)
     test_data();
     test_room();
     test_refused_calls();
+    test_restores();
+    test_wrapping_room();
 }

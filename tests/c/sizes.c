@@ -8,7 +8,8 @@
 enum {
     SMALLEST_BOOK = aspen_book_size(1, 1, 1, 1),
     LARGEST_LIST = aspen_list_bound(ASPEN_MAX_LBNS),
-    LARGEST_ROWS = aspen_blocks_size(ASPEN_MAX_BLOCKS)
+    LARGEST_ROWS = aspen_blocks_size(ASPEN_MAX_BLOCKS),
+    LARGEST_RUN = aspen_runs_bound(1, ASPEN_MAX_LBNS)
 };
 
 typedef uint8_t list_of_two_runs[aspen_list_bound(ASPEN_MAX_RUN + 1)];
@@ -34,7 +35,7 @@ static void test_bounds(void)
 
 static void test_rows(void)
 {
-    const uint16_t cells = ASPEN_MAX_LBNS;
+    const uint16_t cells = ASPEN_MAX_LBNS, blocks = 65535;
 
     check_about("rows");
     CHECK_EQ(ASPEN_BACKUP_ROW, 4 * 2);
@@ -47,6 +48,12 @@ static void test_rows(void)
     CHECK_EQ(aspen_blocks_size(4), 88);
     CHECK_EQ(aspen_answers_bound(0, 0, 0), 0);
     CHECK_EQ(aspen_answers_bound(2, 3, 5), 14 + 1539 + 15);
+    CHECK_EQ(aspen_run_size(0), 0);
+    CHECK_EQ(aspen_run_size(1 + 2), 1536);
+    CHECK_EQ(aspen_run_size(blocks), 512 * 65535);
+    CHECK_EQ(aspen_runs_bound(0, 0), 0);
+    CHECK_EQ(aspen_runs_bound(2, 3 + 4), 6 + 7 * 512);
+    CHECK_EQ(LARGEST_RUN, 524288 + 3);
     CHECK_EQ(LARGEST_ROWS, 90112);
     CHECK_EQ(ASPEN_UNMAPPED_PBN, 65535);
     CHECK_EQ(ASPEN_NO_END, 65535);

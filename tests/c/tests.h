@@ -18,6 +18,7 @@ void test_views(void);
 void test_refusals(void);
 void test_lists(void);
 void test_changes(void);
+void test_restore(void);
 
 /* With libplay.a. */
 void test_play(void);

@@ -23,7 +23,7 @@ static void test_numbers(void)
     uint16_t number, before;
 
     check_about("texts");
-    for (number = ASPEN_OK; number <= ASPEN_SHORT_OUTPUT; number++) {
+    for (number = ASPEN_OK; number <= ASPEN_BAD_RUN; number++) {
         size_t length = strlen(aspen_text(number));
 
         CHECK_EQ(length > 5 && length < 70, 1);
@@ -36,7 +36,8 @@ static void test_numbers(void)
     check_text(ASPEN_NO_BLOCK, "no block of the pool is free");
     check_text(ASPEN_UNMAPPED, "the backup has no block at this LBN");
     check_text(ASPEN_SHORT_OUTPUT, "the output is too short");
-    check_text(ASPEN_SHORT_OUTPUT + 1, other);
+    check_text(ASPEN_BAD_RUN, "the run ends after the volume, or the output is too short");
+    check_text(ASPEN_BAD_RUN + 1, other);
     check_text(256, other);
     check_text(65535, other);
 }

@@ -4,7 +4,7 @@
 #include <stdlib.h>
 #include <string.h>
 
-enum { CONTROL = 20, HEADER = 20, PATCH = 4 };
+enum { CONTROL = 22, HEADER = 20, PATCH = 4 };
 
 static uint16_t u16_at(const uint8_t *bytes, size_t at)
 {
@@ -24,10 +24,10 @@ struct control control_of(const uint8_t *input, size_t length)
     control.shape = bytes[1];
     control.seed = u16_at(bytes, 2);
     control.disturbed = bytes[4];
-    for (i = 0; i < 3; i++)
+    for (i = 0; i < NUMBERS; i++)
         control.number[i] = u16_at(bytes, 6 + 2 * i);
     for (i = 0; i < PARTS; i++)
-        control.longer[i] = bytes[5] >> i & 1 ? (int16_t)u16_at(bytes, 12 + 2 * i) : 0;
+        control.longer[i] = bytes[5] >> i & 1 ? (int16_t)u16_at(bytes, 14 + 2 * i) : 0;
     control.rest = input + start;
     control.rest_len = length - start;
     return control;
@@ -115,7 +115,7 @@ struct sent sent_of(const uint8_t *input, size_t length, char call)
         apply_patches(&sent, control.rest, control.rest_len);
     for (i = 0; i < PARTS; i++)
         make_longer(&sent.part[i], control.longer[i]);
-    for (i = 0; i < 3; i++)
+    for (i = 0; i < NUMBERS; i++)
         sent.number[i] ^= control.number[i];
     return sent;
 }
@@ -131,14 +131,14 @@ struct side lent(const struct sent *sent)
 }
 
 /* How often each number came, printed at the end. */
-static unsigned long times[ASPEN_SHORT_OUTPUT + 1];
+static unsigned long times[ASPEN_BAD_RUN + 1];
 
 static void print_times(void)
 {
     size_t i;
 
     fprintf(stderr, "numbers:");
-    for (i = 0; i <= ASPEN_SHORT_OUTPUT; i++)
+    for (i = 0; i <= ASPEN_BAD_RUN; i++)
         if (times[i] != 0)
             fprintf(stderr, " %lu=%lu", (unsigned long)i, times[i]);
     fprintf(stderr, "\n");

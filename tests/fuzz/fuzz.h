@@ -1,14 +1,14 @@
 /* What the fuzz targets share: from an input to the buffers and numbers of a call, and the
  * comparison of what both sides left.
  *
- * An input starts with a control of 20 bytes; what is missing is 0:
+ * An input starts with a control of 22 bytes; what is missing is 0:
  *     0  u8      calls of the run that makes the box, 0 if the rest of the input is the book
  *     1  u8      the run's shape
  *     2  u16     its seed
  *     4  u8      how often its book is disturbed
  *     5  u8      which lengths of the buffers change, a bit for each
- *     6  3 u16   XORed with the call's numbers
- *    12  4 i16   added to these lengths
+ *     6  4 u16   XORed with the call's numbers
+ *    14  4 i16   added to these lengths
  * The rest is the book and, past its length, the list; or else patches of 4 bytes: which buffer,
  * where (u16), and what is XORed with the byte there. For the writer the rest is the marks, for play
  * the list of calls.
@@ -26,9 +26,12 @@
 #define UNTOUCHED 0xFEEDu
 #define UNTOUCHED_WIDE 0xDEADBEEFu
 
+/* The most numbers that a call has. */
+enum { NUMBERS = 4 };
+
 struct control {
     uint8_t calls, shape, disturbed;
-    uint16_t seed, number[3];
+    uint16_t seed, number[NUMBERS];
     int16_t longer[4]; /* 0 where a length stays */
     const uint8_t *rest;
     size_t rest_len;
@@ -43,7 +46,7 @@ enum { BOOK, POOL, SPARE, LIST, PARTS };
 struct sent {
     struct buffer part[PARTS];
     size_t free; /* the buffer that the call may leave as it likes, PARTS if none */
-    uint16_t number[3];
+    uint16_t number[NUMBERS];
 };
 
 /* Copies of the buffers, for one side. */

@@ -10,6 +10,7 @@ extern __typeof__(aspen_enrol) reference_enrol;
 extern __typeof__(aspen_backup) reference_backup;
 extern __typeof__(aspen_collect) reference_collect;
 extern __typeof__(aspen_read) reference_read;
+extern __typeof__(aspen_restore) reference_restore;
 extern __typeof__(aspen_audit) reference_audit;
 extern __typeof__(aspen_form) reference_form;
 extern __typeof__(aspen_count) reference_count;
@@ -31,12 +32,12 @@ struct reference_made {
     size_t pool_len;
     const uint8_t *list;
     size_t list_len;
-    uint16_t number[3]; /* in the order of the call's arguments */
+    uint16_t number[4]; /* in the order of the call's arguments */
 };
 
 /* Makes the box of a run, and disturbs its book so many times. Shape, seed and calls choose among
- * some hundred runs. `call` is 'e', 'b', 'c' or 'r' for enrol, backup, collect and read; others send
- * no numbers. */
+ * some hundred runs. `call` is 'e', 'b', 'c', 'r' or 's' for enrol, backup, collect, read and restore;
+ * others send no numbers. */
 struct reference_made reference_make(uint8_t shape, uint16_t seed, uint8_t calls,
                                      uint8_t disturbed, uint8_t call);
 

@@ -2,13 +2,14 @@
 use Prim.Native.Nat.{ℕ, zero, suc, _+_, _*_, _≤_}
 use mathlib.Core.Path.{_≡_, refl, sym, ap, _∙_}
 use mathlib.Core.Bool.{Bool, true}
-use mathlib.Core.List.{List, [], _∷_}
+use mathlib.Core.List.{List, [], _∷_, _++_}
 use mathlib.Core.Logic.{⊎-elim}
 use native.Mathlib.Omega.{arith}
-use lib.ListN.{length}
+use lib.ListN.{length, length-append}
 use denote.Ref.{now}
 use borrow.Author.Tests.{eq-eqb}
 use Rattle.words.specs.Blocks.{blockSize}
+use Rattle.words.proofs.Accepted.{accepted-same, unless-accepted, then-accepted}
 use Rattle.words.proofs.ChoiceLaws.{true-and}
 use Rattle.words.specs.Lent.{Lent}
 use Rattle.words.specs.Lists.{all}
@@ -20,14 +21,19 @@ use Rattle.book.proofs.FormBytes.{book-form}
 use Rattle.book.specs.Layout.{bookOf}
 use Rattle.model.specs.Calls.{Call, enrol, backup, collect, read, audit}
 use Rattle.model.specs.OnBytes.{BackedBytes, CollectedBytes, numberOf, after, poolNumber, enrolBytes, backupBytes, collectBytes}
-use Rattle.model.specs.OnBytes.{readBytes, readNumberBytes, readPlaceBytes, auditBytes}
+use Rattle.model.specs.OnBytes.{readBytes, readNumberBytes, readPlaceBytes, restoreBytes, auditBytes}
+use Rattle.model.specs.Claims.{restoredAt}
+use Rattle.model.specs.Kept.{keptNumber}
 use Rattle.model.specs.Pool.{blockAt}
 use Rattle.model.specs.Read
 use Rattle.model.specs.Read.{image, readNumber}
+use Rattle.model.specs.Restore
+use Rattle.model.specs.Restore.{runNumber, readsFrom}
 use Rattle.model.proofs.form.ImageIn.{image-in}
-use Rattle.model.specs.Sides.{answersOf, Ours, ours, oursEnrolled, oursBacked, oursCollected, readAnswer, auditAnswer}
+use Rattle.model.specs.Sides.{Ours, ours, oursEnrolled, oursBacked, oursCollected, readAnswer, auditAnswer}
 use Rattle.buffers.proofs.BuffersLaws.{pool-size}
-use Rattle.calls.proofs.AnswerLaws.{isWhole}
+use Rattle.calls.specs.Asked.{Asked, listed, restore, restoreReply, replyTo, nextAfter, repliesOf}
+use Rattle.calls.proofs.AnswerLaws.{isWhole, wholeReply}
 use Rattle.calls.proofs.Proper.{number-unless}
 use Rattle.restorer.specs.Contracts.{Located}
 use Rattle.restorer.proofs.ReadingLaws.{number-mapped}
@@ -115,8 +121,44 @@ answer-whole spare o audit = go (auditBytes (o .book))
     go (refused k) = refl
     go (accepted d) = refl
 
-pub answers-whole : (spare : ℕ) (o : Ours) (cs : List Call) → all isWhole (answersOf (ours spare) o cs) ≡ true
+-- ---- .. and every block of a restore's
+
+reads-whole : (one : ℕ → Outcome (List ℕ)) → ((l : ℕ) (b : List ℕ) → one l ≡ accepted b → length b ≡ blockSize) → (first many : ℕ)
+    (c : List ℕ) → readsFrom one first many ≡ accepted c → length c ≡ many * blockSize
+reads-whole one h first zero c e = ap length (sym (accepted-same [] c e))
+reads-whole one h first (suc m) c e =
+    let x = then-accepted (one first) _ c e in
+    let y = then-accepted (readsFrom one (suc first) m) (λ rest. accepted (x .0 ++ rest)) c (x .2) in
+    let same = accepted-same (x .0 ++ y .0) c (y .2) in
+    omega (arith, ap length same, length-append (x .0) (y .0), h first (x .0) (x .1), reads-whole one h (suc first) m (y .0) (y .1))
+
+pub restore-whole : (b pool : List ℕ) (v k first many room : ℕ) (c : List ℕ) → restoreBytes b pool v k first many room ≡ accepted c
+    → length c ≡ many * blockSize
+unfolding restoreBytes Restore.restore Read.read
+restore-whole b pool v k first many room c e =
+    let x = bookOf b in
+    let f = unless-accepted (formNumber b) _ c e in
+    let p = unless-accepted (poolNumber b pool) _ c (f .1) in
+    let n = unless-accepted (keptNumber x v k) _ c (p .1) in
+    let r = unless-accepted (runNumber (x .sizes .l) first many room) _ c (n .1) in
+    reads-whole (Read.read x pool v k)
+    (λ l d g.
+    let t = unless-accepted (readNumber x v k l) (accepted (blockAt pool (image x v k l))) d g in
+    ap length (sym (accepted-same (blockAt pool (image x v k l)) d (t .1)))
+    ∙ length-part pool (image x v k l * 512) 512 (block-inside b pool v k l (record { form = f .0; pooled = p .0; there = t .0 })))
+    first many c (r .1)
+
+reply-whole : (spare : ℕ) (o : Ours) (a : Asked) → wholeReply (replyTo spare o a) ≡ true
+unfolding replyTo restoreReply
+reply-whole spare o (listed c) = answer-whole spare o c
+reply-whole spare o (restore v k first many) = go (restoredAt o v k first many (many * blockSize)) refl
+  where
+    go : (x : Outcome (List ℕ)) → restoredAt o v k first many (many * blockSize) ≡ x → wholeReply (restoreReply many x) ≡ true
+    go (refused n) e = refl
+    go (accepted c) e = eq-eqb _ _ (restore-whole (o .book) (o .pool) v k first many (many * blockSize) c e)
+
+pub answers-whole : (spare : ℕ) (o : Ours) (xs : List Asked) → all wholeReply (repliesOf spare o xs) ≡ true
 answers-whole spare o [] = refl
-answers-whole spare o (c ∷ cs) =
-    true-and (isWhole (ours spare o c .answer)) (all isWhole (answersOf (ours spare) (ours spare o c .next) cs)) (answer-whole spare o c)
-    (answers-whole spare (ours spare o c .next) cs)
+answers-whole spare o (a ∷ xs) =
+    true-and (wholeReply (replyTo spare o a)) (all wholeReply (repliesOf spare (nextAfter spare o a) xs)) (reply-whole spare o a)
+    (answers-whole spare (nextAfter spare o a) xs)

@@ -20,6 +20,7 @@ use Rattle.model.specs.OnBytes.{readNumberBytes, auditBytes, soundAfter}
 use Rattle.model.specs.Pool.{blockAt}
 use Rattle.model.specs.Read.{image}
 use Rattle.model.specs.Sides.{Step, Ours, ours, oursEnrolled, oursBacked, oursCollected, readAnswer, auditAnswer}
+use Rattle.calls.specs.Asked.{listed, replyTo, nextAfter}
 use Rattle.calls.specs.Answers.{answerBytes}
 use Rattle.calls.specs.Contracts.{at}
 use Rattle.calls.specs.Doing.{Did}
@@ -45,8 +46,8 @@ By s out to x y out′ r = (at x y ≡ s .next) × Stored out to (answerBytes (s
 
 module _ (spare : ℕ) (book : Lent (List ℕ)) (pool out : List ℕ) (to : ℕ) {out′ : List ℕ} {r : ℕ} where
   pub enrol-did : (v retention k : ℕ) → Enrolled book v retention k → Stored out to (0 ∷ two k) out′ r
-      → Did spare (was book) pool (enrol v retention) out to (is book) pool out′ r
-  unfolding ours oursEnrolled
+      → Did spare (was book) pool (listed (enrol v retention)) out to (is book) pool out′ r
+  unfolding replyTo nextAfter ours oursEnrolled
   enrol-did v retention k e s =
       let g = go (enrolBytes (was book) v retention) (e .number) (e .book) in record { next = g .0; answer = g .1 }
     where
@@ -57,8 +58,8 @@ module _ (spare : ℕ) (book : Lent (List ℕ)) (pool out : List ℕ) (to : ℕ)
 
   module _ (t : ℕ) (f : Lent ℕ) (k : ℕ) (e : Swept book t f k) where
     pub collect-refused : (k ≡ 0 → ⊥) → Stored out to (0 ∷ two k) out′ r
-        → Did spare (was book) pool (collect t) out to (is book) pool out′ r
-    unfolding ours oursCollected
+        → Did spare (was book) pool (listed (collect t)) out to (is book) pool out′ r
+    unfolding replyTo nextAfter ours oursCollected
     collect-refused h s = let g = go (collectBytes (was book) t) (e .number) (e .book) in record { next = g .0; answer = g .1 }
       where
         go : (o : Outcome CollectedBytes) → k ≡ numberOf o → is book ≡ after (λ d. d .book) o (was book)
@@ -67,8 +68,8 @@ module _ (spare : ℕ) (book : Lent (List ℕ)) (pool out : List ℕ) (to : ℕ)
         go (accepted d) n m = absurd (h n)
 
     pub collect-done : k ≡ 0 → Stored out to (2 ∷ two (now (f .exit))) out′ r
-        → Did spare (was book) pool (collect t) out to (is book) pool out′ r
-    unfolding ours oursCollected
+        → Did spare (was book) pool (listed (collect t)) out to (is book) pool out′ r
+    unfolding replyTo nextAfter ours oursCollected
     collect-done z s =
         let g =
         go (collectBytes (was book) t) (collect-proper (was book) t) (e .number) (e .book) (e .answer)
@@ -81,16 +82,18 @@ module _ (spare : ℕ) (book : Lent (List ℕ)) (pool out : List ℕ) (to : ℕ)
         go (accepted d) p n m a = (ap (λ (x : List ℕ). at x pool) m, rw a at s)
 
   module _ (f : Lent ℕ) (k : ℕ) (e : Audited book f k) where
-    pub audit-refused : (k ≡ 0 → ⊥) → Stored out to (0 ∷ two k) out′ r → Did spare (was book) pool audit out to (was book) pool out′ r
-    unfolding ours auditAnswer
+    pub audit-refused : (k ≡ 0 → ⊥) → Stored out to (0 ∷ two k) out′ r
+        → Did spare (was book) pool (listed audit) out to (was book) pool out′ r
+    unfolding replyTo nextAfter ours auditAnswer
     audit-refused h s = record { next = refl; answer = go (auditBytes (was book)) (e .number) }
       where
         go : (o : Outcome Bool) → k ≡ numberOf o → Stored out to (answerBytes (auditAnswer o)) out′ r
         go (refused j) n = rw n at s
         go (accepted d) n = absurd (h n)
 
-    pub audit-done : k ≡ 0 → Stored out to (4 ∷ two (now (f .exit))) out′ r → Did spare (was book) pool audit out to (was book) pool out′ r
-    unfolding ours auditAnswer
+    pub audit-done : k ≡ 0 → Stored out to (4 ∷ two (now (f .exit))) out′ r
+        → Did spare (was book) pool (listed audit) out to (was book) pool out′ r
+    unfolding replyTo nextAfter ours auditAnswer
     audit-done z s = record { next = refl; answer = go (auditBytes (was book)) (audit-proper (was book)) (e .number) (e .answer) }
       where
         go : (o : Outcome Bool) → Proper o → k ≡ numberOf o → now (f .exit) ≡ soundAfter o (now (f .entry))
@@ -101,8 +104,8 @@ module _ (spare : ℕ) (book : Lent (List ℕ)) (pool out : List ℕ) (to : ℕ)
 module _ (spare : ℕ) (book pool : Lent (List ℕ)) (out : List ℕ) (to v k lbn : ℕ) (p : Lent ℕ) (n : ℕ)
     (e : Located book pool v k lbn p n) {out′ : List ℕ} where
   pub read-refused : {r : ℕ} → (n ≡ 0 → ⊥) → Stored out to (0 ∷ two n) out′ r
-      → Did spare (was book) (was pool) (read v k lbn) out to (was book) (was pool) out′ r
-  unfolding ours readAnswer readNumberBytes
+      → Did spare (was book) (was pool) (listed (read v k lbn)) out to (was book) (was pool) out′ r
+  unfolding replyTo nextAfter ours readAnswer readNumberBytes
   read-refused {r} h s = record { next = refl; answer = go (readBytes (was book) (was pool) v k lbn) (e .number) }
     where
       go : (o : Outcome (List ℕ)) → n ≡ numberOf o → Stored out to (answerBytes (readAnswer o)) out′ r
@@ -111,8 +114,8 @@ module _ (spare : ℕ) (book pool : Lent (List ℕ)) (out : List ℕ) (to v k lb
 
   -- its block is stored as it is lent
   pub read-done : n ≡ 0 → out′ ≡ sets (set out to 3) (to + 1) (take (now (p .exit) + 512 - now (p .exit)) (drop (now (p .exit)) (was pool)))
-      → Did spare (was book) (was pool) (read v k lbn) out to (was book) (was pool) out′ (to + 1 + 512)
-  unfolding ours readAnswer
+      → Did spare (was book) (was pool) (listed (read v k lbn)) out to (was book) (was pool) out′ (to + 1 + 512)
+  unfolding replyTo nextAfter ours readAnswer
   read-done z s =
       let from = now (p .exit) in
       let i = read-is (was book) (was pool) v k lbn (located-readable book pool v k lbn p n e z) in
@@ -125,8 +128,8 @@ module _ (spare : ℕ) (book pool : Lent (List ℕ)) (out : List ℕ) (to v k lb
 module _ (book pool room : Lent (List ℕ)) (v t : ℕ) (list : Lent (List ℕ)) (n taken touched : Lent ℕ) (k : ℕ)
     (e : BackedUp book pool room v t list n taken touched k) (out : List ℕ) (to : ℕ) {out′ : List ℕ} {r : ℕ} where
   pub backup-refused : (k ≡ 0 → ⊥) → Stored out to (0 ∷ two k) out′ r
-      → Did (length (was room)) (was book) (was pool) (backup v t (was list)) out to (is book) (is pool) out′ r
-  unfolding ours oursBacked
+      → Did (length (was room)) (was book) (was pool) (listed (backup v t (was list))) out to (is book) (is pool) out′ r
+  unfolding replyTo nextAfter ours oursBacked
   backup-refused h s =
       let g =
       go (backupBytes (was book) (was pool) (length (was room)) v t (was list)) (e .refusal) (e .book) (e .stored)
@@ -140,8 +143,8 @@ module _ (book pool room : Lent (List ℕ)) (v t : ℕ) (list : Lent (List ℕ))
 
   pub backup-done : k ≡ 0
       → Stored out to (1 ∷ two (now (n .exit)) ++ (two (now (taken .exit)) ++ two (now (touched .exit)))) out′ r
-      → Did (length (was room)) (was book) (was pool) (backup v t (was list)) out to (is book) (is pool) out′ r
-  unfolding ours oursBacked
+      → Did (length (was room)) (was book) (was pool) (listed (backup v t (was list))) out to (is book) (is pool) out′ r
+  unfolding replyTo nextAfter ours oursBacked
   backup-done z s =
       let g =
       go (backupBytes (was book) (was pool) (length (was room)) v t (was list))

@@ -1,3 +1,4 @@
 pub mod Blocks
 pub mod AnswersLaid
 pub mod Doing
+pub mod Restoring

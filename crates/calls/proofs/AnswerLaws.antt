@@ -1,6 +1,6 @@
 -- Laws of specs/Answers.antt.
--- Answers in bytes: a tag, then numbers or a block; the longest answer that a call can have.
-use Prim.Native.Nat.{ℕ, zero, suc, _+_}
+-- Answers in bytes, read back: by the tag, numbers or blocks.
+use Prim.Native.Nat.{ℕ, zero, suc, _+_, _*_}
 use mathlib.Core.Bool.{Bool, true}
 use mathlib.Core.List.{List, [], _∷_}
 use lib.Dec.{eqb}
@@ -10,8 +10,7 @@ use Rattle.words.specs.Choice.{if_then_else_}
 use Rattle.words.specs.Numbers.{num}
 use Rattle.words.specs.Sections.{part}
 use Rattle.model.specs.Calls.{Answer, number, backed, freed, block, sound}
-
--- ---- read back
+use Rattle.calls.specs.Asked.{Reply, answer, run}
 
 abbrev pub answerIn : List ℕ → Answer
 answerIn b =
@@ -24,15 +23,26 @@ answerIn b =
 abbrev pub answerSize : List ℕ → ℕ
 answerSize b = if eqb (getD b 0 0) 1 then 7 else if eqb (getD b 0 0) 3 then 1 + blockSize else 3
 
--- the first n answers; a list of n calls has n
-abbrev pub answersIn : ℕ → List ℕ → List Answer
-answersIn zero b = []
-answersIn (suc n) b = answerIn b ∷ answersIn n (drop (answerSize b) b)
+-- the same of a restore's too
+abbrev pub replyIn : List ℕ → Reply
+replyIn b = if eqb (getD b 0 0) 5 then run (num b 1) (part b 3 (num b 1 * blockSize)) else answer (answerIn b)
 
--- a block that is an answer is whole
+abbrev pub replySize : List ℕ → ℕ
+replySize b = if eqb (getD b 0 0) 5 then 3 + num b 1 * blockSize else answerSize b
+
+-- the first n of them; a list of n calls has n
+abbrev pub repliesIn : ℕ → List ℕ → List Reply
+repliesIn zero b = []
+repliesIn (suc n) b = replyIn b ∷ repliesIn n (drop (replySize b) b)
+
+-- blocks that are an answer are whole
 abbrev pub isWhole : Answer → Bool
 isWhole (number k) = true
 isWhole (backed k taken touched) = true
 isWhole (freed k) = true
 isWhole (block b) = eqb (length b) blockSize
 isWhole (sound t) = true
+
+abbrev pub wholeReply : Reply → Bool
+wholeReply (answer a) = isWhole a
+wholeReply (run many blocks) = eqb (length blocks) (many * blockSize)

@@ -11,10 +11,10 @@ use lib.ListN.{length}
 use borrow.Author.Tests.{leb-false, lt-ltb, le-ltb, ltb-false}
 use Rattle.words.specs.Choice.{if_then_else_}
 use Rattle.words.specs.Outcome.{Outcome, refused, accepted, andThen, unless}
-use Rattle.model.specs.Calls.{Call}
+use Rattle.calls.specs.Asked.{Asked}
 use Rattle.model.specs.OnBytes.{numberOf}
 use Rattle.calls.specs.Coding.{callSize, isCall, callAt, before, callsFrom, callsOf}
-use Rattle.calls.specs.Answers.{longest, mostOf}
+use Rattle.calls.specs.Answers.{longestReply, mostOf}
 use Rattle.calls.specs.Contracts.{at, roomOf, roomNumber, playable, Played}
 use Rattle.calls.specs.Doing.{DidAll}
 use Rattle.calls.proofs.ReadingLaws.{calls-end, calls-broken, calls-more, calls-refused, good-accepted}
@@ -23,7 +23,7 @@ use Rattle.calls.proofs.Short.{answers-short}
 use Rattle.calls.specs.Bound.{addedTo}
 
 -- the number of the calls that are left, where those before them have answers of `most` bytes
-abbrev pub numberLeft : ℕ → ℕ → Outcome (List Call) → ℕ
+abbrev pub numberLeft : ℕ → ℕ → Outcome (List Asked) → ℕ
 numberLeft room most (refused k) = k
 numberLeft room most (accepted cs) = roomNumber room (most + mostOf cs)
 
@@ -58,21 +58,21 @@ module _ (room : ℕ) where
           let l = leb-false most room e in
           room-passed (most + (more + rest)) (omega arith) ∙ sym (room-passed (most + rest) (omega arith))
 
-  left-more : (most : ℕ) (c : Call) (o : Outcome (List Call))
-      → numberLeft room most (andThen o (before c)) ≡ numberLeft room (addedTo room most (longest c)) o
+  left-more : (most : ℕ) (c : Asked) (o : Outcome (List Asked))
+      → numberLeft room most (andThen o (before c)) ≡ numberLeft room (addedTo room most (longestReply c)) o
   left-more most c (refused k) = refl
-  left-more most c (accepted cs) = sum-more most (longest c) (mostOf cs)
+  left-more most c (accepted cs) = sum-more most (longestReply c) (mostOf cs)
 
   module _ (b : List ℕ) where
     pub number-begin : numberOf (playable b room) ≡ numberFrom room b 0 0
     unfolding playable callsOf
     number-begin = go (callsFrom (length b) b 0)
       where
-        clear : (k : ℕ) (cs : List Call) → numberOf (unless k (accepted cs)) ≡ k
+        clear : (k : ℕ) (cs : List Asked) → numberOf (unless k (accepted cs)) ≡ k
         clear zero cs = refl
         clear (suc k) cs = refl
 
-        go : (o : Outcome (List Call))
+        go : (o : Outcome (List Asked))
             → numberOf (andThen o (λ cs. unless (roomNumber room (mostOf cs)) (accepted cs))) ≡ numberLeft room 0 o
         go (refused k) = refl
         go (accepted cs) = clear (roomNumber room (mostOf cs)) cs ∙ ap (λ (k : ℕ). roomNumber room k) (sym (zero-add (mostOf cs)))
@@ -81,9 +81,9 @@ module _ (room : ℕ) where
     number-broken at most h e = rw (calls-broken b (length b) at h e)
 
     pub number-more : (at most : ℕ) → at < length b → isCall b at ≡ true
-        → numberFrom room b at most ≡ numberFrom room b (at + callSize b at) (addedTo room most (longest (callAt b at)))
+        → numberFrom room b at most ≡ numberFrom room b (at + callSize b at) (addedTo room most (longestReply (callAt b at)))
     number-more at most h e =
-        ap (λ (o : Outcome (List Call)). numberLeft room most o) (calls-more b (length b) at (omega arith) h e)
+        ap (λ (o : Outcome (List Asked)). numberLeft room most o) (calls-more b (length b) at (omega arith) h e)
         ∙ left-more most (callAt b at) (callsFrom (length b) b (at + callSize b at))
 
     pub number-end : (at most : ℕ) → length b ≤ at → numberFrom room b at most ≡ roomNumber room most
@@ -95,7 +95,7 @@ module _ (room : ℕ) where
     unfolding playable callsOf
     playable-good e = go (callsFrom (length b) b 0) refl (sym number-begin ∙ e)
       where
-        go : (o : Outcome (List Call)) → callsFrom (length b) b 0 ≡ o → numberLeft room 0 o ≡ 0
+        go : (o : Outcome (List Asked)) → callsFrom (length b) b 0 ≡ o → numberLeft room 0 o ≡ 0
             → Good b 0 × (mostOf (restOf b 0) ≤ room) × (playable b room ≡ accepted (restOf b 0))
         go (refused k) f z = absurd (let n = calls-refused b (length b) 0 k f in omega arith)
         go (accepted cs) f z =
@@ -109,7 +109,7 @@ module _ (calls out : List ℕ) (room : ℕ) (e : room ≡ roomOf (length out)) 
   pub played-refused : {w r : ℕ} → r ≡ numberOf (playable calls room) → (r ≡ 0 → ⊥) → Played spare b pool calls out w r b pool out w
   played-refused {w} {r} n h = go (playable calls (roomOf (length out))) refl (rw e at n)
     where
-      go : (o : Outcome (List Call)) → playable calls (roomOf (length out)) ≡ o → r ≡ numberOf o
+      go : (o : Outcome (List Asked)) → playable calls (roomOf (length out)) ≡ o → r ≡ numberOf o
           → Played spare b pool calls out w r b pool out w
       go (refused k) f m = record { number = rw f m; end = rw f; answers = rw f; written = rw f }
       go (accepted cs) f m = absurd (h m)
@@ -128,7 +128,7 @@ module _ (calls out : List ℕ) (room : ℕ) (e : room ≡ roomOf (length out)) 
         omega (arith, d .written, g .1)
 
 -- what was played, where the calls are known
-pub played-did : {spare w r w′ : ℕ} {b pool calls out b′ pool′ out′ : List ℕ} (cs : List Call)
+pub played-did : {spare w r w′ : ℕ} {b pool calls out b′ pool′ out′ : List ℕ} (cs : List Asked)
     → playable calls (roomOf (length out)) ≡ accepted cs
     → Played spare b pool calls out w r b′ pool′ out′ w′ → DidAll spare b pool cs out b′ pool′ out′ w′
 played-did cs e p = record { end = rw e at (p .end); answers = rw e at (p .answers); written = rw e at (p .written) }

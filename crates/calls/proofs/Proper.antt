@@ -19,7 +19,12 @@ use Rattle.model.specs.Backup.{begun, backupNumber}
 use Rattle.model.specs.Collect
 use Rattle.model.specs.Collect.{collectNumber}
 use Rattle.model.specs.Pool.{blockAt}
-use Rattle.model.specs.OnBytes.{numberOf, poolNumber, spareNumber, backupBytes, collectBytes, collectedBytes, auditBytes}
+use Rattle.model.specs.Kept.{keptNumber}
+use Rattle.model.specs.OnBytes.{numberOf, poolNumber, spareNumber, backupBytes, collectBytes, collectedBytes, restoreBytes, auditBytes}
+use Rattle.model.specs.Read
+use Rattle.model.specs.Read.{readNumber}
+use Rattle.model.specs.Restore
+use Rattle.model.specs.Restore.{runNumber, readsFrom}
 
 abbrev pub Proper : {A : Type 0} → Outcome A → Type 0
 Proper {A} o = (numberOf o ≡ 0) → (a : A) × (o ≡ accepted a)
@@ -94,3 +99,19 @@ backup-proper b pool spare v t list =
     (proper-then (runChanges v (t + retentionOf (bookOf b) v) (changes list) (begun (bookOf b) pool)) _
     (changes-proper v _ (changes list) _) (λ w. proper-accepted _)))
     (λ d. proper-accepted _))))
+
+reads-proper : (one : ℕ → Outcome (List ℕ)) → ((l : ℕ) → Proper (one l)) → (first many : ℕ) → Proper (readsFrom one first many)
+reads-proper one h first zero = proper-accepted []
+reads-proper one h first (suc m) =
+    proper-then (one first) _ (h first)
+    (λ b. proper-then (readsFrom one (suc first) m) _ (reads-proper one h (suc first) m) (λ rest. proper-accepted _))
+
+pub restore-proper : (b pool : List ℕ) (v k first many room : ℕ) → Proper (restoreBytes b pool v k first many room)
+unfolding restoreBytes Restore.restore Read.read
+restore-proper b pool v k first many room =
+    let x = bookOf b in
+    proper-unless (formNumber b) _
+    (proper-unless (poolNumber b pool) _
+    (proper-unless (keptNumber x v k) _
+    (proper-unless (runNumber (x .sizes .l) first many room) _
+    (reads-proper (Read.read x pool v k) (λ l. proper-unless (readNumber x v k l) _ (proper-accepted _)) first many))))

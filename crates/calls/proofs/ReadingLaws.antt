@@ -14,7 +14,8 @@ use Rattle.words.proofs.ChoiceLaws.{and-true, same-test}
 use Rattle.words.specs.Numbers.{num}
 use Rattle.words.specs.Outcome.{Outcome, refused, accepted, andThen}
 use Rattle.words.specs.Sections.{part}
-use Rattle.model.specs.Calls.{Call, enrol, backup, collect, read, audit}
+use Rattle.model.specs.Calls.{enrol, backup, collect, read, audit}
+use Rattle.calls.specs.Asked.{Asked, listed, restore}
 use Rattle.calls.specs.Coding.{dataSize, callSize, unusedZeroAt, callOf, isCall, callAt, before, callsFrom}
 use Rattle.calls.specs.Reading.{restOf, Good}
 
@@ -45,7 +46,7 @@ module _ (b : List ℕ) where
           → (if t then accepted [] else if u then andThen (callsFrom m b (at + callSize b at)) (before (callAt b at)) else refused 19)
           ≡ (if t then accepted [] else if u then andThen (callsFrom n b (at + callSize b at)) (before (callAt b at)) else refused 19)
       go true u e = refl
-      go false true e = ap (λ (o : Outcome (List Call)). andThen o (before (callAt b at))) e
+      go false true e = ap (λ (o : Outcome (List Asked)). andThen o (before (callAt b at))) e
       go false false e = refl
 
   -- a call, and the calls behind it
@@ -55,20 +56,20 @@ module _ (b : List ℕ) where
   calls-more (suc n) at h l e =
       let s = size-some at in
       rw (lt-leb (length b) at l, e)
-      (ap (λ (o : Outcome (List Call)). andThen o (before (callAt b at)))
+      (ap (λ (o : Outcome (List Asked)). andThen o (before (callAt b at)))
       (bound-same n (suc n) (at + callSize b at) (omega arith) (omega arith)))
 
   -- bytes that are no list are refused by 19
   pub calls-refused : (n at k : ℕ) → callsFrom n b at ≡ refused k → k ≡ 19
   calls-refused zero at k e = go (leb (length b) at) e
     where
-      go : (t : Bool) → _≡_ {A = Outcome (List Call)} (if t then accepted [] else refused 19) (refused k) → k ≡ 19
+      go : (t : Bool) → _≡_ {A = Outcome (List Asked)} (if t then accepted [] else refused 19) (refused k) → k ≡ 19
       go true f = absurd (refused-not k [] (sym f))
       go false f = cc
   calls-refused (suc n) at k e =
       go (leb (length b) at) (isCall b at) (callsFrom n b (at + callSize b at)) (calls-refused n (at + callSize b at)) e
     where
-      go : (t u : Bool) (o : Outcome (List Call)) → ((j : ℕ) → o ≡ refused j → j ≡ 19)
+      go : (t u : Bool) (o : Outcome (List Asked)) → ((j : ℕ) → o ≡ refused j → j ≡ 19)
           → (if t then accepted [] else if u then andThen o (before (callAt b at)) else refused 19) ≡ refused k → k ≡ 19
       go true u o ih f = absurd (refused-not k [] (sym f))
       go false true (refused j) ih f = ih k f
@@ -77,7 +78,7 @@ module _ (b : List ℕ) where
 
   -- ---- the calls from an offset on, and that they are calls to the end
 
-  pub good-accepted : (at : ℕ) (cs : List Call) → callsFrom (length b) b at ≡ accepted cs → Good b at × (restOf b at ≡ cs)
+  pub good-accepted : (at : ℕ) (cs : List Asked) → callsFrom (length b) b at ≡ accepted cs → Good b at × (restOf b at ≡ cs)
   good-accepted at cs e = (rw e, rw e)
 
   pub rest-end : (at : ℕ) → length b ≤ at → restOf b at ≡ []
@@ -100,7 +101,7 @@ module _ (b : List ℕ) where
           in
           let k = good-accepted (at + callSize b at) (t .0) (t .1) in
           let same : callAt b at ∷ t .0 ≡ restOf b at = let z = t .2 in cc in
-          record { is = e; split = sym same ∙ ap (λ (cs : List Call). callAt b at ∷ cs) (sym (k .1)); good = k .0 }
+          record { is = e; split = sym same ∙ ap (λ (cs : List Asked). callAt b at ∷ cs) (sym (k .1)); good = k .0 }
 
   -- ---- a call
 
@@ -154,23 +155,29 @@ module _ (b : List ℕ) where
     abbrev kind : ℕ
     kind = getD b at 0
 
-    pub call-enrol : kind ≡ 0 → callAt b at ≡ enrol (num b (at + 2)) (num b (at + 4))
+    pub call-enrol : kind ≡ 0 → callAt b at ≡ listed (enrol (num b (at + 2)) (num b (at + 4)))
     unfolding callAt callOf
     call-enrol e = rw (eq-eqb kind 0 e)
 
-    pub call-backup : (kind ≡ 0 → ⊥) → kind ≡ 1 → callAt b at ≡ backup (num b (at + 2)) (num b (at + 4)) (part b (at + 14) (dataSize b at))
+    pub call-backup : (kind ≡ 0 → ⊥) → kind ≡ 1
+        → callAt b at ≡ listed (backup (num b (at + 2)) (num b (at + 4)) (part b (at + 14) (dataSize b at)))
     unfolding callAt callOf
     call-backup m e = rw (ne-eqb kind 0 m, eq-eqb kind 1 e)
 
-    pub call-collect : (kind ≡ 0 → ⊥) → (kind ≡ 1 → ⊥) → kind ≡ 2 → callAt b at ≡ collect (num b (at + 2))
+    pub call-collect : (kind ≡ 0 → ⊥) → (kind ≡ 1 → ⊥) → kind ≡ 2 → callAt b at ≡ listed (collect (num b (at + 2)))
     unfolding callAt callOf
     call-collect m n e = rw (ne-eqb kind 0 m, ne-eqb kind 1 n, eq-eqb kind 2 e)
 
     pub call-read : (kind ≡ 0 → ⊥) → (kind ≡ 1 → ⊥) → (kind ≡ 2 → ⊥) → kind ≡ 3
-        → callAt b at ≡ read (num b (at + 2)) (num b (at + 4)) (num b (at + 6))
+        → callAt b at ≡ listed (read (num b (at + 2)) (num b (at + 4)) (num b (at + 6)))
     unfolding callAt callOf
     call-read m n o e = rw (ne-eqb kind 0 m, ne-eqb kind 1 n, ne-eqb kind 2 o, eq-eqb kind 3 e)
 
-    pub call-audit : (kind ≡ 0 → ⊥) → (kind ≡ 1 → ⊥) → (kind ≡ 2 → ⊥) → (kind ≡ 3 → ⊥) → callAt b at ≡ audit
+    pub call-restore : (kind ≡ 0 → ⊥) → (kind ≡ 1 → ⊥) → (kind ≡ 2 → ⊥) → (kind ≡ 3 → ⊥) → kind ≡ 5
+        → callAt b at ≡ restore (num b (at + 2)) (num b (at + 4)) (num b (at + 6)) (num b (at + 8))
     unfolding callAt callOf
-    call-audit m n o p = rw (ne-eqb kind 0 m, ne-eqb kind 1 n, ne-eqb kind 2 o, ne-eqb kind 3 p)
+    call-restore m n o p e = rw (ne-eqb kind 0 m, ne-eqb kind 1 n, ne-eqb kind 2 o, ne-eqb kind 3 p, eq-eqb kind 5 e)
+
+    pub call-audit : (kind ≡ 0 → ⊥) → (kind ≡ 1 → ⊥) → (kind ≡ 2 → ⊥) → (kind ≡ 3 → ⊥) → (kind ≡ 5 → ⊥) → callAt b at ≡ listed audit
+    unfolding callAt callOf
+    call-audit m n o p q = rw (ne-eqb kind 0 m, ne-eqb kind 1 n, ne-eqb kind 2 o, ne-eqb kind 3 p, ne-eqb kind 5 q)

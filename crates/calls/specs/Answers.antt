@@ -1,5 +1,5 @@
--- Answers in bytes: a tag, then numbers or a block; the longest answer that a call can have.
-use Prim.Native.Nat.{ℕ, _+_}
+-- Answers in bytes: a tag, then numbers or blocks; the longest answer that a call can have.
+use Prim.Native.Nat.{ℕ, _+_, _*_}
 use mathlib.Core.List.{List, _∷_, _++_, map}
 use lib.Dec.{eqb}
 use Rattle.words.specs.Blocks.{blockSize}
@@ -7,6 +7,7 @@ use Rattle.words.specs.Choice.{if_then_else_}
 use Rattle.words.specs.Lists.{sum}
 use Rattle.words.specs.Numbers.{two}
 use Rattle.model.specs.Calls.{Call, enrol, backup, collect, read, audit, Answer, number, backed, freed, block, sound}
+use Rattle.calls.specs.Asked.{Asked, listed, restore, Reply, answer, run}
 
 -- "tag byte 0 number, 1 backed, 2 freed, 3 block, 4 sound, then the numbers as u16 or the 512 bytes"
 abbrev pub answerBytes : Answer → List ℕ
@@ -16,7 +17,13 @@ answerBytes (freed k) = 2 ∷ two k
 answerBytes (block b) = 3 ∷ b
 answerBytes (sound t) = 4 ∷ two (if t then 1 else 0)
 
--- ---- "the longest that these calls can give": 3 for enrol, collect and audit, 7 for a backup, 513 for a read
+-- "5 run, then how many blocks as u16 and these"
+abbrev pub replyBytes : Reply → List ℕ
+replyBytes (answer a) = answerBytes a
+replyBytes (run many blocks) = 5 ∷ two many ++ blocks
+
+-- ---- "the longest that these calls can give": 3 for enrol, collect and audit, 7 for a backup, 513 for a read, and for a restore 3 and
+-- its blocks
 
 abbrev pub longest : Call → ℕ
 longest (enrol v r) = 3
@@ -25,9 +32,17 @@ longest (collect t) = 3
 longest (read v k lbn) = 1 + blockSize
 longest audit = 3
 
-abbrev pub mostOf : List Call → ℕ
-mostOf cs = sum (map longest cs)
+abbrev pub longestReply : Asked → ℕ
+longestReply (listed c) = longest c
+longestReply (restore v k first many) = 3 + many * blockSize
 
--- the same by the kind in the call's head
-unfoldable pub longestOf : ℕ → ℕ
-longestOf kind = if eqb kind 1 then 7 else if eqb kind 3 then 1 + blockSize else 3
+abbrev pub mostOf : List Asked → ℕ
+mostOf xs = sum (map longestReply xs)
+
+-- the same by the kind in the call's head, and its last argument
+unfoldable pub longestOf : ℕ → ℕ → ℕ
+longestOf kind d =
+    if eqb kind 1 then 7 else
+    if eqb kind 3 then 1 + blockSize else
+    if eqb kind 5 then 3 + d * blockSize else
+    3

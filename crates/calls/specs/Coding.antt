@@ -8,7 +8,8 @@ use Rattle.words.specs.Choice.{if_then_else_}
 use Rattle.words.specs.Numbers.{num}
 use Rattle.words.specs.Outcome.{Outcome, refused, accepted, andThen}
 use Rattle.words.specs.Sections.{part}
-use Rattle.model.specs.Calls.{Call, enrol, backup, collect, read, audit}
+use Rattle.model.specs.Calls.{enrol, backup, collect, read, audit}
+use Rattle.calls.specs.Asked.{Asked, listed, restore}
 
 -- ---- a head: "kind u8, a zero byte, four u16 arguments a b c d, u32 length of the data"
 
@@ -30,17 +31,19 @@ unusedZero kind a b c d size =
     if eqb kind 2 then eqb b 0 && eqb c 0 && eqb d 0 && eqb size 0 else
     if eqb kind 3 then eqb d 0 && eqb size 0 else
     if eqb kind 4 then eqb a 0 && eqb b 0 && eqb c 0 && eqb d 0 && eqb size 0 else
+    if eqb kind 5 then eqb size 0 else
     false
 
 -- "0 enrol (a volume, b retention), 1 backup (a volume, b day; the data is the change list), 2 collect (a day), 3 read (a volume, b number,
--- c LBN), 4 audit"
-unfoldable pub callOf : ℕ → ℕ → ℕ → ℕ → List ℕ → Call
-callOf kind a b c list =
-    if eqb kind 0 then enrol a b else
-    if eqb kind 1 then backup a b list else
-    if eqb kind 2 then collect a else
-    if eqb kind 3 then read a b c else
-    audit
+-- c LBN), 4 audit, 5 restore (a volume, b number, c first LBN, d length)"
+unfoldable pub callOf : ℕ → ℕ → ℕ → ℕ → ℕ → List ℕ → Asked
+callOf kind a b c d list =
+    if eqb kind 0 then listed (enrol a b) else
+    if eqb kind 1 then listed (backup a b list) else
+    if eqb kind 2 then listed (collect a) else
+    if eqb kind 3 then listed (read a b c) else
+    if eqb kind 5 then restore a b c d else
+    listed audit
 
 -- ---- the call at an offset
 
@@ -51,16 +54,17 @@ unusedZeroAt b at = unusedZero (getD b at 0) (num b (at + 2)) (num b (at + 4)) (
 unfoldable pub isCall : List ℕ → ℕ → Bool
 isCall b at = leb (at + headSize) (length b) && eqb (getD b (at + 1) 0) 0 && unusedZeroAt b at && leb (at + callSize b at) (length b)
 
-unfoldable pub callAt : List ℕ → ℕ → Call
-callAt b at = callOf (getD b at 0) (num b (at + 2)) (num b (at + 4)) (num b (at + 6)) (part b (at + headSize) (dataSize b at))
+unfoldable pub callAt : List ℕ → ℕ → Asked
+callAt b at =
+    callOf (getD b at 0) (num b (at + 2)) (num b (at + 4)) (num b (at + 6)) (num b (at + 8)) (part b (at + headSize) (dataSize b at))
 
 -- ---- a list of calls; 19: the bytes are none
 
-abbrev pub before : Call → List Call → Outcome (List Call)
-before c cs = accepted (c ∷ cs)
+abbrev pub before : Asked → List Asked → Outcome (List Asked)
+before a xs = accepted (a ∷ xs)
 
 -- the calls from an offset to the end, n at most
-abbrev pub callsFrom : ℕ → List ℕ → ℕ → Outcome (List Call)
+abbrev pub callsFrom : ℕ → List ℕ → ℕ → Outcome (List Asked)
 callsFrom zero b at = if leb (length b) at then accepted [] else refused 19
 callsFrom (suc n) b at =
     if leb (length b) at then accepted [] else
@@ -68,5 +72,5 @@ callsFrom (suc n) b at =
     refused 19
 
 -- no list has more calls than bytes
-unfoldable pub callsOf : List ℕ → Outcome (List Call)
+unfoldable pub callsOf : List ℕ → Outcome (List Asked)
 callsOf b = callsFrom (length b) b 0

@@ -1,3 +1,4 @@
+pub mod Asked
 pub mod Coding
 pub mod Reading
 pub mod Answers

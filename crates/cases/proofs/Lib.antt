@@ -6,4 +6,5 @@ pub mod LongRuns
 pub mod Refusals
 pub mod Audits
 pub mod Examples
+pub mod Restores
 pub mod Shown

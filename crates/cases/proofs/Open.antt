@@ -11,6 +11,8 @@ use Rattle.model.specs.Enrol
 use Rattle.model.specs.Backup
 use Rattle.model.specs.Collect
 use Rattle.model.specs.Read
+use Rattle.model.specs.Kept
+use Rattle.model.specs.Restore
 use Rattle.model.specs.Audit
 use Rattle.model.specs.OnBytes
 use Rattle.model.specs.Views
@@ -38,11 +40,13 @@ unfolding
     Backup.backup
     Collect.collectNumber Collect.isOver Collect.sweptEntry Collect.collected Collect.collect
     Read.image Read.readNumber Read.read
+    Kept.keptNumber Restore.runNumber Restore.restore
     Audit.noMaps Audit.mapsSound Audit.countSound Audit.expirySound Audit.printsSound Audit.cellSound Audit.currentSound Audit.backupSound
     Audit.backupsSound Audit.audit
     OnBytes.poolNumber OnBytes.spareNumber OnBytes.formatNumber OnBytes.formatBytes OnBytes.enrolBytes
     OnBytes.backedBytes OnBytes.backupBytes
-    OnBytes.collectedBytes OnBytes.collectBytes OnBytes.readBytes OnBytes.readNumberBytes OnBytes.readPlaceBytes OnBytes.auditBytes
+    OnBytes.collectedBytes OnBytes.collectBytes OnBytes.readBytes OnBytes.readNumberBytes OnBytes.readPlaceBytes
+    OnBytes.restoreBytes OnBytes.auditBytes
     Views.enrolledNumber Views.outputNumber Views.usedOf Views.volumeOf Views.backupsOf Views.cellsOf Views.blocksOf Views.sizesBytes
     Views.usedBytes Views.volumeBytes Views.withRoom Views.backupsBytes Views.cellsBytes Views.blocksBytes
     Plain.unenrolled Plain.start Plain.atDay Plain.withBlocks Plain.withVolume Plain.currentMaps Plain.enrolNumber Plain.enrol Plain.marked
@@ -54,6 +58,6 @@ unfolding
     Sides.readAnswer Sides.auditAnswer Sides.oursEnrolled Sides.oursBacked Sides.oursCollected Sides.ours
     Sides.plainEnrolled Sides.plainBacked Sides.plainCollected Sides.plain Sides.oursShown Sides.plainShown
     History.noHistory History.withEnrol History.withSent History.historyOf History.dayOf History.sentBlock History.historyNumber
-    History.historyRead
+    History.historyRead History.historyRunNumber History.historyRestore
     Claims.changesName
 model = 0

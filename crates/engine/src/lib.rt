@@ -8,4 +8,5 @@ pub mod format;
 pub mod in_form;
 pub mod listing;
 pub mod read;
+pub mod restore;
 pub mod sizes;

@@ -3,14 +3,16 @@ ghost use mathlib.Core.Path.{_≡_};
 ghost use Prim.Native.Nat.{_≤_};
 ghost use Rattle.model.specs.OnBytes.{numberOf};
 ghost use Rattle.calls.specs.Answers.{longestOf};
-ghost use Rattle.calls.specs.Bound.{addedTo};
+ghost use Rattle.calls.specs.Bound.{mostAnswer, addedTo};
 ghost use Rattle.calls.specs.Contracts.{roomOf, playable};
 use super::head::BACKUP;
 use super::head::READ;
+use super::head::RESTORE;
 use super::head::call_end;
 use super::head::is_call;
 use words::BLOCK_SIZE;
 use words::refusals;
+use words::u16_at;
 
 // The most bytes of answers: their length is told in 32 bits.
 const MOST_ROOM: usize = 4294967295;
@@ -24,9 +26,9 @@ pub fn room_of(n: usize) -> usize
     MOST_ROOM
 }
 
-// The bytes of the longest answer that a call of this kind can have.
-fn longest(kind: u8) -> usize
-    ensures { λ r. ⌜ (r ≡ longestOf kind) × (r ≤ 513) ⌝ }
+// The bytes of the longest answer that a call of this kind can have, whose last argument is d.
+fn longest(kind: u8, d: u16) -> usize
+    ensures { λ r. ⌜ (r ≡ longestOf kind d) × (r ≤ mostAnswer) ⌝ }
 {
     if kind == BACKUP {
         return 7;
@@ -34,12 +36,15 @@ fn longest(kind: u8) -> usize
     if kind == READ {
         return 1 + BLOCK_SIZE;
     }
+    if kind == RESTORE {
+        return 3 + (d as usize) * BLOCK_SIZE;
+    }
     3
 }
 
 // A sum that stops once it passes the room.
 fn added(room: usize, most: usize, more: usize) -> usize
-    requires { ⌜ (room ≤ 4294967295) × (more ≤ 513) ⌝ }
+    requires { ⌜ (room ≤ 4294967295) × (more ≤ mostAnswer) ⌝ }
     ensures { λ r. ⌜ r ≡ addedTo room most more ⌝ }
 {
     if most <= room {
@@ -59,7 +64,8 @@ pub fn check(calls: &[u8], room: usize) -> u16
         if !is_call(calls, at) {
             return refusals::BAD_INPUT;
         }
-        most = added(room, most, longest(calls[at]));
+        let d = u16_at(calls, at + 8);
+        most = added(room, most, longest(calls[at], d));
         at = call_end(calls, at);
     }
     if room < most {

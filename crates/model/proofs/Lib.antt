@@ -1,3 +1,4 @@
+pub mod RestoreCases
 pub mod kept
 pub mod claims
 pub mod views

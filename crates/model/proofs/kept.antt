@@ -13,3 +13,4 @@ pub mod KeptHeld
 pub mod JournalAtLaws
 pub mod KeptNumbers
 pub mod KeptBefores
+pub mod RestoreLaws

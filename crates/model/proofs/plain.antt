@@ -9,3 +9,4 @@ pub mod PlainRecallsBackup
 pub mod PlainRecallsOthers
 pub mod PlainHistory
 pub mod PlainReads
+pub mod HistoryRestores

@@ -10,7 +10,7 @@ use lib.Dec.{leb, eqb}
 use Rattle.words.specs.Blocks.{unmapped}
 use Rattle.words.specs.Choice.{if_then_else_}
 use Rattle.words.specs.Lists.{all, someOf, countOf, joined}
-use Rattle.words.specs.Outcome.{accepted}
+use Rattle.words.specs.Outcome.{Outcome, accepted}
 use Rattle.runs.specs.Changes.{lbns, changeCount}
 use Rattle.book.specs.Book.{volumes, Sizes, Entry, Rec, Book, entryAt, isFree, cellAt, retentionOf}
 use Rattle.book.specs.Layout.{bookSize, bookOf}
@@ -20,11 +20,11 @@ use Rattle.model.specs.Journal.{Backup, journal, days}
 use Rattle.model.specs.Backup.{Backed}
 use Rattle.model.specs.Read.{image}
 use Rattle.model.specs.Audit.{applied, replayed, noMaps, untilIn}
-use Rattle.model.specs.OnBytes.{formatBytes}
+use Rattle.model.specs.OnBytes.{formatBytes, restoreBytes}
 use Rattle.model.specs.Plain.{Plain, start, volumeAt, current, marked}
 use Rattle.model.specs.Calls.{Call, backup, collect, read, audit, Answer, number, backed, freed, block, sound, isBacked}
 use Rattle.model.specs.Sides.{answersOf, endOf, Ours, ours, plain, oursShown, plainShown}
-use Rattle.model.specs.History.{historyOf, dayOf, historyRead}
+use Rattle.model.specs.History.{historyOf, dayOf, historyRead, historyRestore}
 
 -- "one fresh book (as an accepted format of any sizes leaves it) and its pool (any bytes at first) with a spare long enough"
 pub record Fresh : Type 0 where
@@ -97,11 +97,18 @@ pub record Lists (f : Fresh) (cs : List Call) : Type 0 where
       → p < f .sizes .n → changesName (plainEnd f before) v t list p ≡ false
       → entryAfter f before (backup v t list) p ≡ entryBefore f before p
 
--- ---- the claim about reads: every answer, bytes or number, is worked out from what the volume sent
+-- ---- the claim about reads: every answer, bytes or number, is worked out from what the volume sent; and so is a restore's (document 02,
+-- K2), which changes nothing and isn't among the calls of a list
+
+-- where the box stands, on an output of `room` bytes
+abbrev pub restoredAt : Ours → ℕ → ℕ → ℕ → ℕ → ℕ → Outcome (List ℕ)
+restoredAt o v k first many room = restoreBytes (o .book) (o .pool) v k first many room
 
 pub record Images (f : Fresh) (cs : List Call) : Type 0 where
   pub reads : (v k lbn : ℕ)
       → ourAnswer f cs (read v k lbn) ≡ historyRead (f .sizes .l) (historyOf v cs (ourAnswers f cs)) (dayOf cs (ourAnswers f cs)) k lbn
+  pub restores : (v k first many room : ℕ) → restoredAt (ourEnd f cs) v k first many room
+      ≡ historyRestore (f .sizes .l) (historyOf v cs (ourAnswers f cs)) (dayOf cs (ourAnswers f cs)) k first many room
 
 -- ---- what follows
 
@@ -148,6 +155,9 @@ pub record PowerCut (f : Fresh) (cs : List Call) (o : Ours) : Type 0 where
   pub leaves : (c : Call) → Serves o (ours (f .spare) o c .next .pool)
   -- all goes on as in the plain store that was given these calls
   pub answers : (ds : List Call) → answersOf (ours (f .spare)) o ds ≡ answersOf plain (plainEnd f cs) ds
+  -- and a restore gives what the volumes sent in them
+  pub restores : (v k first many room : ℕ) → restoredAt o v k first many room
+      ≡ historyRestore (f .sizes .l) (historyOf v cs (plainAnswers f cs)) (dayOf cs (plainAnswers f cs)) k first many room
 
 -- ---- what the numbers in the answer of every accepted backup count, of every book, in form or not (`backup-counted`)
 

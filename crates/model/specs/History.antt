@@ -1,13 +1,15 @@
--- What a read owes, worked out from what the volume sent and from days alone: no block number, no other volume, no pool.
-use Prim.Native.Nat.{ℕ}
+-- What a read and a restore owe, worked out from what the volume sent and from days alone: no block number, no other volume, no pool.
+use Prim.Native.Nat.{ℕ, _+_, _*_}
 use mathlib.Core.Bool.{Bool, true, false, not, _&&_, _||_}
 use mathlib.Core.List.{List, [], _∷_, _++_, map}
 use mathlib.Core.Option.{Option, none, some}
 use lib.ListN.{length, take}
 use lib.Dec.{leb, ltb, eqb}
+use Rattle.words.specs.Blocks.{blockSize}
 use Rattle.words.specs.Choice.{if_then_else_}
-use Rattle.words.specs.Lists.{orElse, joined}
-use Rattle.words.specs.Outcome.{accepted, unless}
+use Rattle.words.specs.Lists.{someOf, orElse, joined, upFrom}
+use Rattle.words.specs.Outcome.{Outcome, accepted, unless}
+use Rattle.words.specs.Sections.{flat}
 use Rattle.runs.specs.Changes.{Change, changes}
 use Rattle.model.specs.Days.{kept}
 use Rattle.model.specs.Calls.{Call, enrol, backup, collect, read, audit, Answer, isZero, isBacked, isFreed}
@@ -97,3 +99,19 @@ historyNumber l h d k lbn =
 
 unfoldable pub historyRead : ℕ → History → ℕ → ℕ → ℕ → Answer
 historyRead l h d k lbn = readAnswer (unless (historyNumber l h d k lbn) (accepted (blockOr [] (sentBlock h k lbn))))
+
+-- ---- the restore (document 02, K2), of `many` blocks from LBN `first` on into an output of `room` bytes
+
+-- 5, 15, 16, 21, and 18 where one of them was never sent
+unfoldable pub historyRunNumber : ℕ → History → ℕ → ℕ → ℕ → ℕ → ℕ → ℕ
+historyRunNumber l h d k first many room =
+    if eqb (h .retention) 0 then 5 else
+    if eqb k 0 || ltb (length (h .sent)) k then 15 else
+    if not (kept (map (λ (s : Sent). s .day) (h .sent)) (h .retention) d k) then 16 else
+    if ltb l (first + many) || ltb room (many * blockSize) then 21 else
+    if someOf (λ lbn. isNone (sentBlock h k lbn)) (upFrom first many) then 18 else
+    0
+
+unfoldable pub historyRestore : ℕ → History → ℕ → ℕ → ℕ → ℕ → ℕ → Outcome (List ℕ)
+historyRestore l h d k first many room =
+    unless (historyRunNumber l h d k first many room) (accepted (flat (λ lbn. blockOr [] (sentBlock h k lbn)) (upFrom first many)))

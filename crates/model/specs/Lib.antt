@@ -6,6 +6,7 @@ pub mod Backup
 pub mod Collect
 pub mod Read
 pub mod Kept
+pub mod Restore
 pub mod Audit
 pub mod OnBytes
 pub mod Views

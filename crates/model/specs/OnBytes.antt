@@ -16,6 +16,7 @@ use Rattle.model.specs.Enrol.{enrol}
 use Rattle.model.specs.Backup.{Backed, backup}
 use Rattle.model.specs.Collect.{Collected, collect}
 use Rattle.model.specs.Read.{image, read}
+use Rattle.model.specs.Restore.{restore}
 use Rattle.model.specs.Audit.{audit}
 
 -- ---- what stands after a call: "A refusal gives its number only; nothing but the spare may change"
@@ -106,6 +107,13 @@ blockAfter o = after (λ a. a) o []
 -- where the block starts in the pool
 unfoldable pub readPlaceBytes : List ℕ → List ℕ → ℕ → ℕ → ℕ → Outcome ℕ
 readPlaceBytes b pool v k lbn = unless (readNumberBytes b pool v k lbn) (accepted (image (bookOf b) v k lbn * blockSize))
+
+-- ---- restore (document 02, K2)
+
+-- book, pool, volume, number, first LBN, length, length of the output
+unfoldable pub restoreBytes : List ℕ → List ℕ → ℕ → ℕ → ℕ → ℕ → ℕ → Outcome (List ℕ)
+restoreBytes b pool v k first many room =
+    unless (formNumber b) (unless (poolNumber b pool) (restore (bookOf b) pool v k first many room))
 
 -- ---- audit
 

@@ -14,7 +14,7 @@ use Rattle.model.specs.Claims.{Fresh}
 use Rattle.model.specs.OnBytes.{numberOf, formatNumber, formatBytes}
 use Rattle.model.specs.Pool.{poolSize}
 use Rattle.calls.proofs.BoundLaws.{played-did}
-use Rattle.calls.proofs.ChainLaws.{as-plain, goes-on}
+use Rattle.calls.proofs.ChainLaws.{as-plain, played-on}
 use Rattle.calls.specs.Chain.{freshPlayable, PlayedFresh}
 use Rattle.calls.specs.Contracts.{roomOf, playable, Played}
 use Rattle.setup.specs.Contracts.{Formatted}
@@ -42,7 +42,7 @@ module _ (book : Lent (List ℕ)) (pool spare calls out : List ℕ) (n l s j : �
   unfolding freshPlayable
   fresh-refused h =
       let e = unless-refused (formatNumber b z) (playable calls (roomOf (length out))) (λ q. h (format-number ∙ q)) in
-      record { number = format-number ∙ sym (ap numberOf e); played = λ cs a m n. absurd (refused-not (formatNumber b z) cs (sym e ∙ a)) }
+      record { number = format-number ∙ sym (ap numberOf e); played = λ xs a m n. absurd (refused-not (formatNumber b z) xs (sym e ∙ a)) }
 
   module _ (zero₀ : k ≡ 0) where
     -- as the format leaves it
@@ -68,7 +68,7 @@ module _ (book : Lent (List ℕ)) (pool spare calls out : List ℕ) (n l s j : �
         in
         record {
           number = p .number ∙ sym (ap numberOf e);
-          played = λ cs a h m.
-              let d = played-did cs (sym e ∙ a) p in
-              (as-plain (fresh-book h m) cs d, rw (d .end) (goes-on (fresh-book h m) cs));
+          played = λ xs a h m.
+              let d = played-did xs (sym e ∙ a) p in
+              (as-plain (fresh-book h m) xs d, played-on (fresh-book h m) xs (d .end));
         }

@@ -4,7 +4,7 @@ ghost use mathlib.Core.Bool.{true};
 ghost use Prim.Native.Nat.{_+_, _≤_};
 ghost use lib.ListN.{length};
 ghost use Rattle.calls.specs.Coding.{isCall, callAt};
-ghost use Rattle.calls.specs.Answers.{longest, mostOf};
+ghost use Rattle.calls.specs.Answers.{longestReply, mostOf};
 ghost use Rattle.calls.specs.Lending.{PlayedLent};
 ghost use Rattle.calls.specs.Doing.{DidLent, DidAllLent};
 ghost use Rattle.calls.specs.Reading.{restOf, Good, backupCall};
@@ -13,6 +13,7 @@ use answers::answer_backup;
 use answers::answer_collect;
 use answers::answer_enrol;
 use answers::answer_read;
+use answers::answer_restore;
 use heads::checking::check;
 use heads::checking::room_of;
 use heads::head::BACKUP;
@@ -20,6 +21,7 @@ use heads::head::COLLECT;
 use heads::head::ENROL;
 use heads::head::HEAD_SIZE;
 use heads::head::READ;
+use heads::head::RESTORE;
 use heads::head::call_end;
 use heads::head::data_size;
 use words::u16_at;
@@ -63,7 +65,7 @@ fn play_call(
     answers: &mut [u8],
     to: usize,
 ) -> usize
-    requires { ⌜ (isCall (now calls) at ≡ true) × (to + longest (callAt (now calls) at) ≤ length (now answers)) ⌝ }
+    requires { ⌜ (isCall (now calls) at ≡ true) × (to + longestReply (callAt (now calls) at) ≤ length (now answers)) ⌝ }
     ensures { λ r. ⌜ DidLent book pool spare (callAt (now (calls .entry)) at) answers to r ⌝ }
 {
     let kind = calls[at];
@@ -81,6 +83,10 @@ fn play_call(
     }
     if kind == READ {
         return answer_read(book, pool, a, b, c, answers, to);
+    }
+    if kind == RESTORE {
+        let d = u16_at(calls, at + 8);
+        return answer_restore(book, pool, a, b, c, d, answers, to);
     }
     answer_audit(book, answers, to)
 }

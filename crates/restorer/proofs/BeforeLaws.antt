@@ -3,7 +3,7 @@
 use Prim.Native.Nat.{ℕ, suc, _+_, _-_, _≤_, _<_}
 use mathlib.Core.Path.{_≡_, refl, sym, ap, _∙_}
 use mathlib.Core.Bool.{Bool, true, false}
-use mathlib.Core.List.{List, [], _∷_, _++_, map, append-nil}
+use mathlib.Core.List.{List, [], _∷_, _++_, append-nil}
 use mathlib.Core.Option.{Option, none, some}
 use native.Mathlib.Numerals.{add-one}
 use native.Mathlib.Omega.{arith}
@@ -11,18 +11,15 @@ use lib.Dec.{eqb}
 use lib.ListN.{length, take, drop}
 use lib.Seq.{drop-cons}
 use borrow.Author.Tests.{eq-eqb, ne-eqb}
-use Rattle.words.proofs.Appends.{joined-append, map-append}
 use Rattle.words.specs.Choice.{if_then_else_}
-use Rattle.words.specs.Lists.{joined}
 use Rattle.words.specs.declared.PBN.{PBN}
 use Rattle.book.specs.Book.{Rec, Book, noRec, slotAt, recAt, cellAt}
 use Rattle.book.specs.Form.{pairsOk}
 use Rattle.journal.specs.Struct.{SlotIs}
 use Rattle.journal.specs.declared.slot.Slot.{Slot}
-use Rattle.model.specs.Journal.{Backup}
 use Rattle.model.specs.Read.{recordsOf, beforeOr}
 use Rattle.model.specs.JournalAt.{backupAt, backupsFrom, ownAt, imageFrom}
-use Rattle.model.proofs.kept.JournalAtLaws.{volume-at, records-at, from-split, from-end}
+use Rattle.model.proofs.kept.JournalAtLaws.{volume-at, records-at, from-split, from-end, recordsOf-append}
 use Rattle.restorer.specs.declared.image.Before.{Before}
 use Rattle.restorer.specs.declared.image.Before.the-variants.{At, Nothing}
 use Rattle.restorer.specs.Befores.{firstOf, beforeOf, beforeIn, beforeFrom}
@@ -90,11 +87,6 @@ append-before lbn p (r ∷ rs) qs e = go (eqb (r .lbn) lbn) e (append-before lbn
         → beforeOf (if t then some r else firstOf lbn (rs ++ qs)) ≡ At p
     go true f ih = f
     go false f ih = ih f
-
-recordsOf-append : (bs cs : List Backup) → recordsOf (bs ++ cs) ≡ recordsOf bs ++ recordsOf cs
-recordsOf-append bs cs =
-    ap joined (map-append (λ (b : Backup). b .records) bs cs)
-    ∙ joined-append (map (λ (b : Backup). b .records) bs) (map (λ (b : Backup). b .records) cs)
 
 module _ (x : Book) (v q lbn : ℕ) where
   pub later-here : (p : PBN) → q < length (x .slots) → beforeIn lbn (recordsOf (ownAt x v q)) ≡ At p → beforeFrom x v q lbn ≡ At p

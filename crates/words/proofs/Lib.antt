@@ -24,3 +24,4 @@ pub mod Flat
 pub mod Prefixes
 pub mod SectionsLaid
 pub mod Lending
+pub mod PartStores

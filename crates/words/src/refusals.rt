@@ -38,3 +38,6 @@ pub const NOT_MAPPED: u16 = 18;
 pub const BAD_INPUT: u16 = 19;
 
 pub const SHORT_OUTPUT: u16 = 20;
+
+// Document 02, K2.
+pub const BAD_RUN: u16 = 21;

@@ -5,7 +5,7 @@ use crate::seen::Seen;
 use crate::shapes::{listed_numbers, Shapes};
 
 /// 0 for accepted calls, and the numbers of refusal.
-const NUMBERS: usize = 21;
+const NUMBERS: usize = 22;
 
 /// The numbers that each call can give, in the order of the names.
 const GIVES: [&[usize]; NAMES.len()] = [
@@ -14,6 +14,7 @@ const GIVES: [&[usize]; NAMES.len()] = [
     &[0, 1, 2, 3, 4, 5, 7, 8, 9, 10, 11, 12, 13, 14],
     &[0, 1, 2, 7],
     &[0, 1, 2, 3, 5, 15, 16, 17, 18],
+    &[0, 1, 2, 3, 5, 15, 16, 18, 21],
     &[0, 1, 2],
     &[0, 1, 2],
     &[0, 1, 2],
@@ -28,7 +29,7 @@ const GIVES: [&[usize]; NAMES.len()] = [
 ];
 
 /// The calls of lists among the names.
-const LISTED: std::ops::Range<usize> = 1..6;
+const LISTED: std::ops::Range<usize> = 1..7;
 
 struct Table {
     names: &'static [&'static str],

@@ -3,8 +3,8 @@
 use reference_c::{
     reference_audit, reference_backup, reference_backups, reference_blocks, reference_cells,
     reference_collect, reference_count, reference_enrol, reference_form, reference_format,
-    reference_play, reference_read, reference_sizes, reference_used, reference_volume,
-    reference_write_list,
+    reference_play, reference_read, reference_restore, reference_sizes, reference_used,
+    reference_volume, reference_write_list,
 };
 
 type Format = unsafe extern "C" fn(*mut u8, usize, u16, u16, u16, u16) -> u16;
@@ -27,6 +27,18 @@ type Backup = unsafe extern "C" fn(
 type Collect = unsafe extern "C" fn(*mut u8, usize, u16, *mut u16) -> u16;
 type Read =
     unsafe extern "C" fn(*const u8, usize, *const u8, usize, u16, u16, u16, *mut u32) -> u16;
+type Restore = unsafe extern "C" fn(
+    book: *const u8,
+    book_len: usize,
+    pool: *const u8,
+    pool_len: usize,
+    volume: u16,
+    number: u16,
+    first: u16,
+    length: u16,
+    out: *mut u8,
+    out_len: usize,
+) -> u16;
 type Audit = unsafe extern "C" fn(*const u8, usize, *mut u16) -> u16;
 type Form = unsafe extern "C" fn(*const u8, usize) -> u16;
 type Count = unsafe extern "C" fn(*const u8, usize, *mut u16, *mut u16, *mut u16, *mut u32) -> u16;
@@ -68,6 +80,7 @@ pub struct Interface {
     pub backup: Backup,
     pub collect: Collect,
     pub read: Read,
+    pub restore: Restore,
     pub audit: Audit,
     pub form: Form,
     pub count: Count,
@@ -110,6 +123,18 @@ mod archive {
             number: u16,
             lbn: u16,
             at: *mut u32,
+        ) -> u16;
+        pub fn aspen_restore(
+            book: *const u8,
+            book_len: usize,
+            pool: *const u8,
+            pool_len: usize,
+            volume: u16,
+            number: u16,
+            first: u16,
+            length: u16,
+            out: *mut u8,
+            out_len: usize,
         ) -> u16;
         pub fn aspen_audit(book: *const u8, len: usize, sound: *mut u16) -> u16;
         pub fn aspen_form(book: *const u8, len: usize) -> u16;
@@ -193,6 +218,7 @@ pub const ARCHIVE: Interface = Interface {
     backup: archive::aspen_backup,
     collect: archive::aspen_collect,
     read: archive::aspen_read,
+    restore: archive::aspen_restore,
     audit: archive::aspen_audit,
     form: archive::aspen_form,
     count: archive::aspen_count,
@@ -212,6 +238,7 @@ pub const REFERENCE: Interface = Interface {
     backup: reference_backup,
     collect: reference_collect,
     read: reference_read,
+    restore: reference_restore,
     audit: reference_audit,
     form: reference_form,
     count: reference_count,

@@ -3,6 +3,7 @@
 use reference::call::Call;
 use reference::layout::Sizes;
 use reference::prng::Prng;
+use reference::store::Run;
 use reference::view::View;
 
 use crate::guarded::{Answered, Guarded};
@@ -109,6 +110,7 @@ impl Lent {
                     number,
                     lbn,
                 } => self.read(side, volume, number, lbn),
+                Call::Restore(_) => unreachable!("a restore is sent with its output"),
                 Call::Audit => (side.audit)(book, length, self.answer(0)),
             }
         }
@@ -131,6 +133,18 @@ impl Lent {
         let at = self.wide.mut_pointer();
         // SAFETY: the buffers are apart and as long as said, and `at` is a lent number.
         unsafe { (side.read)(book.0, book.1, pool.0, pool.1, volume, number, lbn, at) }
+    }
+
+    pub fn restore(&mut self, side: &Interface, run: Run) -> u16 {
+        let [book, pool, out] = std::array::from_fn(|index| self.part(index));
+        let (volume, number) = (run.volume, run.number);
+        let (first, length) = (run.first, run.length);
+        // SAFETY: the buffers are apart and as long as said.
+        unsafe {
+            (side.restore)(
+                book.0, book.1, pool.0, pool.1, volume, number, first, length, out.0, out.1,
+            )
+        }
     }
 
     pub fn play(&mut self, side: &Interface) -> u16 {

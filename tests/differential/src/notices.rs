@@ -6,11 +6,12 @@ use reference::call::{Call, Stored};
 use reference::cases;
 use reference::play::encode;
 use reference::prng::Prng;
+use reference::store::Run;
 use reference::view::View;
 
 use crate::coverage::Coverage;
 use crate::interface::{Interface, REFERENCE};
-use crate::request::{Playing, Request, Viewed};
+use crate::request::{Playing, Request, Restoring, Viewed};
 use crate::seen;
 
 const REFUSED: Call = Call::Collect { day: 0 };
@@ -30,6 +31,21 @@ fn compared_cells(archive: &Interface, room: usize) -> Result<(), String> {
         output: vec![7; room],
     };
     sent(archive, Request::View(viewed))
+}
+
+/// And of the first two blocks of its volume 0's first backup in an output of so many bytes.
+fn compared_run(archive: &Interface, room: usize) -> Result<(), String> {
+    let restoring = &Restoring {
+        stored: &cases::after_d(),
+        run: Run {
+            volume: 0,
+            number: 1,
+            first: 0,
+            length: 2,
+        },
+        output: vec![7; room],
+    };
+    sent(archive, Request::Restore(restoring))
 }
 
 /// And of a list of an audit and a collection, with room for so many bytes of answers.
@@ -175,6 +191,69 @@ fn an_output_that_is_written_elsewhere_is_noticed() {
     }
 }
 
+/// Writes the first block before it looks whether there is room for the second.
+unsafe extern "C" fn restores_first(
+    book: *const u8,
+    book_len: usize,
+    pool: *const u8,
+    pool_len: usize,
+    volume: u16,
+    number: u16,
+    first: u16,
+    length: u16,
+    out: *mut u8,
+    out_len: usize,
+) -> u16 {
+    let call = |length| {
+        (REFERENCE.restore)(
+            book, book_len, pool, pool_len, volume, number, first, length, out, out_len,
+        )
+    };
+    call(1);
+    call(length)
+}
+
+/// Restores, and writes a byte after the run if there is one.
+unsafe extern "C" fn restores_more(
+    book: *const u8,
+    book_len: usize,
+    pool: *const u8,
+    pool_len: usize,
+    volume: u16,
+    number: u16,
+    first: u16,
+    length: u16,
+    out: *mut u8,
+    out_len: usize,
+) -> u16 {
+    let after = 512 * usize::from(length);
+    if after < out_len {
+        *out.add(after) ^= 1;
+    }
+    (REFERENCE.restore)(
+        book, book_len, pool, pool_len, volume, number, first, length, out, out_len,
+    )
+}
+
+#[test]
+fn a_run_that_is_written_elsewhere_is_noticed() {
+    for room in [1_023, 1_024, 1_025] {
+        assert_eq!(compared_run(&REFERENCE, room), Ok(()));
+    }
+    let first = Interface {
+        restore: restores_first,
+        ..REFERENCE
+    };
+    assert_eq!(compared_run(&first, 1_024), Ok(()));
+    assert!(compared_run(&first, 1_023).is_err());
+    let more = Interface {
+        restore: restores_more,
+        ..REFERENCE
+    };
+    assert_eq!(compared_run(&more, 1_024), Ok(()));
+    assert!(compared_run(&more, 1_025).is_err());
+}
+
 /// Collects, and then plays the list if there is room for it.
 unsafe extern "C" fn collects_first(
     book: *mut u8,
@@ -249,9 +328,10 @@ fn a_list_that_does_more_is_noticed() {
 #[test]
 fn what_never_came_is_missing() {
     let missing = Coverage::new().report();
-    for number in 0..=20 {
+    for number in 0..=21 {
         assert!(missing.contains(&format!("number {number}")));
     }
     assert!(missing.contains(&"audit 2".into()));
     assert!(missing.contains(&"audit 2 in a list".into()));
+    assert!(missing.contains(&"restore 21 in a list".into()));
 }

@@ -5,6 +5,7 @@ mod faults;
 mod formats;
 mod lengths;
 mod play;
+mod restores;
 mod runs;
 mod tested;
 mod views;

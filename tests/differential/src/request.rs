@@ -3,6 +3,7 @@
 use reference::call::{Call, Stored};
 use reference::layout::Sizes;
 use reference::prng::Prng;
+use reference::store::Run;
 use reference::view::View;
 
 use crate::interface::Interface;
@@ -25,6 +26,13 @@ pub struct Viewed<'a> {
     pub output: Vec<u8>,
 }
 
+/// A run of blocks to restore, with the output that it goes to.
+pub struct Restoring<'a> {
+    pub stored: &'a Stored,
+    pub run: Run,
+    pub output: Vec<u8>,
+}
+
 /// A list of calls in bytes on a box, with room for its answers.
 pub struct Playing<'a> {
     pub stored: &'a Stored,
@@ -32,6 +40,7 @@ pub struct Playing<'a> {
     pub answers: Vec<u8>,
 }
 
+/// `Call` is any call of lists but a restore, which has an output.
 #[derive(Clone, Copy)]
 pub enum Request<'a> {
     Format { book: &'a [u8], sizes: Sizes },
@@ -39,17 +48,19 @@ pub enum Request<'a> {
     Count { book: &'a [u8] },
     View(&'a Viewed<'a>),
     Call { stored: &'a Stored, call: &'a Call },
+    Restore(&'a Restoring<'a>),
     Play(&'a Playing<'a>),
     WriteList(&'a WriteList),
 }
 
 /// The names of the calls, in the order of the coverage table.
-pub const NAMES: [&str; 16] = [
+pub const NAMES: [&str; 17] = [
     "format",
     "enrol",
     "backup",
     "collect",
     "read",
+    "restore",
     "audit",
     "form",
     "count",
@@ -69,11 +80,25 @@ pub fn call_name(call: &Call) -> &'static str {
         Call::Backup { .. } => "backup",
         Call::Collect { .. } => "collect",
         Call::Read { .. } => "read",
+        Call::Restore(_) => "restore",
         Call::Audit => "audit",
     }
 }
 
 type Sent<'a> = Vec<(&'static str, &'a [u8])>;
+
+/// The buffers of such a call.
+fn call_buffers<'a>(stored: &'a Stored, call: &'a Call) -> Sent<'a> {
+    let mut buffers: Sent = vec![("the book", &stored.book)];
+    if matches!(call, Call::Read { .. } | Call::Backup { .. }) {
+        buffers.push(("the pool", &stored.pool));
+    }
+    if let Call::Backup { list, .. } = call {
+        buffers.push((SPARE, &stored.spare));
+        buffers.push(("the list", list));
+    }
+    buffers
+}
 
 impl<'a> Request<'a> {
     pub fn name(&self) -> &'static str {
@@ -90,6 +115,7 @@ impl<'a> Request<'a> {
                 View::Blocks => "blocks",
             },
             Request::Call { call, .. } => call_name(call),
+            Request::Restore(_) => "restore",
             Request::Play(_) => "play",
             Request::WriteList(_) => "write_list",
         }
@@ -108,17 +134,12 @@ impl<'a> Request<'a> {
                 }
                 buffers
             }
-            Request::Call { stored, call } => {
-                let mut buffers: Sent = vec![("the book", &stored.book)];
-                if matches!(call, Call::Read { .. } | Call::Backup { .. }) {
-                    buffers.push(("the pool", &stored.pool));
-                }
-                if let Call::Backup { list, .. } = call {
-                    buffers.push((SPARE, &stored.spare));
-                    buffers.push(("the list", list));
-                }
-                buffers
-            }
+            Request::Call { stored, call } => call_buffers(stored, call),
+            Request::Restore(restoring) => vec![
+                ("the book", &restoring.stored.book),
+                ("the pool", &restoring.stored.pool),
+                ("the output", &restoring.output),
+            ],
             Request::Play(playing) => vec![
                 ("the book", &playing.stored.book),
                 ("the pool", &playing.stored.pool),
@@ -144,6 +165,7 @@ impl<'a> Request<'a> {
             Request::Count { .. } => lent.count(side),
             Request::View(viewed) => lent.view(side, viewed.view),
             Request::Call { call, .. } => lent.call(side, call),
+            Request::Restore(restoring) => lent.restore(side, restoring.run),
             Request::Play(_) => lent.play(side),
             Request::WriteList(input) => lent.write_list(side, input.lbns),
         };

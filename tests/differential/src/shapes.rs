@@ -6,6 +6,7 @@ mod buffers;
 mod lists;
 mod others;
 mod play;
+mod restore;
 mod views;
 mod writer;
 
@@ -17,7 +18,7 @@ use reference::call::Call;
 use reference::change_list::RUN_MAX;
 use reference::view::View;
 
-use crate::request::{Playing, Request, Viewed};
+use crate::request::{Playing, Request, Restoring, Viewed};
 use crate::seen::Seen;
 
 /// The most blocks of a run.
@@ -45,6 +46,7 @@ impl Shapes {
             Request::Count { .. } if seen.number == 0 => {
                 self.count("count", others::count(seen));
             }
+            Request::Restore(restoring) => self.note_restore(restoring, seen),
             Request::Play(playing) => self.note_play(playing, seen),
             Request::View(viewed) => self.note_view(request.name(), viewed, seen),
             Request::WriteList(input) => {
@@ -63,6 +65,19 @@ impl Shapes {
                 }
             }
             _ => {}
+        }
+    }
+
+    fn note_restore(&mut self, restoring: &Restoring, seen: &Seen) {
+        self.count("restore", restore::refused_early(restoring, seen.number));
+        if !matches!(seen.number, 1..=5) {
+            let restored = restore::Restored::new(restoring, seen.number);
+            self.count("restore", restored.run_shapes());
+            self.count("restore", restored.found_shapes());
+            self.count("restore", restored.kept_shapes());
+            self.count("restore", restored.refused_shapes());
+            self.count("restore", restored.room_shapes());
+            self.count("restore", restored.unmapped_shapes());
         }
     }
 
@@ -113,6 +128,7 @@ impl Shapes {
                 self.count("enrol", others::enrol(*volume, *retention, seen.number));
             }
             Call::Audit => self.count("audit", others::audit(book)),
+            Call::Restore(_) => unreachable!("a restore is sent with its output"),
         }
     }
 

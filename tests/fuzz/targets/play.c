@@ -15,15 +15,17 @@ typedef __typeof__(aspen_play) play_call;
 /* The sizes of the fresh book, those of the cases. */
 enum { N = 4, L = 4, S = 6, J = 8 };
 
+enum { MOST_ROOM = 1000000 };
+
 /* How often each tag came, printed at the end. */
-static unsigned long times[ASPEN_ANSWER_SOUND + 1];
+static unsigned long times[ASPEN_ANSWER_RUN + 1];
 
 static void print_times(void)
 {
     size_t i;
 
     fprintf(stderr, "answers:");
-    for (i = 0; i <= ASPEN_ANSWER_SOUND; i++)
+    for (i = 0; i <= ASPEN_ANSWER_RUN; i++)
         if (times[i] != 0)
             fprintf(stderr, " %lu=%lu", (unsigned long)i, times[i]);
     fprintf(stderr, "\n");
@@ -42,6 +44,7 @@ static void note_answers(const uint8_t *answers, size_t written)
         times[tag]++;
         at += tag == ASPEN_ANSWER_BACKED  ? aspen_answers_bound(1, 0, 0)
               : tag == ASPEN_ANSWER_BLOCK ? aspen_answers_bound(0, 1, 0)
+              : tag == ASPEN_ANSWER_RUN   ? aspen_runs_bound(1, aspen_u16(answers + at + 1))
                                           : aspen_answers_bound(0, 0, 1);
     }
 }
@@ -51,11 +54,12 @@ static size_t data_length(const uint8_t *head)
     return aspen_u16(head + 10) + (size_t)65536 * aspen_u16(head + 12);
 }
 
-/* Makes a call of the head here, with no more data than so many bytes; gives how many. */
+/* Makes a call of the head here, with no more data than so many bytes; gives how many. A restore
+ * has fewer than 256 blocks. */
 static size_t mend_head(uint8_t *head, size_t most)
 {
-    static const size_t used[] = { 4, 4, 2, 6, 0 };
-    uint8_t kind = head[0] % 5;
+    static const size_t used[] = { 4, 4, 2, 6, 0, 7 };
+    uint8_t kind = head[0] % 6;
     size_t data = kind == ASPEN_CALL_BACKUP ? data_length(head) % (most + 1) : 0;
     size_t unused = 2 + used[kind];
 
@@ -88,12 +92,15 @@ static size_t longest_answers(const uint8_t *calls, size_t length)
 
         longest += head[0] == ASPEN_CALL_BACKUP ? aspen_answers_bound(1, 0, 0)
                    : head[0] == ASPEN_CALL_READ ? aspen_answers_bound(0, 1, 0)
-                                                : aspen_answers_bound(0, 0, 1);
+                   : head[0] == ASPEN_CALL_RESTORE
+                       ? aspen_runs_bound(1, aspen_u16(head + 8))
+                       : aspen_answers_bound(0, 0, 1);
         if (data > length - at - ASPEN_CALL_HEAD)
             break;
         at += ASPEN_CALL_HEAD + data;
     }
-    return longest;
+    /* A list of many long restores gets less room, and is refused for it. */
+    return longest < MOST_ROOM ? longest : MOST_ROOM;
 }
 
 static struct sent sent_to_play(const struct control *control)

@@ -3,7 +3,7 @@
 use crate::layout::{Block, Sizes};
 use crate::plain::Plain;
 use crate::refusal::Refusal;
-use crate::store::{self, BackedUp};
+use crate::store::{self, BackedUp, Run};
 
 #[derive(Clone, Debug)]
 pub enum Call {
@@ -24,6 +24,7 @@ pub enum Call {
         number: u16,
         lbn: u16,
     },
+    Restore(Run),
     Audit,
 }
 
@@ -34,6 +35,8 @@ pub enum Answer {
     BackedUp(BackedUp),
     Freed(u16),
     Block(Box<Block>),
+    /// The bytes of a restored run.
+    Run(Vec<u8>),
     Sound(bool),
 }
 
@@ -84,6 +87,11 @@ pub fn call_on(book: &mut [u8], pool: &mut [u8], spare: &mut [u8], call: &Call) 
         } => answer(store::read(book, pool, *volume, *number, *lbn), |part| {
             Answer::Block(Box::new(part.try_into().expect("a whole block")))
         }),
+        Call::Restore(run) => {
+            let mut output = vec![0; run.bytes()];
+            let result = store::restore(book, pool, *run, &mut output);
+            answer(result, |()| Answer::Run(output))
+        }
         Call::Audit => answer(store::audit(book), Answer::Sound),
     }
 }
@@ -105,6 +113,7 @@ impl Plain {
             } => answer(self.read(*volume, *number, *lbn), |block| {
                 Answer::Block(Box::new(*block))
             }),
+            Call::Restore(run) => answer(self.restore(*run), Answer::Run),
             Call::Audit => Answer::Sound(true),
         }
     }

@@ -4,8 +4,9 @@ use std::rc::Rc;
 
 use crate::call::{Answer, Call};
 use crate::change_list;
-use crate::layout::{Block, Lbn, VOLUMES};
+use crate::layout::{Block, Lbn, BLOCK_BYTES, VOLUMES};
 use crate::refusal::{require, Refusal};
+use crate::store::Run;
 
 /// The bytes of each LBN, none where nothing was ever backed up.
 type Image = Vec<Option<Rc<Block>>>;
@@ -47,7 +48,7 @@ impl History {
             }
             Call::Backup { volume, day, list } => self.note_backup(*volume, *day, list),
             Call::Collect { day } => self.day = *day,
-            Call::Read { .. } | Call::Audit => {}
+            Call::Read { .. } | Call::Restore(_) | Call::Audit => {}
         }
     }
 
@@ -71,8 +72,45 @@ impl History {
         self.enrolled(volume).map_or(0, |v| v.backups.len())
     }
 
+    /// The answer of a read or of a restore; none of other calls.
+    pub fn answer(&self, call: &Call) -> Option<Answer> {
+        let answer = match *call {
+            Call::Read {
+                volume,
+                number,
+                lbn,
+            } => {
+                let block = self.read(volume, number, lbn);
+                block.map(|block| Answer::Block(Box::new(*block)))
+            }
+            Call::Restore(run) => self.restore(run, run.bytes()).map(Answer::Run),
+            _ => return None,
+        };
+        Some(answer.unwrap_or_else(Answer::Refused))
+    }
+
     /// The answer of a read.
     pub fn read(&self, volume: u16, number: u16, lbn: u16) -> Result<&Block, Refusal> {
+        let image = self.kept_image(volume, number)?;
+        let cell = image.get(Lbn(lbn).index()).ok_or(Refusal::LbnAbove)?;
+        cell.as_deref().ok_or(Refusal::Unmapped)
+    }
+
+    /// What a restore writes to an output of so many bytes.
+    pub fn restore(&self, run: Run, room: usize) -> Result<Vec<u8>, Refusal> {
+        let image = self.kept_image(run.volume, run.number)?;
+        let past_first = image.get(Lbn(run.first).index()..).ok_or(Refusal::Run)?;
+        let cells = past_first.get(..run.length.into()).ok_or(Refusal::Run)?;
+        require(room / BLOCK_BYTES >= cells.len(), Refusal::Run)?;
+        let mut bytes = Vec::new();
+        for cell in cells {
+            bytes.extend(cell.as_deref().ok_or(Refusal::Unmapped)?);
+        }
+        Ok(bytes)
+    }
+
+    /// What a volume held at a backup that is kept.
+    fn kept_image(&self, volume: u16, number: u16) -> Result<&Image, Refusal> {
         let volume = self.enrolled(volume).ok_or(Refusal::Volume)?;
         let number = usize::from(number);
         let (_, image) = number
@@ -83,8 +121,7 @@ impl History {
             let last_day = u32::from(*replaced) + u32::from(volume.retention);
             require(last_day >= u32::from(self.day), Refusal::NotKept)?;
         }
-        let cell = image.get(Lbn(lbn).index()).ok_or(Refusal::LbnAbove)?;
-        cell.as_deref().ok_or(Refusal::Unmapped)
+        Ok(image)
     }
 
     fn enrolled(&self, volume: u16) -> Option<&Volume> {

@@ -9,7 +9,7 @@ use crate::layout::{
     Block, Fingerprint, Lbn, Pbn, Sizes, DAY_MAX, RETENTION_RANGE, UNMAPPED, VOLUMES,
 };
 use crate::refusal::{require, Refusal};
-use crate::store::BackedUp;
+use crate::store::{BackedUp, Run};
 
 /// What a held block holds.
 #[derive(Debug, PartialEq, Eq)]
@@ -170,13 +170,34 @@ impl Plain {
     }
 
     pub fn read(&self, volume: u16, number: u16, lbn: u16) -> Result<&Block, Refusal> {
+        let map = self.kept_map(volume, number)?;
+        require(lbn < self.sizes.lbns, Refusal::LbnAbove)?;
+        self.bytes_of(map[Lbn(lbn).index()])
+    }
+
+    /// What the reads one by one give; the output has just the room.
+    pub fn restore(&self, run: Run) -> Result<Vec<u8>, Refusal> {
+        let map = self.kept_map(run.volume, run.number)?;
+        let (first, length) = (usize::from(run.first), usize::from(run.length));
+        let cells = map.get(first..first + length).ok_or(Refusal::Run)?;
+        let mut bytes = Vec::new();
+        for &pbn in cells {
+            bytes.extend(self.bytes_of(pbn)?);
+        }
+        Ok(bytes)
+    }
+
+    /// The map of a backup that is kept.
+    fn kept_map(&self, volume: u16, number: u16) -> Result<&Map, Refusal> {
         let volume = self.enrolled(volume)?;
         let number = usize::from(number);
         let taken = 1..=volume.backups.len();
         require(taken.contains(&number), Refusal::Number)?;
         require(volume.is_kept(number, self.day), Refusal::NotKept)?;
-        require(lbn < self.sizes.lbns, Refusal::LbnAbove)?;
-        let pbn = volume.backups[number - 1].1[Lbn(lbn).index()];
+        Ok(&volume.backups[number - 1].1)
+    }
+
+    fn bytes_of(&self, pbn: Pbn) -> Result<&Block, Refusal> {
         require(pbn != UNMAPPED, Refusal::Unmapped)?;
         let content = self.blocks[pbn.index()].as_ref();
         Ok(&content.expect("a kept backup's block is held").bytes)

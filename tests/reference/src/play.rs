@@ -4,6 +4,7 @@
 use crate::call::{call_on, Answer, Call};
 use crate::layout::{get_u16, BLOCK_BYTES};
 use crate::refusal::{require, Refusal};
+use crate::store::Run;
 
 pub const HEAD_BYTES: usize = 14;
 
@@ -12,6 +13,7 @@ const BACKUP: u8 = 1;
 const COLLECT: u8 = 2;
 const READ: u8 = 3;
 const AUDIT: u8 = 4;
+const RESTORE: u8 = 5;
 
 /// The calls that the bytes are; refusal 19 if they are no list.
 pub fn decode(bytes: &[u8]) -> Result<Vec<Call>, Refusal> {
@@ -49,7 +51,7 @@ pub fn data_bytes(head: &[u8]) -> usize {
 }
 
 /// The call of a head and its data, and how many of the fields it uses.
-fn call_of(kind: u8, [a, b, c, _]: [u16; 4], data: &[u8]) -> Option<(Call, usize)> {
+fn call_of(kind: u8, [a, b, c, d]: [u16; 4], data: &[u8]) -> Option<(Call, usize)> {
     let (volume, list) = (a, data.to_vec());
     let call = match kind {
         ENROL => Call::Enrol {
@@ -68,9 +70,15 @@ fn call_of(kind: u8, [a, b, c, _]: [u16; 4], data: &[u8]) -> Option<(Call, usize
             lbn: c,
         },
         AUDIT => Call::Audit,
+        RESTORE => Call::Restore(Run {
+            volume,
+            number: b,
+            first: c,
+            length: d,
+        }),
         _ => return None,
     };
-    let used = [2, 2, 1, 3, 0][usize::from(kind)];
+    let used = [2, 2, 1, 3, 0, 4][usize::from(kind)];
     Some((call, used))
 }
 
@@ -80,20 +88,24 @@ pub fn encode(calls: &[Call]) -> Vec<u8> {
 }
 
 fn call_bytes(call: &Call) -> Vec<u8> {
-    let (kind, fields, data): (u8, [u16; 3], &[u8]) = match call {
-        Call::Enrol { volume, retention } => (ENROL, [*volume, *retention, 0], &[]),
-        Call::Backup { volume, day, list } => (BACKUP, [*volume, *day, 0], list),
-        Call::Collect { day } => (COLLECT, [*day, 0, 0], &[]),
+    let (kind, fields, data): (u8, [u16; 4], &[u8]) = match call {
+        Call::Enrol { volume, retention } => (ENROL, [*volume, *retention, 0, 0], &[]),
+        Call::Backup { volume, day, list } => (BACKUP, [*volume, *day, 0, 0], list),
+        Call::Collect { day } => (COLLECT, [*day, 0, 0, 0], &[]),
         Call::Read {
             volume,
             number,
             lbn,
-        } => (READ, [*volume, *number, *lbn], &[]),
-        Call::Audit => (AUDIT, [0; 3], &[]),
+        } => (READ, [*volume, *number, *lbn, 0], &[]),
+        Call::Audit => (AUDIT, [0; 4], &[]),
+        Call::Restore(run) => (
+            RESTORE,
+            [run.volume, run.number, run.first, run.length],
+            &[],
+        ),
     };
     let mut bytes = vec![kind, 0];
     bytes.extend(fields.iter().flat_map(|field| field.to_le_bytes()));
-    bytes.extend([0, 0]);
     bytes.extend((data.len() as u32).to_le_bytes());
     bytes.extend(data);
     bytes
@@ -109,12 +121,13 @@ fn longest_answer(call: &Call) -> usize {
         Call::Enrol { .. } | Call::Collect { .. } | Call::Audit => 3,
         Call::Backup { .. } => 7,
         Call::Read { .. } => 1 + BLOCK_BYTES,
+        Call::Restore(run) => 3 + run.bytes(),
     }
 }
 
-/// A tag, and then numbers or a block.
+/// A tag, and then numbers, a block, or a number of blocks and these.
 pub fn answer_bytes(answer: &Answer) -> Vec<u8> {
-    let tagged = |tag: u8, numbers: &[u16]| {
+    let tagged = |tag: u8, numbers: &[u16]| -> Vec<u8> {
         let numbers = numbers.iter().flat_map(|number| number.to_le_bytes());
         [tag].into_iter().chain(numbers).collect()
     };
@@ -125,6 +138,11 @@ pub fn answer_bytes(answer: &Answer) -> Vec<u8> {
         Answer::Freed(freed) => tagged(2, &[*freed]),
         Answer::Block(block) => [&[3], &block[..]].concat(),
         Answer::Sound(sound) => tagged(4, &[u16::from(*sound)]),
+        Answer::Run(blocks) => {
+            let mut bytes = tagged(5, &[(blocks.len() / BLOCK_BYTES) as u16]);
+            bytes.extend(blocks);
+            bytes
+        }
     }
 }
 

@@ -8,6 +8,7 @@ use crate::call::{Answer, Call, Stored};
 use crate::layout::{Sizes, DAY_MAX, RETENTION_RANGE};
 use crate::prng::Prng;
 use crate::random_lists::RandomLists;
+use crate::store::Run;
 use crate::view::View;
 
 /// Volumes that there are, and some that there aren't.
@@ -97,6 +98,52 @@ impl RandomCalls {
         prng.pick(&View::all(volume))
     }
 
+    /// A run to restore; as for a view, another generator draws it.
+    pub fn restore(&self, prng: &mut Prng) -> Run {
+        let volume = match prng.below(30) {
+            0 => prng.pick(&ANY_VOLUME),
+            _ => prng.between(0, self.volumes - 1),
+        };
+        let newest = self.newest(volume);
+        let number = match prng.below(10) {
+            0 => prng.pick(&[0, newest + 1, 65_535]),
+            1..=3 => prng.between(1, newest.max(1)),
+            _ => newest.saturating_sub(prng.between(0, 3)).max(1),
+        };
+        let (first, length) = self.any_run(prng);
+        Run {
+            volume,
+            number,
+            first,
+            length,
+        }
+    }
+
+    /// Mostly a short run in the volume; now and then all of it, none of it, or one past its end.
+    fn any_run(&self, prng: &mut Prng) -> (u16, u16) {
+        let lbns = self.sizes.lbns;
+        let first = prng.between(0, lbns - 1);
+        let left = lbns - first;
+        match prng.below(32) {
+            0 => (prng.pick(&[0, first, lbns, lbns + 1]), 0),
+            1..=3 => (0, lbns),
+            4 => (first, left),
+            5 => (first, left + 1),
+            6 => (prng.pick(&[first, lbns, lbns + 1]), prng.pick(&[1, lbns])),
+            7 => match prng.below(8) {
+                0 => (prng.pick(&[first, 65_535]), 65_535),
+                // Past the end, though not in 16 bits.
+                _ => (65_535 - prng.between(0, 4), prng.between(1, 8)),
+            },
+            _ => (first, prng.between(1, left.min(8))),
+        }
+    }
+
+    fn newest(&self, volume: u16) -> u16 {
+        let newest = self.backups.get(usize::from(volume));
+        newest.copied().unwrap_or(0)
+    }
+
     /// Learns from an answer how many backups a volume has.
     pub fn learn(&mut self, call: &Call, answer: &Answer) {
         if let (Call::Backup { volume, .. }, Answer::BackedUp(backed_up)) = (call, answer) {
@@ -140,7 +187,7 @@ impl RandomCalls {
 
     fn read(&mut self) -> Call {
         let volume = self.volume();
-        let newest = self.backups.get(usize::from(volume)).copied().unwrap_or(0);
+        let newest = self.newest(volume);
         let number = match self.prng.below(8) {
             0 => self.prng.pick(&[0, newest + 1, 65_535]),
             1 => self.prng.between(0, newest),

@@ -23,6 +23,7 @@ pub enum Refusal {
     Unmapped = 18,
     Input = 19,
     ShortOutput = 20,
+    Run = 21,
 }
 
 impl Refusal {

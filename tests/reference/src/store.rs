@@ -3,10 +3,12 @@
 
 mod audit;
 mod backup;
+mod restore;
 mod views;
 
 pub use audit::Fault;
 pub use backup::backup;
+pub use restore::{restore, Run};
 pub use views::{backups, blocks, cells, sizes, used, volume, Used, VolumeFacts, NO_END};
 
 use crate::form;
@@ -77,6 +79,25 @@ pub fn locate(
     number: u16,
     lbn: u16,
 ) -> Result<Pbn, Refusal> {
+    let backup = kept_backup(book, pool, volume, number)?;
+    require(lbn < backup.book.sizes().lbns, Refusal::LbnAbove)?;
+    backup.locate(Lbn(lbn))
+}
+
+/// A kept backup of a volume, with the volume's slots after it.
+struct KeptBackup<'a> {
+    book: Book<&'a [u8]>,
+    volume: u8,
+    later: Vec<Slot>,
+}
+
+/// The backup that is asked for, after all checks of a read before that of the LBN.
+fn kept_backup<'a>(
+    book: &'a [u8],
+    pool: &[u8],
+    volume: u16,
+    number: u16,
+) -> Result<KeptBackup<'a>, Refusal> {
     let book = form::check(book)?;
     require(pool.len() == book.sizes().pool_bytes(), Refusal::Pool)?;
     let volume = enrolled(&book, volume)?;
@@ -86,10 +107,21 @@ pub fn locate(
     let day = book.header(Header::Day);
     let kept = is_kept(&slots, number, book.retention(volume), day);
     require(kept, Refusal::NotKept)?;
-    require(lbn < book.sizes().lbns, Refusal::LbnAbove)?;
-    let pbn = named_by(&book, volume, &slots[number..], Lbn(lbn));
-    require(pbn != UNMAPPED, Refusal::Unmapped)?;
-    Ok(pbn)
+    let later = slots[number..].to_vec();
+    Ok(KeptBackup {
+        book,
+        volume,
+        later,
+    })
+}
+
+impl KeptBackup<'_> {
+    /// The block that the backup has at an LBN of the volume.
+    fn locate(&self, lbn: Lbn) -> Result<Pbn, Refusal> {
+        let pbn = named_by(&self.book, self.volume, &self.later, lbn);
+        require(pbn != UNMAPPED, Refusal::Unmapped)?;
+        Ok(pbn)
+    }
 }
 
 /// Whether the book is sound.

@@ -5,9 +5,10 @@ use reference::cases::{after_d, backup, block, calls_to_d, fingerprint, list_of,
 use reference::layout::{Book, Pbn};
 use reference::plain::Plain;
 use reference::play::{self, answer_bytes, decode, encode, longest_answers};
+use reference::prng::Prng;
 use reference::random_calls::RandomCalls;
 use reference::refusal::Refusal;
-use reference::store;
+use reference::store::{self, Run};
 
 /// The byte of the answers before a list is played.
 const FILL: u8 = 0xA5;
@@ -18,6 +19,15 @@ fn read(volume: u16, number: u16, lbn: u16) -> Call {
         number,
         lbn,
     }
+}
+
+fn restore(volume: u16, number: u16, first: u16, length: u16) -> Call {
+    Call::Restore(Run {
+        volume,
+        number,
+        first,
+        length,
+    })
 }
 
 /// One call of each kind, as the box after case d takes them.
@@ -31,6 +41,7 @@ fn one_of_each() -> Vec<Call> {
         Call::Collect { day: 12 },
         read(0, 1, 0),
         Call::Audit,
+        restore(0, 1, 0, 2),
     ]
 }
 
@@ -116,11 +127,16 @@ fn an_unsound_book_is_told_as_no() {
 
 #[test]
 fn a_head_byte_for_byte() {
-    let bytes = encode(&[backup(0x0102, 0x0304, &[]), read(5, 6, 0x0708)]);
+    let bytes = encode(&[
+        backup(0x0102, 0x0304, &[]),
+        read(5, 6, 0x0708),
+        restore(9, 10, 0x0B0C, 0x0D0E),
+    ]);
     let heads = [
         [1, 0, 2, 1, 4, 3, 0, 0, 0, 0, 2, 0, 0, 0].to_vec(),
         vec![0, 0],
         [3, 0, 5, 0, 6, 0, 8, 7, 0, 0, 0, 0, 0, 0].to_vec(),
+        [5, 0, 9, 0, 10, 0, 12, 11, 14, 13, 0, 0, 0, 0].to_vec(),
     ];
     assert_eq!(bytes, heads.concat());
 }
@@ -148,6 +164,48 @@ fn answers_one_byte_short() {
     let short = played(&mut after_d(), &refused, 512);
     assert_eq!(short, Err(Refusal::ShortOutput));
     assert_eq!(played(&mut after_d(), &refused, 513), Ok(vec![0, 5, 0]));
+}
+
+#[test]
+fn restores_in_a_list() {
+    let calls = [
+        restore(0, 1, 0, 2),
+        restore(0, 1, 4, 0),
+        restore(0, 1, 5, 0),
+        restore(0, 1, 1, 4),
+        restore(0, 1, 1, 2),
+        restore(2, 1, 65_535, 3),
+    ];
+    let longest = 3 + 1_024 + 3 + 3 + 3 + 2_048 + 3 + 1_024 + 3 + 1_536;
+    assert_eq!(longest_answers(&calls), longest);
+    let mut expected = vec![5, 2, 0];
+    expected.extend([block('A'), block('B')].concat());
+    expected.extend([5, 0, 0, 0, 21, 0, 0, 21, 0, 0, 18, 0, 0, 5, 0]);
+    let bytes = encode(&calls);
+    let mut stored = after_d();
+    let before = stored.clone();
+    assert_eq!(played(&mut stored, &bytes, longest), Ok(expected));
+    assert_eq!((stored.book, stored.pool), (before.book, before.pool));
+    let short = played(&mut after_d(), &bytes, longest - 1);
+    assert_eq!(short, Err(Refusal::ShortOutput));
+}
+
+/// A length may ask for any room, in the volume or not.
+#[test]
+fn the_room_of_restores_does_not_wrap() {
+    let longest = 3 + 512 * 65_535;
+    let call = encode(&[restore(0, 1, 0, 65_535)]);
+    let short = played(&mut after_d(), &call, longest - 1);
+    assert_eq!(short, Err(Refusal::ShortOutput));
+    assert_eq!(played(&mut after_d(), &call, longest), Ok(vec![0, 21, 0]));
+    // In all 390 bytes more than four bytes can tell.
+    let mut calls = vec![restore(0, 1, 0, 65_535); 128];
+    calls.extend([restore(0, 1, 0, 127), restore(0, 1, 0, 1)]);
+    assert_eq!(longest_answers(&calls), (1 << 32) + 390);
+    for room in [0, 390, 1_000] {
+        let short = played(&mut after_d(), &encode(&calls), room);
+        assert_eq!(short, Err(Refusal::ShortOutput));
+    }
 }
 
 fn is_no_list(bytes: &[u8]) {
@@ -182,6 +240,7 @@ fn unused_fields() -> Vec<(usize, Vec<usize>)> {
         vec![4, 6, 8],
         vec![8],
         vec![2, 4, 6, 8],
+        vec![],
     ];
     let places = (0..calls.len()).map(|number| encode(&calls[..number]).len());
     places.zip(unused).collect()
@@ -204,7 +263,7 @@ fn what_a_kind_does_not_use_is_zero() {
 
 #[test]
 fn unknown_kinds_are_none() {
-    for kind in 5..=255 {
+    for kind in 6..=255 {
         let mut bytes = encode(&[Call::Audit]);
         bytes[0] = kind;
         is_no_list(&bytes);
@@ -254,8 +313,12 @@ fn random_list(seed: u64) -> (Stored, Vec<Call>) {
     let pool = run.first_pool();
     let stored = Stored::new(run.sizes(), pool).unwrap();
     let mut shown = stored.clone();
+    let mut prng = Prng::seeded(seed);
     let mut next = || {
-        let call = run.next_call();
+        let call = match prng.once_in(3) {
+            true => Call::Restore(run.restore(&mut prng)),
+            false => run.next_call(),
+        };
         let answer = shown.call(&call);
         run.learn(&call, &answer);
         call
@@ -273,7 +336,8 @@ fn random_lists_are_answered_by_the_plain_store() {
             .iter()
             .flat_map(|call| answer_bytes(&plain.call(call)))
             .collect();
-        let answers = played(&mut stored, &encode(&calls), longest_answers(&calls));
+        let room = longest_answers(&calls);
+        let answers = played(&mut stored, &encode(&calls), room);
         assert_eq!(answers, Ok(expected), "list {seed}");
         assert_eq!(encode(&decode(&encode(&calls)).unwrap()), encode(&calls));
     }

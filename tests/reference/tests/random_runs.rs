@@ -8,6 +8,7 @@ use reference::change_list::list_bytes;
 use reference::history::History;
 use reference::layout::VOLUMES;
 use reference::plain::Plain;
+use reference::prng::Prng;
 use reference::random_calls::{RandomCalls, Shape};
 use reference::refusal::Refusal;
 use reference::store;
@@ -24,6 +25,8 @@ struct Seen {
     shared: u64,
     blocks_read: u64,
     kept_read: u64,
+    /// Restores of several blocks.
+    restored: u64,
     /// Backups of more changes than fit in one run.
     in_pieces: u64,
 }
@@ -44,6 +47,7 @@ impl Seen {
                 self.blocks_read += 1;
                 self.kept_read += u64::from(usize::from(*number) < history.backups(*volume));
             }
+            (_, Answer::Run(blocks)) => self.restored += u64::from(blocks.len() > 512),
             _ => {}
         }
     }
@@ -70,24 +74,10 @@ fn reads_agree(stored: &Stored, plain: &Plain, history: &History, lbns: u16) {
     }
 }
 
-/// The history's answer where it has one.
-fn past_answer(history: &History, call: &Call) -> Option<Answer> {
-    let Call::Read {
-        volume,
-        number,
-        lbn,
-    } = *call
-    else {
-        return None;
-    };
-    let past = history.read(volume, number, lbn);
-    Some(past.map_or_else(Answer::Refused, |block| Answer::Block(Box::new(*block))))
-}
-
 fn changes_nothing(answer: &Answer) -> bool {
     matches!(
         answer,
-        Answer::Refused(_) | Answer::Block(_) | Answer::Sound(_)
+        Answer::Refused(_) | Answer::Block(_) | Answer::Run(_) | Answer::Sound(_)
     )
 }
 
@@ -97,12 +87,17 @@ fn run(label: &str, mut calls: RandomCalls, number: usize, seen: &mut Seen) {
     let mut stored = Stored::new(sizes, pool).expect("sizes in range");
     let mut plain = Plain::new(sizes);
     let mut history = History::new(sizes.lbns);
-    for _ in 0..number {
-        let call = calls.next_call();
+    let mut prng = Prng::seeded(number as u64);
+    for index in 0..2 * number {
+        // Each call comes with a restore.
+        let call = match index % 2 {
+            0 => Call::Restore(calls.restore(&mut prng)),
+            _ => calls.next_call(),
+        };
         let before = stored.clone();
         let answer = stored.call(&call);
         assert_eq!(plain.call(&call), answer, "{label}, {call:?}");
-        if let Some(past) = past_answer(&history, &call) {
+        if let Some(past) = history.answer(&call) {
             assert_eq!(answer, past, "{label}, {call:?}");
         }
         if changes_nothing(&answer) {
@@ -123,7 +118,8 @@ fn box_plain_store_and_history_agree() {
         let calls = RandomCalls::seeded(seed);
         run(&format!("seed {seed}"), calls, CALLS, &mut seen);
     }
-    let reachable: BTreeSet<u16> = (5..=18).filter(|&number| number != 13).collect();
+    let reachable = (5..=18).filter(|&number| number != 13);
+    let reachable: BTreeSet<u16> = reachable.chain([21]).collect();
     assert_eq!(seen.refusals, reachable);
     let counts = [
         seen.freed,
@@ -131,6 +127,7 @@ fn box_plain_store_and_history_agree() {
         seen.shared,
         seen.blocks_read,
         seen.kept_read,
+        seen.restored,
     ];
     assert!(counts.iter().all(|&times| times > 500), "{counts:?}");
 }

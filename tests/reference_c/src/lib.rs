@@ -21,7 +21,7 @@ use reference::form;
 use reference::layout::Sizes;
 use reference::play;
 use reference::refusal::Refusal;
-use reference::store;
+use reference::store::{self, Run};
 use reference::tally;
 
 /// The number of a result; an accepted one's answer goes to `write`.
@@ -119,6 +119,31 @@ pub unsafe extern "C" fn reference_read(
     let pool = from_raw_parts(pool, pool_len);
     let result = store::locate(book, pool, volume, backup_number, lbn);
     number(result, |pbn| *at = pbn.pool_range().start as u32)
+}
+
+#[no_mangle]
+pub unsafe extern "C" fn reference_restore(
+    book: *const u8,
+    book_len: usize,
+    pool: *const u8,
+    pool_len: usize,
+    volume: u16,
+    backup_number: u16,
+    first: u16,
+    length: u16,
+    out: *mut u8,
+    out_len: usize,
+) -> u16 {
+    let book = from_raw_parts(book, book_len);
+    let pool = from_raw_parts(pool, pool_len);
+    let out = from_raw_parts_mut(out, out_len);
+    let run = Run {
+        volume,
+        number: backup_number,
+        first,
+        length,
+    };
+    number(store::restore(book, pool, run, out), |()| {})
 }
 
 #[no_mangle]

@@ -9,6 +9,7 @@ use reference::form;
 use reference::prng::Prng;
 use reference::random_books::disturb;
 use reference::random_calls::{RandomCalls, Shape};
+use reference::store::Run;
 
 /// Shapes of small books.
 const SHAPES: [Shape; 6] = [
@@ -28,8 +29,8 @@ type Key = (usize, u64, usize);
 struct Kept {
     stored: Stored,
     list: Vec<u8>,
-    /// The numbers of the next enrol, backup, collect and read.
-    numbers: [[u16; 3]; 4],
+    /// The numbers of the next enrol, backup, collect, read and restore.
+    numbers: [[u16; 4]; 5],
 }
 
 /// What `reference_make` made; the pointers are good until it is called again.
@@ -42,7 +43,7 @@ pub struct Made {
     list: *const u8,
     list_len: usize,
     /// The call's numbers, in the order of its arguments.
-    number: [u16; 3],
+    number: [u16; 4],
 }
 
 #[derive(Default)]
@@ -56,8 +57,8 @@ thread_local! {
     static MAKER: RefCell<Maker> = RefCell::default();
 }
 
-/// Makes the box of a run, and disturbs its book so many times. `call` is one of the letters e, b, c
-/// and r, for enrol, backup, collect and read; others send no numbers.
+/// Makes the box of a run, and disturbs its book so many times. `call` is one of the letters e, b, c,
+/// r and s, for enrol, backup, collect, read and restore; others send no numbers.
 #[no_mangle]
 pub extern "C" fn reference_make(shape: u8, seed: u16, calls: u8, disturbed: u8, call: u8) -> Made {
     let key = (
@@ -69,7 +70,7 @@ pub extern "C" fn reference_make(shape: u8, seed: u16, calls: u8, disturbed: u8,
         let kept = maker.kept.entry(key).or_insert_with(|| run(key));
         maker.book.clone_from(&kept.stored.book);
         disturb_often(&mut maker.book, seed, disturbed);
-        let kind = b"ebcr".iter().position(|letter| *letter == call);
+        let kind = b"ebcrs".iter().position(|letter| *letter == call);
         Made {
             book: maker.book.as_ptr(),
             book_len: maker.book.len(),
@@ -77,7 +78,7 @@ pub extern "C" fn reference_make(shape: u8, seed: u16, calls: u8, disturbed: u8,
             pool_len: kept.stored.pool.len(),
             list: kept.list.as_ptr(),
             list_len: kept.list.len(),
-            number: kind.map_or([0; 3], |kind| kept.numbers[kind]),
+            number: kind.map_or([0; 4], |kind| kept.numbers[kind]),
         }
     })
 }
@@ -87,23 +88,30 @@ fn run((shape, seed, calls): Key) -> Kept {
     let mut kept = Kept {
         stored: run.run(CALLS[calls]),
         list: Vec::new(),
-        numbers: [[0; 3]; 4],
+        numbers: [[0; 4]; 5],
     };
+    let Run {
+        volume,
+        number,
+        first,
+        length,
+    } = run.restore(&mut Prng::seeded(seed));
+    kept.numbers[4] = [volume, number, first, length];
     let mut missing = vec![0, 1, 2, 3];
     while !missing.is_empty() {
         let (kind, numbers) = match run.next_call() {
-            Call::Enrol { volume, retention } => (0, [volume, retention, 0]),
+            Call::Enrol { volume, retention } => (0, [volume, retention, 0, 0]),
             Call::Backup { volume, day, list } => {
                 kept.list = list;
-                (1, [volume, day, 0])
+                (1, [volume, day, 0, 0])
             }
-            Call::Collect { day } => (2, [day, 0, 0]),
+            Call::Collect { day } => (2, [day, 0, 0, 0]),
             Call::Read {
                 volume,
                 number,
                 lbn,
-            } => (3, [volume, number, lbn]),
-            Call::Audit => continue,
+            } => (3, [volume, number, lbn, 0]),
+            Call::Restore(_) | Call::Audit => continue,
         };
         kept.numbers[kind] = numbers;
         missing.retain(|other| *other != kind);

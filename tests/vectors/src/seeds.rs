@@ -3,6 +3,7 @@
 use reference::call::Call;
 use reference::cases;
 use reference::play::encode;
+use reference::store::Run;
 
 /// Longer books make slow inputs.
 const BOOK_MAX: usize = 2_048;
@@ -10,18 +11,18 @@ const BOOK_MAX: usize = 2_048;
 /// The number of the shape with rows in several runs, among those of `reference_make`.
 const PIECES: u8 = 5;
 
-/// What is XORed with a call's numbers: volumes, days, retentions, numbers of backups, LBNs.
-const NUMBERS: [[u16; 3]; 6] = [
-    [0, 0, 0],
-    [0, 10, 0],
-    [19, 0, 0],
-    [0, 1, 0],
-    [1, 2, 3],
-    [2, 5_000, 0],
+/// What is XORed with a call's numbers: volumes, days, retentions, numbers of backups, LBNs, lengths.
+const NUMBERS: [[u16; 4]; 6] = [
+    [0, 0, 0, 0],
+    [0, 10, 0, 0],
+    [19, 0, 0, 0],
+    [0, 1, 0, 2],
+    [1, 2, 3, 1],
+    [2, 5_000, 0, 0],
 ];
 
 /// The control at the start of an input, with no change of a length but one byte at hand.
-fn control(calls: u8, shape: u8, seed: u16, disturbed: u8, numbers: [u16; 3]) -> Vec<u8> {
+fn control(calls: u8, shape: u8, seed: u16, disturbed: u8, numbers: [u16; 4]) -> Vec<u8> {
     let mut bytes = vec![calls, shape];
     bytes.extend(seed.to_le_bytes());
     bytes.extend([disturbed, 0]);
@@ -51,12 +52,12 @@ pub fn all() -> Vec<(String, Vec<u8>)> {
         for (calls, disturbed) in [(1, 0), (2, 0), (3, 0), (1, 1), (2, 3)] {
             let name = format!("made-{shape}-{calls}-{disturbed}");
             let seed = u16::from(3 * shape + calls);
-            seeds.push((name, control(calls, shape, seed, disturbed, [0; 3])));
+            seeds.push((name, control(calls, shape, seed, disturbed, [0; 4])));
         }
     }
     // Among their next backups are some with a run of 64 blocks, and some with a longer one.
     for seed in 0..16 {
-        let input = control(1, PIECES, seed, 0, [0; 3]);
+        let input = control(1, PIECES, seed, 0, [0; 4]);
         seeds.push((format!("pieces-{seed}"), input));
     }
     for length in [63, 64, 65, 66, 128, 129] {
@@ -68,7 +69,7 @@ pub fn all() -> Vec<(String, Vec<u8>)> {
     seeds.push(("marks-1024".into(), marks(&[&[1; 128]], 8)));
     for calls in 0..3 {
         for mended in 0..2 {
-            let mut input = control(calls, calls, 0, 0, [mended, 0, 0]);
+            let mut input = control(calls, calls, 0, 0, [mended, 0, 0, 0]);
             input.extend(list(calls == 0));
             seeds.push((format!("list-{calls}-{mended}"), input));
         }
@@ -92,9 +93,20 @@ fn list(fresh: bool) -> Vec<u8> {
         ],
     };
     let day = if fresh { 19 } else { 60_000 };
+    let restore = |first, length| {
+        Call::Restore(Run {
+            volume: 0,
+            number: 1,
+            first,
+            length,
+        })
+    };
     calls.extend([
         read(1),
         read(2),
+        restore(0, 2),
+        restore(1, 3),
+        restore(1, 4),
         Call::Collect { day },
         read(1),
         Call::Audit,
@@ -104,13 +116,13 @@ fn list(fresh: bool) -> Vec<u8> {
 
 /// These marks one after the other for the writer, and all of it so many times.
 fn marks(rows: &[&[u8]], times: u8) -> Vec<u8> {
-    let mut input = control(times - 1, 0, 0, 0, [0; 3]);
+    let mut input = control(times - 1, 0, 0, 0, [0; 4]);
     input.extend(rows.concat());
     input
 }
 
 /// A book as it is, and a list of one change.
-fn given(book: &[u8], numbers: [u16; 3]) -> Vec<u8> {
+fn given(book: &[u8], numbers: [u16; 4]) -> Vec<u8> {
     let mut input = control(0, 0, 0, 0, numbers);
     input.extend(book);
     input.extend(cases::list(&[(0, "X")]));

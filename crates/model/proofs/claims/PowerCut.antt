@@ -23,7 +23,8 @@ use Rattle.model.proofs.agreement.BackupAgree.{BothBacked, stopped, bac
 use Rattle.model.proofs.form.BackupFit.{backup-fit}
 use Rattle.model.proofs.agreement.BlocksIn.{blocksIn-at, length-blocksIn, held-inside}
 use Rattle.model.specs.Calls.{Call, enrol, backup, collect, read, audit}
-use Rattle.model.specs.Claims.{Fresh, plainEnd}
+use Rattle.model.specs.Claims.{Fresh, plainAnswers, plainEnd}
+use Rattle.model.specs.History.{historyOf, dayOf}
 use Rattle.model.specs.OnBytes.{CollectedBytes, backedBytes, enrolBytes, collectBytes}
 use Rattle.model.proofs.form.OnBytesFit.{backup-on-bytes}
 use Rattle.model.specs.Plain.{Block, free, held, Plain, start, currentMaps, atDay, withBlocks, withVolume}
@@ -33,7 +34,7 @@ use Rattle.model.specs.PlainBackup
 use Rattle.model.proofs.plain.PlainPlacing.{Grown, grown-self, grown-then, place-placed}
 use Rattle.model.proofs.plain.PlainShows.{heldBytes, shownAt}
 use Rattle.model.specs.Pool.{poolSize, blockAt}
-use Rattle.model.proofs.claims.Proved.{end-append, fresh-stands}
+use Rattle.model.proofs.claims.Proved.{end-append, fresh-stands, stands-restores, read-owed}
 use Rattle.model.specs.Sides.{blocksIn, Ours, oursEnrolled, oursBacked, oursCollected, ours, plain}
 use Rattle.model.proofs.agreement.Standing.{Stand, stand, fit-form, fit-book, call-alike, list-answers}
 use Rattle.model.specs.Claims.{Serves, Reached, begins, calls, cut, PowerCut}
@@ -213,4 +214,7 @@ power-cut f cs o r =
     record {
       leaves = λ c. stand-leaves (f .spare) (f .spareEnough) s c;
       answers = λ ds. list-answers (f .sizes) (f .spare) (f .spareEnough) s ds;
+      restores = λ v k first many room.
+          stands-restores (f .sizes) (f .spare) (f .spareEnough) s v k (dayOf cs (plainAnswers f cs)) (historyOf v cs (plainAnswers f cs))
+          (λ lbn. read-owed f cs s v k lbn) first many room;
     }

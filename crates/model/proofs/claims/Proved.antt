@@ -19,7 +19,7 @@ use Rattle.model.proofs.agreement.BackupAgree.{backup-touching}
 use Rattle.model.proofs.claims.BackupCounts.{touched-most}
 use Rattle.model.proofs.form.BackupFit.{backup-fit}
 use Rattle.model.specs.Calls.{Call, backup, collect, read, audit, Answer, backed, freed}
-use Rattle.model.specs.Claims.{Fresh, begin, ourEnd, plainEnd, changesName, Lists, Images, Corollaries}
+use Rattle.model.specs.Claims.{Fresh, begin, ourEnd, plainAnswers, plainEnd, changesName, Lists, restoredAt, Images, Corollaries}
 use Rattle.model.specs.Collect
 use Rattle.model.specs.Collect.{collected, collectNumber}
 use Rattle.model.proofs.agreement.CollectAgree.{freeing}
@@ -27,13 +27,15 @@ use Rattle.model.proofs.form.CollectFit.{collect-fit}
 use Rattle.model.proofs.claims.CollectTwice.{collect-twice, collect-twice-number}
 use Rattle.model.proofs.agreement.FreshAgree.{fresh-agree}
 use Rattle.model.proofs.form.FreshFit.{fresh-fit}
-use Rattle.model.specs.History.{historyOf, dayOf, historyRead}
+use Rattle.model.specs.History.{History, historyOf, dayOf, historyRead, historyRestore}
 use Rattle.model.specs.OnBytes.{backedBytes, collectedBytes}
-use Rattle.model.proofs.form.OnBytesFit.{format-on-bytes, collect-on-bytes, backup-on-bytes}
+use Rattle.model.proofs.form.OnBytesFit.{format-on-bytes, collect-on-bytes, backup-on-bytes, read-on-bytes, restore-on-bytes}
 use Rattle.model.specs.Plain.{Plain, start, marked}
 use Rattle.model.proofs.plain.PlainReads.{plain-reads}
-use Rattle.model.specs.Sides.{Step, endOf, Ours, oursBacked, oursCollected, ours, plain, oursShown, plainShown}
-use Rattle.model.proofs.agreement.Standing.{Stand, stand, fit-form, fit-book, call-alike, list-answers, list-stands, list-undamaged}
+use Rattle.model.proofs.plain.HistoryRestores.{history-restores}
+use Rattle.model.specs.Sides.{Step, endOf, readAnswer, Ours, oursBacked, oursCollected, ours, plain, oursShown, plainShown}
+use Rattle.model.proofs.agreement.Standing.{Stand, stand, Alike, fit-form, fit-book, call-alike, list-answers, list-stands}
+use Rattle.model.proofs.agreement.Standing.{list-undamaged}
 
 -- ---- what a call leaves of the entries, where both sides agree
 
@@ -135,6 +137,23 @@ module _ (z : Sizes) (spare : ℕ) (enough : bookSize z ≤ spare) where
       → ours spare (ours spare o (collect t) .next) (collect t) .answer ≡ freed 0
   stands-collects (stand x pool q g e) = agree-collects spare g
 
+  -- a restore gives what the history owes, where every read does
+  pub stands-restores : {o : Ours} {q : Plain} → Stand z o q → (v k d : ℕ) (h : History)
+      → ((lbn : ℕ) → ours spare o (read v k lbn) .answer ≡ historyRead (z .l) h d k lbn) → (first many room : ℕ)
+      → restoredAt o v k first many room ≡ historyRestore (z .l) h d k first many room
+  unfolding ours
+  stands-restores (stand x pool q g e) v k d h reads first many room =
+      let form = fit-form (g .fit) in
+      let book = fit-book (g .fit) in
+      restore-on-bytes form book pool (g .poolLong) v k first many room
+      ∙ history-restores x pool v k d h
+      (λ lbn.
+      ap readAnswer (sym (read-on-bytes form book pool (g .poolLong) v k lbn))
+      ∙ reads lbn
+      ∙ ap (λ (y : Sizes). historyRead (y .l) h d k lbn) (sym e))
+      first many room
+      ∙ ap (λ (y : Sizes). historyRestore (y .l) h d k first many room) e
+
   stands-shown : {o : Ours} {q : Plain} → Stand z o q → oursShown o ≡ plainShown q
   unfolding oursShown plainShown
   stands-shown (stand x pool q g e) = rw (fit-book (g .fit)) (λ i. record { blocks = sym (g .blocks) i; maps = sym (maps-agree g) i })
@@ -161,6 +180,10 @@ module _ (f : Fresh) (cs : List Call) where
   after : (before : List Call) → Stand (f .sizes) (ourEnd f before) (plainEnd f before)
   after before = list-stands (f .sizes) (f .spare) (f .spareEnough) (fresh-stands f) before
 
+  -- the next call, whichever it is
+  pub next-alike : (c : Call) → Alike (f .sizes) (ours (f .spare) (ourEnd f cs) c) (plain (plainEnd f cs) c)
+  next-alike c = call-alike (f .sizes) (f .spare) (f .spareEnough) (after cs) c
+
   pub lists : Lists f cs
   lists = record {
     answers = list-answers (f .sizes) (f .spare) (f .spareEnough) (fresh-stands f) cs;
@@ -169,20 +192,30 @@ module _ (f : Fresh) (cs : List Call) where
     touching = λ before rest v t p list e h n. stands-touching (f .sizes) (f .spare) (f .spareEnough) (after before) v t p list h n;
   }
 
-  pub images : Images f cs
+  -- a read wherever both sides stand alike after the list
+  pub read-owed : {o : Ours} → Stand (f .sizes) o (plainEnd f cs) → (v k lbn : ℕ) → ours (f .spare) o (read v k lbn) .answer
+      ≡ historyRead (f .sizes .l) (historyOf v cs (plainAnswers f cs)) (dayOf cs (plainAnswers f cs)) k lbn
   unfolding plain
+  read-owed s v k lbn =
+      call-alike (f .sizes) (f .spare) (f .spareEnough) s (read v k lbn) .answer ∙ plain-reads (f .sizes) (sizes-fresh f) cs v k lbn
+
+  pub images : Images f cs
   images = record {
     reads = λ v k lbn.
-        call-alike (f .sizes) (f .spare) (f .spareEnough) (after cs) (read v k lbn) .answer
-        ∙ plain-reads (f .sizes) (sizes-fresh f) cs v k lbn
+        read-owed (after cs) v k lbn
         ∙ ap (λ (answers : List Answer). historyRead (f .sizes .l) (historyOf v cs answers) (dayOf cs answers) k lbn)
+        (sym (lists .answers));
+    restores = λ v k first many room.
+        stands-restores (f .sizes) (f .spare) (f .spareEnough) (after cs) v k (dayOf cs (plainAnswers f cs))
+        (historyOf v cs (plainAnswers f cs)) (λ lbn. read-owed (after cs) v k lbn) first many room
+        ∙ ap (λ (answers : List Answer). historyRestore (f .sizes .l) (historyOf v cs answers) (dayOf cs answers) k first many room)
         (sym (lists .answers));
   }
 
   pub corollaries : Corollaries f cs
   unfolding plain
   corollaries = record {
-    audits = call-alike (f .sizes) (f .spare) (f .spareEnough) (after cs) audit .answer;
+    audits = next-alike audit .answer;
     undamaged = list-undamaged (f .sizes) (f .spare) (f .spareEnough) (fresh-stands f) cs;
     touches = λ v t list k taken touched a. stands-touches (f .sizes) (f .spare) (f .spareEnough) (after cs) v t list k taken touched a;
     collects = λ t k a.

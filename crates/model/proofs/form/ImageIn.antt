@@ -18,6 +18,7 @@ use Rattle.book.proofs.Conditions.{pbn-cases, cell-in}
 use Rattle.book.specs.Form.{pbnOk, recOk}
 use Rattle.book.specs.FormFacts.{BookParts}
 use Rattle.model.specs.Journal.{Backup, journalOf, journal, backups}
+use Rattle.model.specs.JournalAt.{backupsFrom, firstBefore, imageFrom}
 use Rattle.model.specs.Read.{recordsOf, beforeOr, image}
 
 -- what holds of all records holds of each backup's, and of the first that passes a test
@@ -56,25 +57,38 @@ before-ok z r e =
 abbrev beforeOk : Book → Rec → Bool
 beforeOk x r = pbnOk (x .sizes .n) (r .before)
 
-all-ok : (x : Book) → BookParts x → (v k : ℕ) → all (beforeOk x) (recordsOf (drop k (backups x v))) ≡ true
-unfolding backups journal
-all-ok x h v k =
-    all-records (beforeOk x) (drop k (backups x v))
-    (all-drop (allOf (beforeOk x)) k (backups x v)
-    (all-those (allOf (beforeOk x)) (λ b. eqb (b .volume) v) (journal x)
-    (all-journal (beforeOk x) (x .slots) (x .records)
-    (all-weaker (recOk (x .sizes)) (beforeOk x) (x .records) (before-ok (x .sizes)) (h .records)))))
+journal-ok : (x : Book) → BookParts x → all (allOf (beforeOk x)) (journal x) ≡ true
+unfolding journal
+journal-ok x h =
+    all-journal (beforeOk x) (x .slots) (x .records)
+    (all-weaker (recOk (x .sizes)) (beforeOk x) (x .records) (before-ok (x .sizes)) (h .records))
 
-pub image-in : (x : Book) → BookParts x → (v k lbn : ℕ) → (image x v k lbn < x .sizes .n) ⊎ (image x v k lbn ≡ unmapped)
-unfolding image
-image-in x h v k lbn = go (firstThat has (recordsOf (drop k (backups x v)))) refl
+-- the before of a first record, else the current map
+before-in : (x : Book) → BookParts x → (v lbn : ℕ) (rs : List Rec) → all (beforeOk x) rs ≡ true
+    → (firstBefore lbn rs (cellAt (x .maps) v lbn) < x .sizes .n) ⊎ (firstBefore lbn rs (cellAt (x .maps) v lbn) ≡ unmapped)
+before-in x h v lbn rs ok = go (firstThat has rs) refl
   where
     has : Rec → Bool
     has r = eqb (r .lbn) lbn
 
-    go : (o : Option Rec) → firstThat has (recordsOf (drop k (backups x v))) ≡ o
+    go : (o : Option Rec) → firstThat has rs ≡ o
         → (beforeOr (cellAt (x .maps) v lbn) o < x .sizes .n) ⊎ (beforeOr (cellAt (x .maps) v lbn) o ≡ unmapped)
     go none e = cell-in x h v lbn
-    go (some r) e =
-        pbn-cases (x .sizes .n) (r .before)
-        (first-passes (beforeOk x) has (recordsOf (drop k (backups x v))) r (all-ok x h v k) e)
+    go (some r) e = pbn-cases (x .sizes .n) (r .before) (first-passes (beforeOk x) has rs r ok e)
+
+pub image-in : (x : Book) → BookParts x → (v k lbn : ℕ) → (image x v k lbn < x .sizes .n) ⊎ (image x v k lbn ≡ unmapped)
+unfolding image backups
+image-in x h v k lbn =
+    before-in x h v lbn (recordsOf (drop k (backups x v)))
+    (all-records (beforeOk x) (drop k (backups x v))
+    (all-drop (allOf (beforeOk x)) k (backups x v)
+    (all-those (allOf (beforeOk x)) (λ b. eqb (b .volume) v) (journal x) (journal-ok x h))))
+
+pub image-from-in : (x : Book) → BookParts x → (v q lbn : ℕ)
+    → (imageFrom x v q lbn < x .sizes .n) ⊎ (imageFrom x v q lbn ≡ unmapped)
+unfolding imageFrom backupsFrom
+image-from-in x h v q lbn =
+    before-in x h v lbn (recordsOf (backupsFrom x v q))
+    (all-records (beforeOk x) (backupsFrom x v q)
+    (all-those (allOf (beforeOk x)) (λ b. eqb (b .volume) v) (drop q (journal x))
+    (all-drop (allOf (beforeOk x)) q (journal x) (journal-ok x h))))

@@ -21,9 +21,10 @@ use Rattle.model.specs.Enrol.{enrol}
 use Rattle.model.specs.Backup.{backup}
 use Rattle.model.specs.Collect.{collect}
 use Rattle.model.specs.Read.{image, read}
+use Rattle.model.specs.Restore.{restore}
 use Rattle.model.specs.Audit.{audit}
 use Rattle.model.specs.OnBytes.{numberOf, poolNumber, spareNumber, formatNumber, formatBytes, enrolBytes, backedBytes, backupBytes}
-use Rattle.model.specs.OnBytes.{collectedBytes, collectBytes, readBytes, readNumberBytes, readPlaceBytes, auditBytes}
+use Rattle.model.specs.OnBytes.{collectedBytes, collectBytes, readBytes, readNumberBytes, readPlaceBytes, restoreBytes, auditBytes}
 
 -- an accepted format leaves the bytes of a fresh book
 pub format-on-bytes : (b : List ℕ) (z : Sizes) (b′ : List ℕ) → formatBytes b z ≡ accepted b′ → (sizesOk z ≡ true) × (b′ ≡ bytes (fresh z))
@@ -74,6 +75,11 @@ module _ {x : Book} (form : formNumber (bytes x) ≡ 0) (book : bookOf (bytes x)
         → readPlaceBytes (bytes x) pool v k lbn ≡ unless (numberOf (read x pool v k lbn)) (accepted (image x v k lbn * blockSize))
     unfolding readPlaceBytes
     read-place-on-bytes v k lbn = rw (read-number-on-bytes v k lbn, book)
+
+    pub restore-on-bytes : (v k first many room : ℕ)
+        → restoreBytes (bytes x) pool v k first many room ≡ restore x pool v k first many room
+    unfolding restoreBytes
+    restore-on-bytes v k first many room = rw (form, pool-passes, book)
 
     -- ---- .. and a spare
 

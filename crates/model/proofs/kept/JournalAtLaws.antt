@@ -1,21 +1,26 @@
 -- Laws of specs/JournalAt.antt.
--- The journal slot by slot: the backup that a slot holds, and a volume's backups in the slots from one on.
+-- The journal slot by slot: the backup that a slot holds, a volume's backups in the slots from one on, and what it had before them.
 use Prim.Native.Nat.{ℕ, zero, suc, _+_, _≤_, _<_}
 use mathlib.Core.Path.{_≡_, refl, sym, ap, _∙_}
-use mathlib.Core.Bool.{true}
-use mathlib.Core.List.{List, [], _∷_, _++_}
+use mathlib.Core.Bool.{Bool, true, false}
+use mathlib.Core.List.{List, [], _∷_, _++_, map}
+use mathlib.Core.Option.{some}
 use native.Mathlib.Nat.{le-of-suc-le-suc, not-suc-le-zero}
 use native.Mathlib.Numerals.{add-one}
 use lib.Dec.{eqb}
 use lib.ListN.{length, getD, take, drop, drop-of-length-le}
 use lib.Seq.{drop-cons, drop-drop}
 use borrow.Author.Tests.{eqb-true, eq-eqb, ne-eqb}
+use Rattle.words.proofs.Appends.{joined-append, map-append}
 use Rattle.words.proofs.ChoiceLaws.{and-true}
-use Rattle.book.specs.Book.{Slot, Rec, Book, noSlot, slotAt}
+use Rattle.words.specs.Choice.{if_then_else_}
+use Rattle.words.specs.Lists.{firstThat, joined}
+use Rattle.book.specs.Book.{Slot, Rec, Book, noSlot, slotAt, cellAt}
 use Rattle.book.specs.Form.{pairsOk}
-use Rattle.model.specs.Journal.{journalOf, journal, backups}
+use Rattle.model.specs.Journal.{Backup, journalOf, journal, backups}
+use Rattle.model.specs.Read.{recordsOf, beforeOr, image}
 use Rattle.model.proofs.kept.JournalLaws.{backupsIn-append}
-use Rattle.model.specs.JournalAt.{noBackup, backupAt, backupsFrom, ownAt}
+use Rattle.model.specs.JournalAt.{noBackup, backupAt, backupsFrom, ownAt, firstBefore, imageFrom}
 
 -- ---- its parts are the slot's
 
@@ -94,3 +99,37 @@ module _ (x : Book) (v q : ℕ) where
   pub from-end : length (x .slots) ≤ q → backupsFrom x v q ≡ []
   unfolding backupsFrom
   from-end h = rw (journal-end x q h)
+
+-- ---- what the volume had before its backups in the slots from q on
+
+pub firstBefore-append : (l : ℕ) (rs qs : List Rec) (p : ℕ) → firstBefore l (rs ++ qs) p ≡ firstBefore l rs (firstBefore l qs p)
+firstBefore-append l [] qs p = refl
+firstBefore-append l (r ∷ rs) qs p = go (eqb (r .lbn) l) (firstBefore-append l rs qs p)
+  where
+    go : (t : Bool) → firstBefore l (rs ++ qs) p ≡ firstBefore l rs (firstBefore l qs p)
+        → beforeOr p (if t then some r else firstThat (λ r. eqb (r .lbn) l) (rs ++ qs))
+        ≡ beforeOr (firstBefore l qs p) (if t then some r else firstThat (λ r. eqb (r .lbn) l) rs)
+    go true ih = refl
+    go false ih = ih
+
+pub recordsOf-append : (bs cs : List Backup) → recordsOf (bs ++ cs) ≡ recordsOf bs ++ recordsOf cs
+recordsOf-append bs cs =
+    ap joined (map-append (λ (b : Backup). b .records) bs cs)
+    ∙ joined-append (map (λ (b : Backup). b .records) bs) (map (λ (b : Backup). b .records) cs)
+
+module _ (x : Book) (v q l : ℕ) where
+  -- what slot q's records say, and else what it had before the later ones
+  pub image-split : q < length (x .slots) → imageFrom x v q l ≡ firstBefore l (recordsOf (ownAt x v q)) (imageFrom x v (q + 1) l)
+  unfolding imageFrom
+  image-split h =
+      rw (from-split x v q h, recordsOf-append (ownAt x v q) (backupsFrom x v (q + 1)))
+      (firstBefore-append l (recordsOf (ownAt x v q)) (recordsOf (backupsFrom x v (q + 1))) (cellAt (x .maps) v l))
+
+  pub image-end : length (x .slots) ≤ q → imageFrom x v q l ≡ cellAt (x .maps) v l
+  unfolding imageFrom
+  image-end h = rw (from-end x v q h)
+
+  -- where these are the backups after k, it is the image of k
+  pub image-from : (k : ℕ) → drop k (backups x v) ≡ backupsFrom x v q → image x v k l ≡ imageFrom x v q l
+  unfolding image imageFrom
+  image-from k e = rw e

@@ -2,7 +2,7 @@
 use Prim.Native.Nat.{ℕ, zero, suc, _<_}
 use mathlib.Core.Path.{_≡_, refl, sym, ap, _∙_}
 use mathlib.Core.Bool.{Bool, true, false}
-use mathlib.Core.List.{List, [], _∷_, _++_}
+use mathlib.Core.List.{List, [], _∷_}
 use mathlib.Core.Option.{some}
 use native.Mathlib.Omega.{arith}
 use lib.Dec.{eqb}
@@ -21,16 +21,7 @@ use Rattle.model.proofs.agreement.Agree.{imagesOf}
 use Rattle.model.proofs.kept.Sound.{Sound}
 use Rattle.model.proofs.kept.Replays.{mapAfter, Sounds}
 use Rattle.model.specs.JournalAt.{firstBefore}
-
-firstBefore-append : (l : ℕ) (rs qs : List Rec) (p : ℕ) → firstBefore l (rs ++ qs) p ≡ firstBefore l rs (firstBefore l qs p)
-firstBefore-append l [] qs p = refl
-firstBefore-append l (r ∷ rs) qs p = go (eqb (r .lbn) l) (firstBefore-append l rs qs p)
-  where
-    go : (t : Bool) → firstBefore l (rs ++ qs) p ≡ firstBefore l rs (firstBefore l qs p)
-        → beforeOr p (if t then some r else firstThat (λ r. eqb (r .lbn) l) (rs ++ qs))
-        ≡ beforeOr (firstBefore l qs p) (if t then some r else firstThat (λ r. eqb (r .lbn) l) rs)
-    go true ih = refl
-    go false ih = ih
+use Rattle.model.proofs.kept.JournalAtLaws.{firstBefore-append}
 
 -- one backup undone, and all of them
 undone : (l : ℕ) (m : List ℕ) (rs : List Rec) → Sound m rs → firstBefore l rs (getD (applied m rs) l unmapped) ≡ getD m l unmapped

@@ -7,9 +7,10 @@ use reference::cases;
 use reference::layout::BLOCK_BYTES;
 use reference::play::encode;
 use reference::prng::Prng;
+use reference::store::Run;
 use vectors::{edited, Edit, Vector};
 
-use super::{play, views, Job};
+use super::{play, restores, views, Job};
 use crate::outcome::Outcome;
 use crate::request::Request;
 
@@ -69,11 +70,19 @@ fn calls() -> Vec<Call> {
         Call::Collect { day: 60_000 },
         Call::Audit,
     ];
-    calls.extend((1..3).map(|number| Call::Read {
-        volume: 0,
-        number,
-        lbn: 0,
-    }));
+    for number in 1..3 {
+        calls.push(Call::Read {
+            volume: 0,
+            number,
+            lbn: 0,
+        });
+        calls.push(Call::Restore(Run {
+            volume: 0,
+            number,
+            first: 0,
+            length: 2,
+        }));
+    }
     calls
 }
 
@@ -93,7 +102,11 @@ fn send_all(outcome: &mut Outcome, label: &dyn Fn() -> String, book: &[u8]) {
     let mut prng = Prng::seeded(0);
     let stored = &with_book(book.to_vec());
     for call in &calls() {
-        outcome.compare(&mut prng, label, Request::Call { stored, call });
+        restores::send_call(outcome, &mut prng, label, stored, call);
+        if let Call::Restore(run) = call {
+            let short = run.bytes() - 1;
+            restores::send(outcome, &mut prng, label, (stored, *run), short);
+        }
     }
     let list = encode(&calls());
     let room = play::room_for(&list);

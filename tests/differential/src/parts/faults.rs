@@ -1,14 +1,14 @@
-//! The order of the checks: each call with every set of faults at once is refused by the lowest.
+//! The order of the checks: each call with every set of faults at once is refused by the first.
 
 use reference::call::{Call, Stored};
 use reference::cases;
 use reference::layout::{Book, Header, Pbn};
 use reference::play::encode;
 use reference::prng::Prng;
-use reference::store;
+use reference::store::{self, Run};
 use reference::view::View;
 
-use super::{play, views, Job};
+use super::{play, restores, views, Job};
 use crate::outcome::Outcome;
 use crate::request::Request;
 use crate::seen::{equal, Seen};
@@ -16,6 +16,8 @@ use crate::seen::{equal, Seen};
 /// The numbers that each call is tried with; the faults of a set go together.
 const BACKUP: &[u16] = &[1, 2, 3, 4, 5, 7, 8, 9, 10, 11, 13, 14];
 const READ: &[u16] = &[1, 2, 3, 5, 15, 16, 17, 18];
+/// In the order of the checks: 21 comes before 18.
+const RESTORE: &[u16] = &[1, 2, 3, 5, 15, 16, 21, 18];
 const ENROL: &[u16] = &[1, 2, 5, 6];
 const COLLECT: &[u16] = &[1, 2, 7];
 const BOOK: &[u16] = &[1, 2];
@@ -38,6 +40,7 @@ pub fn jobs() -> Vec<Job> {
     ];
     let job = |(numbers, make)| Job::new(PART, move |o| send_calls(o, numbers, make));
     let mut jobs: Vec<Job> = calls.into_iter().map(job).collect();
+    jobs.push(Job::new(PART, send_restores));
     jobs.push(Job::new(PART, send_books));
     jobs.push(Job::new(PART, send_views));
     jobs.push(Job::new(PART, send_lists));
@@ -58,6 +61,19 @@ fn send_calls(outcome: &mut Outcome, numbers: &[u16], make: Make) {
     for faults in sets(numbers) {
         let (stored, call) = (&faults.stored(), &make(&faults));
         send(outcome, &mut prng, &faults, Request::Call { stored, call });
+    }
+}
+
+/// Every way in which a restore has these faults.
+fn send_restores(outcome: &mut Outcome) {
+    let mut prng = Prng::seeded(0);
+    for faults in sets(RESTORE) {
+        let stored = &faults.stored();
+        for (run, room) in faults.restores() {
+            let sent = (stored, run);
+            let seen = restores::send(outcome, &mut prng, &faults.label(), sent, room);
+            check_first(outcome, &faults, seen);
+        }
     }
 }
 
@@ -83,7 +99,7 @@ fn send_views(outcome: &mut Outcome) {
             let view = View::all(faults.either(5, 8, 1))[index];
             let book = &faults.stored().book[..];
             let seen = views::send(outcome, &mut prng, &faults.label(), (book, view), room);
-            check_lowest(outcome, &faults, seen);
+            check_first(outcome, &faults, seen);
         }
     }
 }
@@ -94,7 +110,8 @@ fn send_lists(outcome: &mut Outcome) {
     let mut prng = Prng::seeded(0);
     for damage in sets(&[1, 2, 3, 4]) {
         for faults in sets(PLAY) {
-            let calls = [damage.backup(), damage.read(), Call::Audit];
+            let restore = Call::Restore(damage.restores()[0].0);
+            let calls = [damage.backup(), damage.read(), restore, Call::Audit];
             let mut list = encode(&calls);
             let room = play::room_for(&list) - usize::from(faults.has(20));
             if faults.has(19) {
@@ -102,25 +119,26 @@ fn send_lists(outcome: &mut Outcome) {
             }
             let sent = (&damage.stored(), &list[..]);
             let seen = play::send(outcome, &mut prng, &faults.label(), sent, room);
-            check_lowest(outcome, &faults, seen);
+            check_first(outcome, &faults, seen);
         }
     }
 }
 
 fn send(outcome: &mut Outcome, prng: &mut Prng, faults: &Faults, request: Request) {
     let seen = outcome.compare(prng, &faults.label(), request);
-    check_lowest(outcome, faults, seen);
+    check_first(outcome, faults, seen);
 }
 
-fn check_lowest(outcome: &mut Outcome, faults: &Faults, seen: Option<Seen>) {
+fn check_first(outcome: &mut Outcome, faults: &Faults, seen: Option<Seen>) {
     if let Some(seen) = seen {
-        let lowest = faults.0.first().copied().unwrap_or(0);
-        let lowest = equal("the lowest number", seen.number, lowest);
-        outcome.check(&faults.label(), lowest);
+        let first = faults.0.first().copied().unwrap_or(0);
+        let first = equal("the first number", seen.number, first);
+        outcome.check(&faults.label(), first);
     }
 }
 
-/// Numbers in order, each for a fault in the arguments of a call on the box after case d.
+/// Numbers in the order of the checks, each for a fault in the arguments of a call on the box after
+/// case d.
 struct Faults(Vec<u16>);
 
 impl Faults {
@@ -192,6 +210,34 @@ impl Faults {
             number: self.either(15, 0, self.either(16, 1, 2)),
             lbn: self.either(17, 4, self.either(18, 0, 3)),
         }
+    }
+
+    /// The same backups as `read`. The end, the room or both give 21; a run without a block gives no
+    /// 18.
+    fn restores(&self) -> Vec<(Run, usize)> {
+        let run = |first, length| Run {
+            volume: self.either(5, 2, 1),
+            number: self.either(15, 0, self.either(16, 1, 2)),
+            first,
+            length,
+        };
+        let first = self.either(18, 2, 3);
+        let (whole, longer) = (run(first, 4 - first), run(first, 5 - first));
+        let none = run(self.either(21, 5, 4), 0);
+        let mut restores = match self.has(21) {
+            true => vec![
+                (longer, longer.bytes()),
+                (longer, longer.bytes() - 1),
+                (whole, whole.bytes() - 1),
+                (whole, whole.length.into()),
+                (run(65_535, 65_535), 2_048),
+            ],
+            false => vec![(whole, whole.bytes()), (whole, whole.bytes() + 1)],
+        };
+        if !self.has(18) {
+            restores.push((none, 0));
+        }
+        restores
     }
 
     fn enrol(&self) -> Call {

@@ -4,9 +4,10 @@ use reference::call::{Call, Stored};
 use reference::cases;
 use reference::play::encode;
 use reference::prng::Prng;
+use reference::store::Run;
 use reference::view::View;
 
-use super::{play, views, Job};
+use super::{play, restores, views, Job};
 use crate::outcome::Outcome;
 use crate::request::{Request, WriteList};
 
@@ -63,7 +64,7 @@ fn send_box(outcome: &mut Outcome, buffer: usize) {
         let stored = &Stored { book, pool, spare };
         let calls = calls(list);
         for call in &calls {
-            outcome.compare(&mut prng, &label, Request::Call { stored, call });
+            restores::send_call(outcome, &mut prng, &label, stored, call);
         }
         let list = encode(&calls);
         let room = play::room_for(&list);
@@ -72,7 +73,7 @@ fn send_box(outcome: &mut Outcome, buffer: usize) {
 }
 
 /// Each call, as the box after case d accepts it.
-fn calls(list: Vec<u8>) -> [Call; 5] {
+fn calls(list: Vec<u8>) -> [Call; 6] {
     [
         Call::Enrol {
             volume: 7,
@@ -89,11 +90,19 @@ fn calls(list: Vec<u8>) -> [Call; 5] {
             number: 1,
             lbn: 0,
         },
+        Call::Restore(TWO_BLOCKS),
         Call::Audit,
     ]
 }
 
-/// The calls that show the book after case d, with their outputs resized.
+const TWO_BLOCKS: Run = Run {
+    volume: 0,
+    number: 1,
+    first: 0,
+    length: 2,
+};
+
+/// The calls that show the book after case d, and a restore from it, with their outputs resized.
 fn send_outputs(outcome: &mut Outcome) {
     let mut prng = Prng::seeded(0);
     let book = &cases::after_d().book[..];
@@ -103,6 +112,20 @@ fn send_outputs(outcome: &mut Outcome) {
             views::send(outcome, &mut prng, &label, (book, view), length);
         }
     }
+    let sent = (&cases::after_d(), TWO_BLOCKS);
+    for length in lengths(TWO_BLOCKS.bytes()) {
+        let label = || format!("lengths, a restore's output of {length} bytes");
+        restores::send(outcome, &mut prng, &label, sent, length);
+    }
+    // An end that is 0 in 16 bits, with room for all of it.
+    let longest = Run {
+        first: 1,
+        length: 65_535,
+        ..TWO_BLOCKS
+    };
+    let label = || "lengths, a restore of 65,535 blocks".to_string();
+    let sent = (sent.0, longest);
+    restores::send(outcome, &mut prng, &label, sent, longest.bytes());
 }
 
 /// The aid's writer with marks, fingerprints, image or output resized.

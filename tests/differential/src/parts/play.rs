@@ -6,10 +6,13 @@ use std::ops::Range;
 use reference::agreement;
 use reference::call::{Call, Stored};
 use reference::cases;
+use reference::history::History;
+use reference::layout::Sizes;
 use reference::plain::Plain;
 use reference::play::{answer_bytes, decode, encode, longest_answers, HEAD_BYTES};
 use reference::prng::Prng;
 use reference::random_calls::{RandomCalls, Shape};
+use reference::store::Run;
 
 use super::runs::disturbed;
 use super::tested::Tested;
@@ -30,7 +33,14 @@ pub fn jobs(shape: Shape, seeds: Range<u64>) -> Vec<Job> {
 
 /// Lists on the box after case d that are broken in every way, and with any room.
 pub fn broken() -> Vec<Job> {
-    let works = [send_cut, send_heads, send_data, send_rooms];
+    let works = [
+        send_cut,
+        send_heads,
+        send_data,
+        send_rooms,
+        send_wrapping,
+        send_whole_volume,
+    ];
     works.map(|work| Job::new(PART, work)).into()
 }
 
@@ -87,43 +97,58 @@ fn send_random(outcome: &mut Outcome, shape: Shape, seed: u64) {
         Shape::LongLists => 16,
         _ => prng.pick(&[1, 2, shape.calls() / 3, shape.calls()]),
     };
-    let calls = calls_of(&mut run, &fresh, number);
+    let calls = calls_of(&mut run, &fresh, number, seed);
     send_plain(outcome, &mut prng, &label, &fresh, (&calls, run.sizes()));
     send_parts(outcome, &mut prng, &label, &fresh, &calls);
     send_spoiled(outcome, &mut prng, &label, &fresh, encode(&calls));
 }
 
-/// The run's calls, which go by what the second implementation answers.
-fn calls_of(run: &mut RandomCalls, fresh: &Stored, number: usize) -> Vec<Call> {
+/// The run's calls, which go by what the second implementation answers; restores among them have a
+/// generator of their own.
+fn calls_of(run: &mut RandomCalls, fresh: &Stored, number: usize, seed: u64) -> Vec<Call> {
     let mut stored = fresh.clone();
-    let mut next = || {
+    let mut drawn = Prng::seeded(!seed);
+    let mut calls = Vec::new();
+    for _ in 0..number {
+        if drawn.once_in(3) {
+            calls.push(Call::Restore(run.restore(&mut drawn)));
+        }
         let call = run.next_call();
         let answer = stored.call(&call);
         run.learn(&call, &answer);
-        call
-    };
-    (0..number).map(|_| next()).collect()
+        calls.push(call);
+    }
+    calls
 }
 
-/// The whole list on a fresh book: answers, held blocks and maps are the plain store's.
+/// The whole list on a fresh book: answers, held blocks and maps are the plain store's, and what is
+/// read or restored is what the volumes sent.
 fn send_plain(
     outcome: &mut Outcome,
     prng: &mut Prng,
     label: Label,
     fresh: &Stored,
-    (calls, sizes): (&[Call], reference::layout::Sizes),
+    (calls, sizes): (&[Call], Sizes),
 ) {
     let label = || format!("{}, plain store", label());
     let room = longest_answers(calls) + prng.pick(&[0, 1, 300]);
     let Some(seen) = send(outcome, prng, &label, (fresh, &encode(calls)), room) else {
         return;
     };
-    let mut plain = Plain::new(sizes);
-    let answers = calls.iter().map(|call| answer_bytes(&plain.call(call)));
-    let answers = answers.collect::<Vec<_>>().concat();
+    let (mut plain, mut history) = (Plain::new(sizes), History::new(sizes.lbns));
+    let (mut answers, mut past) = (Vec::new(), Vec::new());
+    for call in calls {
+        let answer = plain.call(call);
+        past.extend(answer_bytes(
+            history.answer(call).as_ref().unwrap_or(&answer),
+        ));
+        history.note(call, &answer);
+        answers.extend(answer_bytes(&answer));
+    }
     let written = seen.answers[0].1.map_or(0, |written| written as usize);
     let told = seen.content(4).get(..written).unwrap_or(&[]);
     outcome.check(&label, equal("the answers", told, &answers[..]));
+    outcome.check(&label, equal("what was sent", told, &past[..]));
     let agrees = agreement::check(seen.content(0), seen.content(1), &plain);
     outcome.check(&label, agrees);
 }
@@ -191,7 +216,17 @@ fn one_of_each() -> Vec<Call> {
             lbn: 0,
         },
         Call::Audit,
+        restore(0, 2),
     ]
+}
+
+fn restore(first: u16, length: u16) -> Call {
+    Call::Restore(Run {
+        volume: 0,
+        number: 1,
+        first,
+        length,
+    })
 }
 
 /// Cut off at every place.
@@ -221,7 +256,7 @@ fn send_heads(outcome: &mut Outcome) {
     for number in 0..calls.len() {
         let place = encode(&calls[..number]).len();
         for at in place..place + HEAD_BYTES {
-            for value in [0, 1, 2, 3, 4, 5, 128, 255] {
+            for value in [0, 1, 2, 3, 4, 5, 6, 128, 255] {
                 let mut calls = whole.clone();
                 calls[at] = value;
                 let label = || format!("list with {value} at {at}");
@@ -274,5 +309,45 @@ fn send_rooms(outcome: &mut Outcome) {
             let label = || format!("list of {number} calls with room for {room}");
             send(outcome, &mut prng, &label, (stored, &encode(calls)), room);
         }
+    }
+}
+
+/// A volume of 1,024 blocks, backed up and restored in one list.
+fn send_whole_volume(outcome: &mut Outcome) {
+    let mut prng = Prng::seeded(0);
+    let label = || "list with a whole volume".to_string();
+    let sizes = Sizes {
+        blocks: 16,
+        lbns: 1_024,
+        slots: 1,
+        records: 1_024,
+    };
+    let pool = vec![0; sizes.pool_bytes()];
+    let Some(Tested(fresh)) = Tested::format(outcome, &mut prng, &label, sizes, pool) else {
+        return;
+    };
+    let rows: Vec<(u16, String)> = ('A'..='P')
+        .map(|letter| letter.to_string().repeat(64))
+        .enumerate()
+        .map(|(index, row)| (64 * index as u16, row))
+        .collect();
+    let rows: Vec<(u16, &str)> = rows.iter().map(|(at, row)| (*at, &row[..])).collect();
+    let enrol = Call::Enrol {
+        volume: 0,
+        retention: 1,
+    };
+    let calls = [enrol, cases::backup(0, 1, &rows), restore(0, 1_024)];
+    send_plain(outcome, &mut prng, &label, &fresh, (&calls, sizes));
+}
+
+/// Restores whose longest answers are 390 bytes above what four bytes can tell, with little room.
+fn send_wrapping(outcome: &mut Outcome) {
+    let mut prng = Prng::seeded(0);
+    let stored = &cases::after_d();
+    let mut calls = vec![restore(0, 65_535); 128];
+    calls.extend([restore(0, 127), restore(0, 1)]);
+    for room in [389, 390, 1_000, 20_000] {
+        let label = || format!("list whose answers wrap, with room for {room}");
+        send(outcome, &mut prng, &label, (stored, &encode(&calls)), room);
     }
 }

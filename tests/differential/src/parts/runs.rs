@@ -5,15 +5,17 @@ use std::ops::Range;
 
 use reference::agreement;
 use reference::call::{Answer, Call, Stored};
+use reference::history::History;
 use reference::layout::{UNMAPPED, VOLUMES};
 use reference::plain::Plain;
 use reference::prng::Prng;
 use reference::random_books::disturb;
 use reference::random_calls::{RandomCalls, Shape};
+use reference::store::Run;
 use reference::view::View;
 
 use super::tested::Tested;
-use super::{views, Job};
+use super::{restores, views, Job};
 use crate::outcome::Outcome;
 use crate::request::Request;
 use crate::seen::{equal, Seen};
@@ -46,13 +48,19 @@ fn run(outcome: &mut Outcome, shape: Shape, seed: u64) {
     let tested = Tested::format(outcome, &mut prng, &label, sizes, pool);
     let Some(mut tested) = tested else { return };
     let mut plain = Plain::new(sizes);
+    let mut history = History::new(sizes.lbns);
+    // Restores have a generator of their own, and the calls go on as they would.
+    let mut drawn = Prng::seeded(!seed);
     for index in 0..shape.calls() {
         let label = || format!("run {shape:?} {seed}, call {index}");
         let call = calls.next_call();
         let view = calls.view(&mut prng);
+        let run = calls.restore(&mut drawn);
         views::send_any(outcome, &mut prng, &label, &tested.0.book, view);
+        restores::send_past(outcome, &mut drawn, &label, (&tested.0, run), &history);
         if prng.once_in(2) {
             send_disturbed(outcome, &mut prng, &label, &tested.0, (&call, view));
+            send_run_disturbed(outcome, &mut drawn, &label, (&tested.0, run));
         }
         let Some(seen) = tested.call(outcome, &mut prng, &label, &call) else {
             return;
@@ -69,6 +77,7 @@ fn run(outcome: &mut Outcome, shape: Shape, seed: u64) {
             send_plain(outcome, &mut prng, &label, (&tested.0, &plain), volumes);
         }
         calls.learn(&call, &answer);
+        history.note(&call, &answer);
     }
 }
 
@@ -122,6 +131,7 @@ fn answers_agree(answer: &Answer, seen: &Seen, pool: &[u8]) -> Result<(), String
             let at = seen.answer(0) as usize;
             return equal("the block read", &pool[at..at + 512], &block[..]);
         }
+        Answer::Run(_) => unreachable!("restores go by the history"),
     };
     for (index, expected) in expected.into_iter().enumerate() {
         let (name, _) = seen.answers[index];
@@ -146,6 +156,17 @@ fn send_disturbed(
     outcome.compare(prng, &label, Request::Form { book });
     outcome.compare(prng, &label, Request::Count { book });
     views::send_any(outcome, prng, &label, book, view);
+}
+
+fn send_run_disturbed(
+    outcome: &mut Outcome,
+    prng: &mut Prng,
+    label: &dyn Fn() -> String,
+    (stored, run): (&Stored, Run),
+) {
+    let stored = &disturbed(prng, stored);
+    let label = || format!("{}, disturbed", label());
+    restores::send_any(outcome, prng, &label, (stored, run));
 }
 
 /// A copy with another book, and now and then other lengths of the buffers.

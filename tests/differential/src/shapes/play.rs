@@ -13,7 +13,7 @@ const UNKNOWN: &str = "an unknown kind, alone";
 const EARLY: &str = "data that ends early, alone";
 
 /// What a call mustn't have: the kind, a field's place in the head, and the shape's name.
-const UNUSED: [(u8, usize, &str); 16] = [
+const UNUSED: [(u8, usize, &str); 17] = [
     (0, 6, "an enrol with c, alone"),
     (0, 8, "an enrol with d, alone"),
     (0, 10, "an enrol with data, alone"),
@@ -30,6 +30,7 @@ const UNUSED: [(u8, usize, &str); 16] = [
     (4, 6, "an audit with c, alone"),
     (4, 8, "an audit with d, alone"),
     (4, 10, "an audit with data, alone"),
+    (5, 10, "a restore with data, alone"),
 ];
 
 /// From the first call that is none to the end.
@@ -55,7 +56,7 @@ fn faults(rest: &[u8]) -> Vec<&'static str> {
     let mut faults: Vec<&str> = unused.map(|(_, _, name)| *name).collect();
     let others = [
         (SECOND, head[1] != 0),
-        (UNKNOWN, head[0] > 4),
+        (UNKNOWN, head[0] > 5),
         (EARLY, data_bytes(head) > data.len()),
     ];
     faults.extend(others.into_iter().filter(|(_, has)| *has).map(|(n, _)| n));
@@ -89,7 +90,7 @@ pub fn refused(playing: &Playing) -> Vec<Shape> {
 }
 
 /// Of the room that a list was given.
-pub fn room(playing: &Playing, number: u16) -> [Shape; 7] {
+pub fn room(playing: &Playing, number: u16) -> [Shape; 8] {
     let calls = play::decode(playing.calls).expect("a list of calls");
     let (room, longest) = (playing.answers.len(), play::longest_answers(&calls));
     let (short, accepted) = (number == 20, number == 0);
@@ -101,22 +102,31 @@ pub fn room(playing: &Playing, number: u16) -> [Shape; 7] {
         ("much more room", accepted && room > longest + 100),
         (
             "no room for the longest, though the answers would fit",
-            short && written(playing.stored, playing.calls, longest) <= room,
+            short && would_fit(playing, longest),
+        ),
+        (
+            "room for what four bytes have of the longest",
+            short && longest > u32::MAX as usize && longest % (1 << 32) <= room,
         ),
         ("no calls and no room", accepted && room == 0),
     ]
 }
 
-/// How long the answers are.
-fn written(stored: &Stored, calls: &[u8], longest: usize) -> usize {
+/// Whether the answers are no longer than their room.
+fn would_fit(playing: &Playing, longest: usize) -> bool {
+    // Answers of such a length aren't made here.
+    if longest > 1 << 28 {
+        return false;
+    }
     let Stored {
         mut book,
         mut pool,
         mut spare,
-    } = stored.clone();
+    } = playing.stored.clone();
     let mut answers = vec![0; longest];
+    let (calls, room) = (playing.calls, playing.answers.len());
     let written = play::play(&mut book, &mut pool, &mut spare, calls, &mut answers);
-    written.expect("room for the longest") as usize
+    written.is_ok_and(|written| written as usize <= room)
 }
 
 /// The calls of a list that was played, each with the bytes of its answer.
@@ -127,6 +137,7 @@ fn answered(playing: &Playing, seen: &Seen) -> Vec<(Call, Vec<u8>)> {
         let length = match answers[0] {
             1 => 7,
             3 => 513,
+            5 => 3 + 512 * usize::from(u16::from_le_bytes([answers[1], answers[2]])),
             _ => 3,
         };
         let (answer, rest) = answers.split_at(length);
@@ -155,7 +166,7 @@ pub fn numbers(playing: &Playing, seen: &Seen) -> Vec<(&'static str, u16)> {
 }
 
 /// Of a list that was played.
-pub fn played(playing: &Playing, seen: &Seen) -> [Shape; 14] {
+pub fn played(playing: &Playing, seen: &Seen) -> [Shape; 18] {
     let answered = answered(playing, seen);
     let refused = |answer: &[u8]| refusal(answer) != 0;
     let first_refused = answered.iter().position(|(_, answer)| refused(answer));
@@ -184,6 +195,10 @@ pub fn played(playing: &Playing, seen: &Seen) -> [Shape; 14] {
         ("a number above 255", any(|a| a[0] == 1 && a[6] > 0)),
         ("a collection that freed", any(|a| a[0] == 2 && a[1] > 0)),
         ("a block", any(|a| a[0] == 3)),
+        ("a run of no block", any(|a| a[..] == [5, 0, 0])),
+        ("a run of one block", any(|a| a[..3] == [5, 1, 0])),
+        ("a run of some blocks", any(|a| a[0] == 5 && a[1] > 1)),
+        ("a run above 255 blocks", any(|a| a[0] == 5 && a[2] > 0)),
         ("an audit's yes", any(|a| a[..] == [4, 1, 0])),
         ("an audit's no", any(|a| a[..] == [4, 0, 0])),
         ("a backup without data", data(|length| length == 0)),

@@ -19,8 +19,16 @@ returns-2 c =
 returns-3 : tie.Need-returns-3
 unfolding longestOf
 returns-3 c =
-    let k = c .before .before .args .kind in
-    (rw (ne-eqb k 1 (c .before .if1 .left), ne-eqb k 3 (c .if2 .left)), omega arith)
+    let if2 = c .before in
+    let k = if2 .before .before .args .kind in
+    (rw (ne-eqb k 1 (if2 .before .if1 .left), ne-eqb k 3 (if2 .if2 .left), eq-eqb k 5 (c .if3 .taken)) (omega arith), omega arith)
+
+returns-4 : tie.Need-returns-4
+unfolding longestOf
+returns-4 c =
+    let if2 = c .before in
+    let k = if2 .before .before .args .kind in
+    (rw (ne-eqb k 1 (if2 .before .if1 .left), ne-eqb k 3 (if2 .if2 .left), ne-eqb k 5 (c .if3 .left)), omega arith)
 
 pub longest-spec : {M : Type 1} → statement M
-longest-spec = tie.close (tie.spec returns (λ c. search needs) returns-2 returns-3)
+longest-spec = tie.close (tie.spec returns (λ c. search needs) returns-2 (λ c. omega arith) (λ c. omega arith) returns-3 returns-4)

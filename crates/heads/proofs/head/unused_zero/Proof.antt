@@ -1,6 +1,11 @@
 -- `heads::head::unused_zero`: a case for each kind.
+use Prim.Native.Nat.{ℕ}
+use mathlib.Core.Path.{_≡_, sym, _∙_}
+use mathlib.Core.Bool.{false}
 use native.Mathlib.Omega.{arith}
+use lib.Dec.{eqb}
 use borrow.Author.Tests.{eq-eqb, ne-eqb}
+use Rattle.words.specs.Choice.{if_then_else_}
 use Rattle.calls.specs.Coding.{unusedZero}
 use Rattle.heads.proofs.head.unused_zero.Statement.{statement}
 use Rattle.heads.proofs.head.unused_zero.Tie as tie
@@ -33,9 +38,13 @@ returns-4 c =
     let k = start .args .kind in
     rw (ne-eqb k 0 (if1 .if1 .left), ne-eqb k 1 (if2 .if2 .left), ne-eqb k 2 (if3 .if3 .left), eq-eqb k 3 (omega arith))
 
+-- the kind, where it is none of the first four
+abbrev kind : tie.Else4 → ℕ
+kind c = c .before .before .before .before .args .kind
+
 returns-5 : tie.Need-returns-5
 unfolding unusedZero
-returns-5 c = let k = c .before .before .before .before .before .args .kind in
+returns-5 c = let k = kind (c .before) in
     rw (
       ne-eqb k 0 (c .before .before .before .before .if1 .left),
       ne-eqb k 1 (c .before .before .before .if2 .left),
@@ -44,9 +53,11 @@ returns-5 c = let k = c .before .before .before .before .before .args .kind in
       eq-eqb k 4 (omega arith),
     )
 
-returns-6 : tie.Need-returns-6
+-- nor audit's
+past : (c : tie.Else5) (a b x d size : ℕ)
+    → (let k = kind (c .before) in unusedZero k a b x d size ≡ (if eqb k 5 then eqb size 0 else false))
 unfolding unusedZero
-returns-6 c = let k = c .before .before .before .before .before .args .kind in
+past c a b x d size = let k = kind (c .before) in
     rw (
       ne-eqb k 0 (c .before .before .before .before .if1 .left),
       ne-eqb k 1 (c .before .before .before .if2 .left),
@@ -55,5 +66,11 @@ returns-6 c = let k = c .before .before .before .before .before .args .kind in
       ne-eqb k 4 (c .if5 .left),
     )
 
+returns-6 : tie.Need-returns-6
+returns-6 c = sym (past (c .before) _ _ _ _ _ ∙ rw (eq-eqb (kind (c .before .before)) 5 (omega arith)))
+
+returns-7 : tie.Need-returns-7
+returns-7 c = sym (past (c .before) _ _ _ _ _ ∙ rw (ne-eqb (kind (c .before .before)) 5 (c .if6 .left)))
+
 pub unused-zero-spec : {M : Type 1} → statement M
-unused-zero-spec = tie.close (tie.spec returns returns-2 returns-3 returns-4 returns-5 returns-6)
+unused-zero-spec = tie.close (tie.spec returns returns-2 returns-3 returns-4 returns-5 returns-6 returns-7)

@@ -6,9 +6,10 @@ use lib.ListN.{length}
 use borrow.Author.Needs.{needs}
 use Rattle.words.specs.Numbers.{num}
 use Rattle.model.specs.Calls.{read, audit}
-use Rattle.calls.specs.Answers.{longest}
+use Rattle.calls.specs.Asked.{listed, restore}
+use Rattle.calls.specs.Answers.{longestReply}
 use Rattle.calls.specs.Coding.{dataSize, callAt}
-use Rattle.calls.proofs.ReadingLaws.{call-inside, call-enrol, call-backup, call-collect, call-read, call-audit}
+use Rattle.calls.proofs.ReadingLaws.{call-inside, call-enrol, call-backup, call-collect, call-read, call-restore, call-audit}
 use Rattle.play.proofs.playing.play_call.Statement.{statement}
 use Rattle.play.proofs.playing.play_call.Tie as tie
 
@@ -51,7 +52,7 @@ answer-enrol-requires : tie.Need-answer-enrol-requires
 answer-enrol-requires c κs =
     let if1 = c .before .before in
     let s = entry (if1 .before) in
-    let e = ap longest (call-enrol (s .args .calls .now) (s .args .at) (if1 .if1 .taken)) in
+    let e = ap longestReply (call-enrol (s .args .calls .now) (s .args .at) (if1 .if1 .taken)) in
     omega (arith, s .pre .1)
 
 returns : tie.Need-returns
@@ -69,7 +70,7 @@ play-backup-requires c κs =
     let if2 = c .before .before .before .before in
     let if1 = if2 .before in
     let s = entry (if1 .before) in
-    let e = ap longest (call-backup (s .args .calls .now) (s .args .at) (if1 .if1 .left) (if2 .if2 .taken)) in
+    let e = ap longestReply (call-backup (s .args .calls .now) (s .args .at) (if1 .if1 .left) (if2 .if2 .taken)) in
     (s .pre .0, omega (arith, s .pre .1))
 
 returns-2 : tie.Need-returns-2
@@ -88,7 +89,7 @@ answer-collect-requires c κs =
     let if1 = if2 .before in
     let s = entry (if1 .before) in
     let a = s .args in
-    let e = ap longest (call-collect (a .calls .now) (a .at) (if1 .if1 .left) (if2 .if2 .left) (if3 .if3 .taken)) in
+    let e = ap longestReply (call-collect (a .calls .now) (a .at) (if1 .if1 .left) (if2 .if2 .left) (if3 .if3 .taken)) in
     omega (arith, s .pre .1)
 
 returns-3 : tie.Need-returns-3
@@ -109,26 +110,41 @@ returns-3 c =
 is-read : (c : tie.Then4)
     → (let a = entry (c .before .before .before .before) .args in
     let b = a .calls .now in
-    callAt b (a .at) ≡ read (num b (a .at + 2)) (num b (a .at + 4)) (num b (a .at + 6)))
+    callAt b (a .at) ≡ listed (read (num b (a .at + 2)) (num b (a .at + 4)) (num b (a .at + 6))))
 is-read c =
     let if3 = c .before in
     let if2 = if3 .before in
     let if1 = if2 .before in
     call-read _ _ (if1 .if1 .left) (if2 .if2 .left) (if3 .if3 .left) (c .if4 .taken)
 
-is-audit : (c : tie.Else4)
-    → (let a = entry (c .before .before .before .before) .args in callAt (a .calls .now) (a .at) ≡ audit)
-is-audit c =
-    let if3 = c .before in
+-- from where the head was read, where it is none of the first four kinds
+abbrev other : tie.Else4 → tie.Start
+other c = entry (c .before .before .before .before)
+
+is-restore : (c : tie.Then5)
+    → (let a = other (c .before) .args in
+    let b = a .calls .now in
+    callAt b (a .at) ≡ restore (num b (a .at + 2)) (num b (a .at + 4)) (num b (a .at + 6)) (num b (a .at + 8)))
+is-restore c =
+    let if4 = c .before in
+    let if3 = if4 .before in
     let if2 = if3 .before in
     let if1 = if2 .before in
-    call-audit _ _ (if1 .if1 .left) (if2 .if2 .left) (if3 .if3 .left) (c .if4 .left)
+    call-restore _ _ (if1 .if1 .left) (if2 .if2 .left) (if3 .if3 .left) (if4 .if4 .left) (c .if5 .taken)
+
+is-audit : (c : tie.Else5) → (let a = other (c .before) .args in callAt (a .calls .now) (a .at) ≡ listed audit)
+is-audit c =
+    let if4 = c .before in
+    let if3 = if4 .before in
+    let if2 = if3 .before in
+    let if1 = if2 .before in
+    call-audit _ _ (if1 .if1 .left) (if2 .if2 .left) (if3 .if3 .left) (if4 .if4 .left) (c .if5 .left)
 
 answer-read-requires : tie.Need-answer-read-requires
 answer-read-requires c κs =
     let if4 = c .before .before .before in
     let s = entry (if4 .before .before .before .before) in
-    let e = ap longest (is-read if4) in
+    let e = ap longestReply (is-read if4) in
     omega (arith, s .pre .1)
 
 returns-4 : tie.Need-returns-4
@@ -142,19 +158,53 @@ returns-4 c =
     rw (is-read if4, ← u16-at .u16-at .ensures, ← u16-at2 .u16-at2 .ensures, ← u16-at3 .u16-at3 .ensures)
     (answer-read .answer-read .ensures (length (a .spare .now)))
 
-answer-audit-requires : tie.Need-answer-audit-requires
-answer-audit-requires c κs =
-    let if4 = c .before .before in
-    let s = entry (if4 .before .before .before .before) in
-    let e = ap longest (is-audit if4) in
-    omega (arith, s .pre .1)
+-- the last argument
+add-u16-at-4 : tie.Need-add-u16-at-4
+add-u16-at-4 c = let i = inside (other (c .before)) in omega arith
+
+u16-at-requires-4 : tie.Need-u16-at-requires-4
+u16-at-requires-4 c κs = let i = inside (other (c .before)) in omega arith
+
+answer-restore-requires : tie.Need-answer-restore-requires
+answer-restore-requires c κs =
+    let u16-at4 = c .before .before .before in
+    let if5 = u16-at4 .before in
+    let s = other (if5 .before) in
+    let e = ap longestReply (is-restore if5) in
+    omega (arith, s .pre .1, u16-at4 .u16-at4 .ensures)
 
 returns-5 : tie.Need-returns-5
 returns-5 c =
+    let answer-restore = c .before .before in
+    let u16-at4 = answer-restore .before .before .before .before in
+    let if5 = u16-at4 .before in
+    let if4 = if5 .before in
+    let u16-at3 = if4 .before .before .before .before in
+    let u16-at2 = u16-at3 .before in
+    let u16-at = u16-at2 .before in
+    let a = entry u16-at3 .args in
+    rw (
+      is-restore if5,
+      ← u16-at .u16-at .ensures,
+      ← u16-at2 .u16-at2 .ensures,
+      ← u16-at3 .u16-at3 .ensures,
+      ← u16-at4 .u16-at4 .ensures,
+    )
+    (answer-restore .answer-restore .ensures (length (a .spare .now)))
+
+answer-audit-requires : tie.Need-answer-audit-requires
+answer-audit-requires c κs =
+    let if5 = c .before .before in
+    let s = other (if5 .before) in
+    let e = ap longestReply (is-audit if5) in
+    omega (arith, s .pre .1)
+
+returns-6 : tie.Need-returns-6
+returns-6 c =
     let answer-audit = c .before .before in
-    let if4 = answer-audit .before .before .before in
-    let a = entry (if4 .before .before .before .before) .args in
-    rw (is-audit if4) (answer-audit .answer-audit .ensures (length (a .spare .now)) (a .pool .now))
+    let if5 = answer-audit .before .before .before in
+    let a = other (if5 .before) .args in
+    rw (is-audit if5) (answer-audit .answer-audit .ensures (length (a .spare .now)) (a .pool .now))
 
 pub play-call-spec : {M : Type 1} → statement M
 play-call-spec =
@@ -162,4 +212,5 @@ play-call-spec =
     u16-at-requires-3 answer-enrol-requires (λ c. search needs) (λ c. search needs) returns play-backup-requires
     (λ c. search needs) (λ c. search needs) (λ c. search needs) (λ c. search needs) returns-2 answer-collect-requires
     (λ c. search needs) (λ c. search needs) returns-3 answer-read-requires (λ c. search needs) (λ c. search needs)
-    (λ c. search needs) returns-4 answer-audit-requires (λ c. search needs) (λ c. search needs) returns-5)
+    (λ c. search needs) returns-4 add-u16-at-4 u16-at-requires-4 answer-restore-requires (λ c. search needs)
+    (λ c. search needs) (λ c. search needs) returns-5 answer-audit-requires (λ c. search needs) (λ c. search needs) returns-6)

@@ -10,7 +10,7 @@ use Rattle.calls.specs.Contracts.{at}
 use Rattle.calls.proofs.Playing.{Playing, playing-all, playing-more, playing-none}
 use Rattle.calls.specs.Reading.{restOf, Good}
 use Rattle.calls.proofs.ReadingLaws.{Next, rest-end, next-good}
-use Rattle.calls.proofs.Short.{answer-short}
+use Rattle.calls.proofs.Short.{reply-short}
 use Rattle.play.proofs.playing.play_list.Statement.{statement}
 use Rattle.play.proofs.playing.play_list.Tie as tie
 
@@ -72,7 +72,7 @@ loop-again c =
     let n = next (turn call) in
     let past = c .call-end .ensures .0 in
     let did = rw (l .inv .6) at (k .ensures) in
-    let short = answer-short (length (a .spare .now)) (at (l .book) (l .pool)) (callAt (a .calls .now) (l .at)) in
+    let short = reply-short (length (a .spare .now)) (at (l .book) (l .pool)) (callAt (a .calls .now) (l .at)) in
     let most = ap mostOf (n .split) in (
       rw past (playing-more (callAt (a .calls .now) (l .at)) _ (rw (n .split) at (l .inv .0)) did),
       rw past (n .good),

@@ -1,0 +1,3 @@
+pub mod RunningLaws
+pub mod Copying
+pub mod Exits
