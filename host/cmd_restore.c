@@ -12,6 +12,7 @@
 #include "prints.h"
 #include "progress.h"
 #include "refusals.h"
+#include "runs.h"
 #include "view.h"
 
 #include <aspen.h>
@@ -24,6 +25,9 @@
 
 /* What a backup has at an LBN. */
 enum found { FOUND_NONE, FOUND_FITTING, FOUND_DAMAGED };
+
+/* Progress looks for a terminal each time, by a call of the system. */
+enum { PROGRESS_STEP = 64 };
 
 struct restored {
     uint16_t first, last; /* the LBNs that are asked for */
@@ -139,42 +143,105 @@ static void write_out(const char *out, bool force, struct bytes image)
 
 /* ---- the work */
 
-/* Puts a block into the image, if the backup has one at this LBN. */
-static void take_block(struct asked *asked, struct restored *restored, struct bytes blocks)
+/* How many LBNs are looked at. Of a whole volume whose length is noted these are no more than its
+ * image had blocks: what follows isn't given. */
+static size_t blocks_asked(const struct asked *asked, const struct restored *restored)
 {
-    const struct store *store = asked->store;
-    size_t index = (size_t)asked->lbn - restored->first;
-    uint32_t at = 0;
-    uint16_t refusal =
-        aspen_read(store->book.at, store->book.length, store->pool.at, store->pool.length,
-                   asked->volume, asked->number, asked->lbn, &at);
+    size_t count = (size_t)restored->last - restored->first + 1, bytes, blocks;
 
-    if (refusal == ASPEN_UNMAPPED)
-        return;
-    if (refusal != ASPEN_OK)
-        refuse(refusal, asked);
-    memcpy(restored->image.at + index * ASPEN_BLOCK_SIZE, store->pool.at + at, ASPEN_BLOCK_SIZE);
-    restored->found.at[index] =
-        print_fits(store->pool.at + at, view_print(blocks, (uint16_t)(at / ASPEN_BLOCK_SIZE)))
-            ? FOUND_FITTING
-            : FOUND_DAMAGED;
-    restored->sent = index + 1;
+    if (!restored->whole ||
+        !lengths_find(&asked->store->lengths, asked->volume, asked->number, &bytes))
+        return count;
+    blocks = (bytes + ASPEN_BLOCK_SIZE - 1) / ASPEN_BLOCK_SIZE;
+    return blocks < count ? blocks : count;
 }
 
-static void collect_blocks(struct asked *asked, struct restored *restored)
+/* Restores so many blocks to their place in the image, which is `index` blocks from its start. */
+static uint16_t restore_run(const struct asked *asked, struct restored *restored, size_t index,
+                            size_t length)
 {
-    struct bytes blocks = view_blocks(asked->store->book);
-    size_t count = (size_t)restored->last - restored->first + 1;
+    const struct store *store = asked->store;
 
-    restored->image = bytes_new(ASPEN_BLOCK_SIZE * count);
-    restored->found = bytes_new(count);
-    for (size_t i = 0; i < count; i++) {
-        progress("restoring", i, count);
-        asked->lbn = (uint16_t)(restored->first + i);
-        take_block(asked, restored, blocks);
+    return aspen_restore(store->book.at, store->book.length, store->pool.at, store->pool.length,
+                         asked->volume, asked->number, (uint16_t)(restored->first + index),
+                         (uint16_t)length, restored->image.at + aspen_run_size(index),
+                         restored->image.length - aspen_run_size(index));
+}
+
+/* An image of which the backup lacks blocks: its runs one by one, with zeros in between. Gives
+ * where each block stands in the pool. */
+static struct bytes restore_runs(const struct asked *asked, struct restored *restored)
+{
+    size_t count = restored->found.length, end;
+    struct bytes labels = bytes_copy(asked->store->pool);
+    struct bytes places = runs_places(asked, labels, (uint16_t)count, false);
+
+    for (size_t i = 0; i < count; i = end + 1) {
+        uint16_t number = ASPEN_OK;
+
+        end = i;
+        while (end < count && view_cell(places, (uint16_t)end) != ASPEN_UNMAPPED_PBN)
+            end++;
+        if (end > i)
+            number = restore_run(asked, restored, i, end - i);
+        if (number != ASPEN_OK)
+            refuse(number, asked);
+    }
+    bytes_free(&labels);
+    return places;
+}
+
+/* Each block that was restored is compared with the fingerprint of its place. */
+static void check_prints(struct bytes book, struct restored *restored, struct bytes places)
+{
+    struct bytes blocks = view_blocks(book);
+
+    for (size_t i = 0; i < restored->found.length; i++) {
+        uint16_t place = view_cell(places, (uint16_t)i);
+
+        if (i % PROGRESS_STEP == 0)
+            progress("restoring", i, restored->found.length);
+        if (place == ASPEN_UNMAPPED_PBN)
+            continue;
+        restored->found.at[i] =
+            print_fits(restored->image.at + aspen_run_size(i), view_print(blocks, place))
+                ? FOUND_FITTING
+                : FOUND_DAMAGED;
+        restored->sent = i + 1;
     }
     progress_end();
     bytes_free(&blocks);
+}
+
+/* An image that is whole: where its blocks stand. The pool has been read from, so its memory is
+ * taken for the labels. */
+static struct bytes whole_places(struct store *store, const struct asked *asked, uint16_t length)
+{
+    struct bytes labels = store_take_pool(store);
+    struct bytes places = runs_places(asked, labels, length, true);
+
+    bytes_free(&labels);
+    return places;
+}
+
+/* All blocks at once if the backup has them: one check of the book for their bytes, and one for
+ * their places. */
+static void collect_blocks(struct store *store, struct asked *asked, struct restored *restored)
+{
+    size_t count = blocks_asked(asked, restored);
+    uint16_t length = count < UINT16_MAX ? (uint16_t)count : UINT16_MAX, number;
+    struct bytes places;
+
+    restored->image = bytes_new(aspen_run_size(count));
+    restored->found = bytes_new(count);
+    asked->lbn = restored->first;
+    number = restore_run(asked, restored, 0, length);
+    if (number != ASPEN_OK && number != ASPEN_UNMAPPED)
+        refuse(number, asked);
+    places =
+        number == ASPEN_OK ? whole_places(store, asked, length) : restore_runs(asked, restored);
+    check_prints(store->book, restored, places);
+    bytes_free(&places);
 }
 
 /* Cuts the volume to the image that was backed up: to the length that is noted, or where none is,
@@ -256,7 +323,7 @@ int run_restore(const struct request *request)
     choose_backup(&asked, request);
     if (restored.whole)
         restored.last = (uint16_t)(view_figures(store.book).cells - 1);
-    collect_blocks(&asked, &restored);
+    collect_blocks(&store, &asked, &restored);
     cut_to_length(&asked, &restored);
     status = status_of(&store, restored.damaged == 0 ? STATUS_DONE : STATUS_UNSOUND);
     store_close(&store);

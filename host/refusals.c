@@ -143,6 +143,15 @@ static _Noreturn void refuse_kept(const struct asked *asked)
         asked->volume);
 }
 
+/* Of a run from this LBN on the first that there isn't: it or the one after the last. */
+static _Noreturn void refuse_lbn(uint16_t number, const struct asked *asked)
+{
+    unsigned cells = view_figures(asked->store->book).cells;
+
+    fail_refused(STATUS_REFUSED, number, "there is no LBN %u; LBNs are 0 to %u",
+                 asked->lbn < cells ? cells : asked->lbn, cells - 1);
+}
+
 static _Noreturn void refuse_read(uint16_t number, const struct asked *asked)
 {
     struct bytes book = asked->store->book;
@@ -155,9 +164,8 @@ static _Noreturn void refuse_read(uint16_t number, const struct asked *asked)
                      volume, backups, asked->number);
     if (number == ASPEN_NOT_KEPT)
         refuse_kept(asked);
-    if (number == ASPEN_BAD_LBN)
-        fail_refused(STATUS_REFUSED, number, "there is no LBN %u; LBNs are 0 to %d", asked->lbn,
-                     view_figures(book).cells - 1);
+    if (number == ASPEN_BAD_LBN || number == ASPEN_BAD_RUN)
+        refuse_lbn(number, asked);
     fail_refused(STATUS_REFUSED, number, "backup %u of volume %u has no block at LBN %u",
                  asked->number, volume, asked->lbn);
 }
@@ -172,7 +180,7 @@ void refuse(uint16_t number, const struct asked *asked)
         refuse_day(asked);
     if (number == ASPEN_NO_SLOT || number == ASPEN_NO_RECORD)
         refuse_room(number, asked);
-    if (number >= ASPEN_NO_BACKUP && number <= ASPEN_UNMAPPED)
+    if ((number >= ASPEN_NO_BACKUP && number <= ASPEN_UNMAPPED) || number == ASPEN_BAD_RUN)
         refuse_read(number, asked);
     refuse_change(number, asked);
 }

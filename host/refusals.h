@@ -8,7 +8,7 @@
 struct asked {
     const struct store *store;
     uint16_t volume, day, changes; /* for backup and collect */
-    uint16_t number, lbn;          /* for read */
+    uint16_t number, lbn;          /* for read, and for restore with the first LBN */
 };
 
 /* 1, 2, 3: the store itself is at fault. */

@@ -90,6 +90,14 @@ void store_load_pool(struct store *store)
     or_fail(false);
 }
 
+struct bytes store_take_pool(struct store *store)
+{
+    struct bytes pool = store->pool;
+
+    store->pool = bytes_new(0);
+    return pool;
+}
+
 void store_close(struct store *store)
 {
     lock_drop(&store->lock);

@@ -25,6 +25,9 @@ struct store {
 uint16_t store_open(struct store *store, const char *folder, enum lock_use use, bool wait);
 /* Reads the pool. Its length is checked by the call that it is given to. */
 void store_load_pool(struct store *store);
+/* Hands the pool over. The store has none in memory from then on, so whatever becomes of it can't
+ * be written back. */
+struct bytes store_take_pool(struct store *store);
 void store_close(struct store *store);
 
 /* Makes a store with this fresh book in a folder that has none. */

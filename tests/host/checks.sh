@@ -12,6 +12,9 @@ host_program() {
     check "aspenbox builds" ../scripts/host
     host_run plain "$(cd .. && pwd)/target/host/aspenbox"
     check "the story of make demo" ../scripts/story ../target/host/aspenbox
+    check "aspenbox builds with its calls counted" ../scripts/host "$scratch/aspenbox.counted" tests/host/counted.c \
+        -Wl,--wrap=aspen_restore,--wrap=aspen_read
+    host_run counted "$scratch/aspenbox.counted" calls
     # Statuses that aspenbox itself doesn't have.
     export ASAN_OPTIONS=exitcode=99 UBSAN_OPTIONS=exitcode=99
     check "aspenbox builds with sanitizers" ../scripts/host "$scratch/aspenbox.sanitized" -g \

@@ -60,9 +60,9 @@ blocks_of 0-7 ABDE....
 expect 0 "restored backup 2" restore box 0 - --date 2026-01-09 --lbns 2-2
 check "a block by its date on standard output" printed <(blocks D)
 expect_json 0 '(o["bytes"], o["blocks"], o["mapped"]) == (1536, 3, 2)' restore box 0 --latest out --force --lbns 2-4
-expect 3 "refused 17: there is no LBN 8; LBNs are 0 to 7" restore box 0 3 none --lbns 7-8
-expect 3 "refused 17: there is no LBN 9" restore box 0 3 none --lbns 9-9
-expect 3 "refused 17: there is no LBN 8" restore box 0 3 none --lbns 0-65535
+expect 3 "refused 21: there is no LBN 8; LBNs are 0 to 7" restore box 0 3 none --lbns 7-8
+expect 3 "refused 21: there is no LBN 9" restore box 0 3 none --lbns 9-9
+expect 3 "refused 21: there is no LBN 8" restore box 0 3 none --lbns 0-65535
 expect 2 "--lbns 3-2 ends before it starts" restore box 0 3 none --lbns 3-2
 for lbns in x 1-x x-1 1- -1 1-2-3 0x1 70000 1-70000 "" "1 -2"; do
     expect 2 "--lbns" restore box 0 3 none --lbns="$lbns"

@@ -14,6 +14,9 @@ expect 0 "restored backup 2" restore box 0 --latest out --force
 check "restored" cmp out aid
 expect 0 "1 blocks" restore box 0 --date 2026-01-02 - --lbns 1-1
 check "one block of it" printed <(blocks B)
+expect 0 "4 blocks" restore box 0 1 out --force --lbns 0-3
+check "and what was never sent" cmp out <(blocks AB && head -c 1024 /dev/zero)
+expect 3 "refused 21" restore box 0 1 out --force --lbns 3-4
 expect 0 "takes backup 2" list box
 expect 0 "kept_until" list box --json --date 2026-01-02
 expect 0 "the book is sound" status box --warn 100
