@@ -6,6 +6,7 @@
 
 #define BACKUP_OF(n, where) .call = BACKUP, .finds = where, .changes = n, ROOM
 #define WRITE_OF(n) .call = WRITE_LIST, .fresh = true, .changes = n, FULL
+#define RESTORE_OF(n) .call = RESTORE, .oldest = true, .changes = n, FULL
 #define LEFT .left = true, .blocks = ASPEN_MAX_BLOCKS, .records = 2 * FIRST_RECORDS
 
 const struct row rows[ROWS] = {
@@ -35,6 +36,9 @@ const struct row rows[ROWS] = {
     { "collect, 4,032 blocks to free", { .call = COLLECT, LEFT } },
     { "read, newest backup", { .call = READ, FULL } },
     { "read, oldest backup", { .call = READ, .oldest = true, FULL } },
+    { "restore, 1 block, oldest backup", { RESTORE_OF(1) } },
+    { "restore, 64 blocks, oldest backup", { RESTORE_OF(64) } },
+    { "restore, 1,024 blocks, oldest backup", { RESTORE_OF(1024) } },
     { "audit", { .call = AUDIT, FULL } },
     { "audit, alike", { .call = AUDIT, .prints = ALIKE, FULL } },
     { "write_list, all of 1,024 blocks marked", { WRITE_OF(1024) } },

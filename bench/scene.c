@@ -58,7 +58,7 @@ void stage_set(struct stage *stage, const struct scene *scene)
     box_make(&stage->box, &past);
     if (scene->call == WRITE_LIST)
         set_volume(stage);
-    else
+    else if (scene->call == BACKUP)
         set_list(stage);
     stage->volume = scene->call == ENROL ? AIDS : 0;
     stage->day = (uint16_t)(stage->box.day + (scene->call == COLLECT ? RETENTION + 1 : 1));
@@ -89,6 +89,9 @@ uint16_t stage_call(struct stage *stage, const struct side *side)
         return side->collect(box->book, box->book_len, stage->day, &answers[0]);
     case READ:
         return side->read(box->book, box->book_len, box->pool, box->pool_len, stage->volume, stage->number, stage->lbn, &stage->at);
+    case RESTORE:
+        return side->restore(box->book, box->book_len, box->pool, box->pool_len, stage->volume, stage->number, stage->lbn,
+                             (uint16_t)stage->scene.changes, box->room, aspen_run_size(stage->scene.changes));
     case AUDIT:
         return side->audit(box->book, box->book_len, &answers[0]);
     case WRITE_LIST:
@@ -106,6 +109,8 @@ void stage_move(struct stage *stage)
         return;
     }
     memcpy(box->spare, box->book, box->book_len);
+    if (scene->call == RESTORE)
+        memcpy(box->room, box->pool, aspen_run_size(scene->changes));
     if (scene->call != BACKUP)
         return;
     memcpy(box->book, box->spare, box->book_len);
@@ -115,7 +120,7 @@ void stage_move(struct stage *stage)
 
 static void fail(const struct stage *stage, const char *what, const struct side *side)
 {
-    static const char *const names[] = { "form", "format", "enrol", "backup", "collect", "read", "audit", "write_list" };
+    static const char *const names[] = { "form", "format", "enrol", "backup", "collect", "read", "restore", "audit", "write_list" };
     const struct scene *scene = &stage->scene;
     fprintf(stderr, "\nbench: %s with N = %u, U = %u, n = %u: %s %s\n", names[scene->call], scene->blocks, scene->records, scene->changes,
             side->name, what);
@@ -150,7 +155,7 @@ void stage_compare(struct stage *stage)
         if (memcmp(pool, box->pool, box->pool_len) != 0)
             fail(stage, "leaves another pool than the proved call", &sides[s]);
         if (memcmp(written, box->room, sizeof written) != 0)
-            fail(stage, "writes another list than the proved call", &sides[s]);
+            fail(stage, "writes other bytes than the proved call", &sides[s]);
     }
     stage_restore(stage);
 }

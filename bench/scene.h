@@ -5,7 +5,7 @@
 #include "box.h"
 #include "sides.h"
 
-enum call { FORM, FORMAT, ENROL, BACKUP, COLLECT, READ, AUDIT, WRITE_LIST };
+enum call { FORM, FORMAT, ENROL, BACKUP, COLLECT, READ, RESTORE, AUDIT, WRITE_LIST };
 
 /* Where a backup's blocks are found. */
 enum finds { FIRST_BLOCKS, LAST_BLOCKS, NOWHERE };
@@ -19,9 +19,9 @@ struct scene {
     bool fresh;
     bool left;
     enum finds finds;
-    bool oldest; /* read: the volume's first backup, else its newest */
+    bool oldest; /* read and restore: the volume's first backup, else its newest */
     unsigned blocks, records;
-    unsigned changes; /* of a backup; write_list: how many LBNs are marked, here and there until all are */
+    unsigned changes; /* of a backup; restore: how many blocks; write_list: how many LBNs are marked, here and there until all are */
 };
 
 bool same_scene(const struct scene *a, const struct scene *b);
@@ -45,11 +45,12 @@ void stage_restore(struct stage *stage);
 /* Answers 0 or the number of the refusal. */
 uint16_t stage_call(struct stage *stage, const struct side *side);
 
-/* memcpy of what the call has to move: a backup the book into the spare and back, and its blocks; write_list as many bytes as its list has; every
- * other call, which goes through the whole book, that book. */
+/* memcpy of what the call has to move: a backup the book into the spare and back, and its blocks; restore the book and its blocks; write_list as
+ * many bytes as its list has; every other call, which goes through the whole book, that book. */
 void stage_move(struct stage *stage);
 
-/* Calls each side once and compares answers, book, pool and the list that was written. A refusal or a difference ends the program with a message. */
+/* Calls each side once and compares answers, book, pool and the list or the blocks that were written. A refusal or a difference ends the program
+ * with a message. */
 void stage_compare(struct stage *stage);
 
 #endif

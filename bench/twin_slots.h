@@ -1,0 +1,44 @@
+/* A volume's backups among the used slots, for the twin. */
+#ifndef ASPEN_BENCH_TWIN_SLOTS_H
+#define ASPEN_BENCH_TWIN_SLOTS_H
+
+#include "twin.h"
+#include "twin_layout.h"
+
+/* The number-th slot of the volume from 1, or `end`. */
+static inline const uint8_t *own_slot(const uint8_t *slot, const uint8_t *end, unsigned volume, unsigned number)
+{
+    for (; slot < end; slot += SLOT)
+        if (slot[SLOT_VOLUME] == volume && --number == 0)
+            return slot;
+    return end;
+}
+
+/* Whether the backup that `next` follows is kept; `end` follows the newest. */
+static inline int kept_before(const uint8_t *book, const uint8_t *next, const uint8_t *end, unsigned volume)
+{
+    return next == end || u16_at(next + SLOT_DAY) + retention_of(book, volume) >= u16_at(book + AT_DAY);
+}
+
+/* The checks that read and restore share, up to 16; then a is the layout, and the volume's later slots are among those from `next` to `end`. */
+static inline uint16_t find_kept(const uint8_t *book, size_t book_len, size_t pool_len, unsigned volume, unsigned number, struct layout *a,
+                                 const uint8_t **next, const uint8_t **end)
+{
+    uint16_t refused = twin_form(book, book_len);
+    if (refused != 0)
+        return refused;
+    *a = layout_in(book);
+    if (pool_len != BLOCK * a->n)
+        return 3;
+    if (volume >= VOLUMES || retention_of(book, volume) == 0)
+        return 5;
+    const uint8_t *slots = book + a->slots;
+    *end = slots + SLOT * u16_at(book + AT_SLOTS_USED);
+    const uint8_t *own = number == 0 ? *end : own_slot(slots, *end, volume, number);
+    if (own == *end)
+        return 15;
+    *next = own_slot(own + SLOT, *end, volume, 1);
+    return kept_before(book, *next, *end, volume) ? 0 : 16;
+}
+
+#endif
