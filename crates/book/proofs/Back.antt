@@ -10,15 +10,16 @@ use lib.Dec.{eqb, ltb}
 use borrow.Author.Tests.{ltb-true, ltb-false}
 use lib.ListN.{length, getD}
 use Rattle.words.specs.Blocks.{printSize, unmapped}
+use Rattle.words.specs.Choice.{if_then_else_}
 use Rattle.words.specs.Lists.{joined}
 use Rattle.words.specs.Numbers.{two, num}
 use Rattle.words.specs.Sections.{flat, fit, tab, part}
 use Rattle.words.proofs.SectionLaws.{length-tab, getD-tab, part-add, part-cons, part-tab, flat-tab, fit-tab, fit-all, joined-parts}
 use Rattle.book.specs.Book.{volumes, Sizes, freeEntry, noSlot, noRec, Sized}
-use Rattle.book.specs.Layout.{layoutNumber, headerSize, entrySize, slotSize, recSize, bOffset, uOffset, dayOffset, cursorOffset}
+use Rattle.book.specs.Layout.{headerSize, countSize, entrySize, slotSize, recSize, bOffset, uOffset, dayOffset, cursorOffset}
 use Rattle.book.specs.Layout.{retentionOffset, entriesFrom, entryOffset, mapsFrom, slotsFrom, slotOffset, recordsFrom, recOffset}
-use Rattle.book.specs.Layout.{stateByte, entryBytes, mapBytes, slotBytes, recBytes, bytes, sizesOf, entryOf, cellOf, slotOf, recOf}
-use Rattle.book.specs.Layout.{bookOf}
+use Rattle.book.specs.Layout.{stateByte, countBytes, entryBytes, mapBytes, slotBytes, recBytes, bytes, sizesOf, countIn, entryIn}
+use Rattle.book.specs.Layout.{entryOf, cellOf, slotOf, recOf, bookOf}
 use Rattle.book.proofs.Outline.{Outline}
 
 -- a state's byte, where it is 0 or 1
@@ -45,24 +46,40 @@ module _ (b : List ℕ) (small : (i : ℕ) → getD b i 0 < 256) where
       → flat two (tab k f) ≡ part b o (k * 2)
   nums-part k o f h g = flat-tab k 2 two f b o (λ c hc. rw (g c hc) (two-part (o + c * 2) (omega arith)))
 
-  entry-part : (p : ℕ) → entryOffset p + entrySize ≤ length b → getD b (entryOffset p + 1) 0 ≤ 1
-      → entryBytes (entryOf b p) ≡ part b (entryOffset p) entrySize
-  entry-part p h hs =
-      let o = entryOffset p in
-      let print : fit 0 printSize (tab printSize (λ i. getD b (o + 4 + i) 0)) ≡ part b (o + 4) printSize =
-      fit-all 0 printSize (tab printSize (λ i. getD b (o + 4 + i) 0)) (length-tab printSize (λ i. getD b (o + 4 + i) 0))
-      ∙ part-tab printSize b (o + 4) (λ i. getD b (o + 4 + i) 0) (omega arith) (λ i hi. refl)
+  -- a count, and what follows it c bytes further on: state, expiry and fingerprint
+  count-part : (g o : ℕ) → o + countSize g ≤ length b → countBytes g (countIn g b o) ≡ part b o (countSize g)
+  count-part g o = go (eqb g 1)
+    where
+      go : (t : Bool) → o + (if t then 1 else 2) ≤ length b
+          → (if t then (if t then getD b o 0 else num b o) ∷ [] else two (if t then getD b o 0 else num b o))
+          ≡ part b o (if t then 1 else 2)
+      go true h = sym (part-cons b o 0 (omega arith))
+      go false h = two-part o h
+
+  rest-part : (c o : ℕ) → o + (c + 19) ≤ length b → getD b (o + c) 0 ≤ 1
+      → stateByte (eqb (getD b (o + c) 0) 1)
+      ∷ (two (num b (o + (c + 1))) ++ fit 0 printSize (tab printSize (λ i. getD b (o + (c + 3) + i) 0)))
+      ≡ part b (o + c) 19
+  rest-part c o h hs =
+      let print : fit 0 printSize (tab printSize (λ i. getD b (o + (c + 3) + i) 0)) ≡ part b (o + (c + 3)) printSize =
+      fit-all 0 printSize (tab printSize (λ i. getD b (o + (c + 3) + i) 0)) (length-tab printSize (λ i. getD b (o + (c + 3) + i) 0))
+      ∙ part-tab printSize b (o + (c + 3)) (λ i. getD b (o + (c + 3) + i) 0) (omega arith) (λ i hi. refl)
       in
-      let all : part b o entrySize ≡ part b o 2 ++ (part b (o + 2) 2 ++ part b (o + 2 + 2) printSize) =
-      part-add b o 2 18 ∙ ap (λ (r : List ℕ). part b o 2 ++ r) (part-add b (o + 2) 2 printSize)
-      in
-      let four : o + 2 + 2 ≡ o + 4 = omega arith in
-      let state = state-byte (getD b (o + 1) 0) hs in
-      let expiry = two-part (o + 2) (omega arith) in
-      let first = part-two o (omega arith) in
-      (λ i. getD b o 0 ∷ state i ∷ (expiry i ++ print i))
-      ∙ (λ i. first i ++ (part b (o + 2) 2 ++ part b (o + 4) printSize))
-      ∙ sym (rw four at all)
+      let tail : part b (o + (c + 1)) 18 ≡ part b (o + (c + 1)) 2 ++ part b (o + (c + 1) + 2) printSize =
+      part-add b (o + (c + 1)) 2 printSize in
+      let three : o + (c + 1) + 2 ≡ o + (c + 3) = omega arith in
+      let one : suc (o + c) ≡ o + (c + 1) = omega arith in
+      let state = state-byte (getD b (o + c) 0) hs in
+      let expiry = two-part (o + (c + 1)) (omega arith) in
+      (λ i. state i ∷ (expiry i ++ print i))
+      ∙ sym (part-cons b (o + c) 18 (omega arith)
+      ∙ ap (λ (r : List ℕ). getD b (o + c) 0 ∷ r) (ap (λ (k : ℕ). part b k 18) one ∙ rw three at tail))
+
+  entry-part : (g o : ℕ) → o + entrySize g ≤ length b → getD b (o + countSize g) 0 ≤ 1
+      → entryBytes g (entryIn g b o) ≡ part b o (entrySize g)
+  unfolding entrySize
+  entry-part g o h hs =
+      (λ i. count-part g o (omega arith) i ++ rest-part (countSize g) o h hs i) ∙ sym (part-add b o (countSize g) 19)
 
   slot-part : (o : ℕ) → o + slotSize ≤ length b → getD b (o + 1) 0 ≡ 0 → slotBytes (slotOf b o) ≡ part b o slotSize
   slot-part o h hs =
@@ -84,12 +101,12 @@ module _ (b : List ℕ) (small : (i : ℕ) → getD b i 0 < 256) where
     abbrev z : Sizes
     z = sizesOf b
 
-    head-part : flat two (layoutNumber ∷ z .n ∷ z .l ∷ z .s ∷ z .j ∷ num b bOffset ∷ num b uOffset ∷ num b dayOffset
+    head-part : flat two (z .layout ∷ z .n ∷ z .l ∷ z .s ∷ z .j ∷ num b bOffset ∷ num b uOffset ∷ num b dayOffset
         ∷ num b cursorOffset ∷ 0 ∷ [])
         ≡ part b 0 headerSize
     head-part =
         (λ i. flat two
-        (sym (s .layout) i ∷ z .n ∷ z .l ∷ z .s ∷ z .j ∷ num b bOffset ∷ num b uOffset ∷ num b dayOffset
+        (z .layout ∷ z .n ∷ z .l ∷ z .s ∷ z .j ∷ num b bOffset ∷ num b uOffset ∷ num b dayOffset
         ∷ num b cursorOffset ∷ sym (s .spare) i ∷ []))
         ∙ nums-part 10 0 (λ c. num b (c * 2)) (omega (arith, s .len)) (λ c hc. rw zero-add)
 
@@ -99,10 +116,15 @@ module _ (b : List ℕ) (small : (i : ℕ) → getD b i 0 < 256) where
         (fit-all 0 volumes (tab volumes (λ v. num b (retentionOffset v))) (length-tab volumes (λ v. num b (retentionOffset v))))
         ∙ nums-part volumes headerSize (λ v. num b (retentionOffset v)) (omega (arith, s .len)) (λ v hv. refl)
 
-    entries-part : flat entryBytes (fit freeEntry (z .n) (tab (z .n) (entryOf b))) ≡ part b entriesFrom (z .n * entrySize)
+    abbrev g : ℕ
+    g = z .layout
+
+    entries-part : flat (entryBytes g) (fit freeEntry (z .n) (tab (z .n) (entryOf b))) ≡ part b entriesFrom (z .n * entrySize g)
     entries-part =
         rw (fit-all freeEntry (z .n) (tab (z .n) (entryOf b)) (length-tab (z .n) (entryOf b)))
-        (flat-tab (z .n) entrySize entryBytes (entryOf b) b entriesFrom (λ p hp. entry-part p (omega (arith, s .len)) (s .states p hp)))
+        (flat-tab (z .n) (entrySize g) (entryBytes g) (entryOf b) b entriesFrom
+        (λ p hp. entry-part g (entryOffset g p) (omega (arith, s .len, mul-le-mul-right (entrySize g) hp, suc-mul p (entrySize g)))
+        (s .states p hp)))
 
     abbrev row : ℕ → List ℕ
     row v = tab (z .l) (cellOf b v)
@@ -169,11 +191,11 @@ module _ (b : List ℕ) (small : (i : ℕ) → getD b i 0 < 256) where
     pub bytes-book : b ≡ bytes (bookOf b)
     unfolding bytes bookOf
     bytes-book =
-        let lengths = headerSize ∷ volumes * 2 ∷ z .n * entrySize ∷ volumes * (z .l * 2) ∷ z .s * slotSize ∷ z .j * recSize ∷ [] in
+        let lengths = headerSize ∷ volumes * 2 ∷ z .n * entrySize g ∷ volumes * (z .l * 2) ∷ z .s * slotSize ∷ z .j * recSize ∷ [] in
         let whole = sym (joined-parts lengths b 0 (omega (arith, s .len))) in
         let head =
         (λ i. flat two
-        (layoutNumber ∷ z .n ∷ z .l ∷ z .s ∷ z .j ∷ length-tab (num b bOffset) (λ q. slotOf b (slotOffset z q)) i
+        (z .layout ∷ z .n ∷ z .l ∷ z .s ∷ z .j ∷ length-tab (num b bOffset) (λ q. slotOf b (slotOffset z q)) i
         ∷ length-tab (num b uOffset) (λ q. recOf b (recOffset z q)) i ∷ num b dayOffset ∷ num b cursorOffset ∷ 0 ∷ []))
         ∙ head-part
         in
@@ -185,7 +207,9 @@ module _ (b : List ℕ) (small : (i : ℕ) → getD b i 0 < 256) where
         record {
           retentions = length-tab volumes (λ v. num b (retentionOffset v));
           entries = length-tab (z .n) (entryOf b);
-          prints = λ p hp. rw (getD-tab (z .n) (entryOf b) p freeEntry hp) (length-tab printSize (λ i. getD b (entryOffset p + 4 + i) 0));
+          prints =
+              λ p hp. rw (getD-tab (z .n) (entryOf b) p freeEntry hp)
+              (length-tab printSize (λ i. getD b (entryOffset g p + (countSize g + 3) + i) 0));
           maps = length-tab volumes row;
           cells = λ v hv. rw (getD-tab volumes row v [] hv) (length-tab (z .l) (cellOf b v));
           slots = rw (length-tab (num b bOffset) (λ q. slotOf b (slotOffset z q))) (s .slots);

@@ -1,30 +1,40 @@
 -- Where the sections of a book's bytes start, how long they are, and which byte stands at each offset.
 use mathlib.Core.Path.{_≡_, refl, _∙_}
-use mathlib.Core.List.{List, []}
+use mathlib.Core.Bool.{Bool, true, false}
+use mathlib.Core.List.{List, [], _∷_, _++_}
 use Prim.Native.Nat.{ℕ, _+_, _*_, _<_}
 use native.Mathlib.Omega.{arith}
+use lib.Dec.{eqb}
 use lib.ListN.{length, getD, length-append}
 use Rattle.words.specs.Blocks.{unmapped}
+use Rattle.words.specs.Choice.{if_then_else_}
 use Rattle.words.specs.Numbers.{two}
 use Rattle.words.proofs.SectionLaws.{start, getD-joined, length-sect, getD-sect, length-fit, inside}
 use Rattle.words.specs.Sections.{flat, fit}
 use Rattle.book.specs.Book.{volumes, Sizes, Entry, Slot, Rec, Book, freeEntry, noSlot, noRec, entryAt, cellAt, slotAt, recAt}
 use Rattle.book.specs.Book.{retentionOf}
 use Rattle.book.specs.Layout.{headerSize, entrySize, slotSize, recSize, retentionOffset, entriesFrom, entryOffset, mapsFrom}
-use Rattle.book.specs.Layout.{cellOffset, slotsFrom, slotOffset, recordsFrom, recOffset, bookSize, entryBytes, mapBytes, slotBytes}
+use Rattle.book.specs.Layout.{cellOffset, slotsFrom, slotOffset, recordsFrom, recOffset, bookSize, restBytes, entryBytes, mapBytes}
+use Rattle.book.specs.Layout.{slotBytes}
 use Rattle.book.specs.Layout.{recBytes, headerWords, sections, bytes}
 
--- "length: 36 + 20N + 16L + 8S + 6J"
-pub size-of : (z : Sizes) → bookSize z ≡ 36 + 20 * z .n + 16 * z .l + 8 * z .s + 6 * z .j
-size-of z = omega arith
+-- "length: 36 + 20N + 16L + 8S + 6J" in layout 1
+pub size-of : (z : Sizes) → z .layout ≡ 1 → bookSize z ≡ 36 + 20 * z .n + 16 * z .l + 8 * z .s + 6 * z .j
+unfolding entrySize
+size-of z e = rw e (omega arith)
 
 -- ---- the size of each element
 
 pub two-size : (v : ℕ) → length (two v) ≡ 2
 two-size v = refl
 
-pub entry-size : (e : Entry) → length (entryBytes e) ≡ entrySize
-entry-size e = simp length-fit
+pub entry-size : (g : ℕ) (e : Entry) → length (entryBytes g e) ≡ entrySize g
+unfolding entrySize
+entry-size g e = go (eqb g 1)
+  where
+    go : (t : Bool) → length ((if t then e .count ∷ [] else two (e .count)) ++ restBytes e) ≡ (if t then 1 else 2) + 19
+    go true = simp length-fit
+    go false = simp length-fit
 
 pub map-size : (l : ℕ) (m : List ℕ) → length (mapBytes l m) ≡ l * 2
 map-size l m = length-sect 2 two two-size unmapped l m
@@ -41,8 +51,11 @@ module _ (x : Book) where
   pub retentions-long : length (flat two (fit 0 volumes (x .retentions))) ≡ volumes * 2
   retentions-long = length-sect 2 two two-size 0 volumes (x .retentions)
 
-  pub entries-long : length (flat entryBytes (fit freeEntry (x .sizes .n) (x .entries))) ≡ x .sizes .n * entrySize
-  entries-long = length-sect entrySize entryBytes entry-size freeEntry (x .sizes .n) (x .entries)
+  abbrev g : ℕ
+  g = x .sizes .layout
+
+  pub entries-long : length (flat (entryBytes g) (fit freeEntry (x .sizes .n) (x .entries))) ≡ x .sizes .n * entrySize g
+  entries-long = length-sect (entrySize g) (entryBytes g) (entry-size g) freeEntry (x .sizes .n) (x .entries)
 
   pub maps-long : length (flat (mapBytes (x .sizes .l)) (fit [] volumes (x .maps))) ≡ volumes * (x .sizes .l * 2)
   maps-long = length-sect (x .sizes .l * 2) (mapBytes (x .sizes .l)) (map-size (x .sizes .l)) [] volumes (x .maps)
@@ -87,11 +100,12 @@ module _ (x : Book) where
       get-in 1 headerSize (volumes * 2) (v * 2 + j) i refl retentions-long (omega arith) (omega arith)
       ∙ getD-sect 2 two two-size 0 volumes (x .retentions) v j hv hj
 
-  pub get-entry : (p j i : ℕ) → p < x .sizes .n → j < entrySize → i ≡ entryOffset p + j
-      → getD (bytes x) i 0 ≡ getD (entryBytes (entryAt (x .entries) p)) j 0
+  pub get-entry : (p j i : ℕ) → p < x .sizes .n → j < entrySize g → i ≡ entryOffset g p + j
+      → getD (bytes x) i 0 ≡ getD (entryBytes g (entryAt (x .entries) p)) j 0
   get-entry p j i hp hj e =
-      get-in 2 entriesFrom (x .sizes .n * entrySize) (p * entrySize + j) i start-entries entries-long (omega arith) (omega arith)
-      ∙ getD-sect entrySize entryBytes entry-size freeEntry (x .sizes .n) (x .entries) p j hp hj
+      get-in 2 entriesFrom (x .sizes .n * entrySize g) (p * entrySize g + j) i start-entries entries-long
+      (inside p j (x .sizes .n) (entrySize g) hp hj) (omega arith)
+      ∙ getD-sect (entrySize g) (entryBytes g) (entry-size g) freeEntry (x .sizes .n) (x .entries) p j hp hj
 
   pub get-cell : (v l j i : ℕ) → v < volumes → l < x .sizes .l → j < 2 → i ≡ cellOffset (x .sizes) v l + j
       → getD (bytes x) i 0 ≡ getD (two (cellAt (x .maps) v l)) j 0

@@ -67,7 +67,7 @@ pub record RawParts (b : List ℕ) : Type 0 where
   pub slots : num b bOffset ≤ num b sOffset
   pub records : num b uOffset ≤ num b jOffset
   pub spare : num b zeroOffset ≡ 0
-  pub states : all (stateOk b) (upFrom 0 (num b nOffset)) ≡ true
+  pub states : all (stateOk (num b 0) b) (upFrom 0 (num b nOffset)) ≡ true
   pub seconds : all (secondOk b) (upFrom 0 (num b bOffset)) ≡ true
   pub restSlots : allZero (part b (slotOffset (sizesOf b) (num b bOffset)) ((num b sOffset - num b bOffset) * slotSize)) ≡ true
   pub restRecords : allZero (part b (recOffset (sizesOf b) (num b uOffset)) ((num b jOffset - num b uOffset) * recSize)) ≡ true
@@ -80,12 +80,12 @@ raw-parts b e =
     let c₁ = leb (num b bOffset) (num b sOffset) in
     let c₂ = c₁ && leb (num b uOffset) (num b jOffset) in
     let c₃ = c₂ && eqb (num b zeroOffset) 0 in
-    let c₄ = c₃ && all (stateOk b) (upFrom 0 (num b nOffset)) in
+    let c₄ = c₃ && all (stateOk (num b 0) b) (upFrom 0 (num b nOffset)) in
     let c₅ = c₄ && all (secondOk b) (upFrom 0 (num b bOffset)) in
     let t₇ = and-true (c₅ && rest) last e in
     let t₆ = and-true c₅ rest (t₇ .0) in
     let t₅ = and-true c₄ (all (secondOk b) (upFrom 0 (num b bOffset))) (t₆ .0) in
-    let t₄ = and-true c₃ (all (stateOk b) (upFrom 0 (num b nOffset))) (t₅ .0) in
+    let t₄ = and-true c₃ (all (stateOk (num b 0) b) (upFrom 0 (num b nOffset))) (t₅ .0) in
     let t₃ = and-true c₂ (eqb (num b zeroOffset) 0) (t₄ .0) in
     let t₂ = and-true c₁ (leb (num b uOffset) (num b jOffset)) (t₃ .0) in
     record {

@@ -2,7 +2,7 @@
 use mathlib.Core.Path.{_≡_, refl, sym, ap, _∙_}
 use mathlib.Core.List.{List, [], _∷_, _++_}
 use Prim.Native.Nat.{ℕ, _+_, _*_, _≤_, _<_}
-use native.Mathlib.Nat.{add-zero}
+use native.Mathlib.Nat.{add-zero, mul-le-mul-right, suc-mul}
 use native.Mathlib.Omega.{arith}
 use lib.ListN.{length, getD, set, length-append}
 use lib.Seq.{sets}
@@ -48,16 +48,20 @@ module _ (x : Book) where
 
   -- ---- entries
 
+  abbrev g : ℕ
+  g = x .sizes .layout
+
   -- a store within entry p that makes it y
-  pub set-entry : (p j i : ℕ) (vs : List ℕ) (y : Entry) → p < x .sizes .n → length (x .entries) ≡ x .sizes .n → j + length vs ≤ entrySize
-      → i ≡ entryOffset p + j → sets (entryBytes (entryAt (x .entries) p)) j vs ≡ entryBytes y
+  pub set-entry : (p j i : ℕ) (vs : List ℕ) (y : Entry) → p < x .sizes .n → length (x .entries) ≡ x .sizes .n → j + length vs ≤ entrySize g
+      → i ≡ entryOffset g p + j → sets (entryBytes g (entryAt (x .entries) p)) j vs ≡ entryBytes g y
       → sets (bytes x) i vs ≡ bytes (withEntries (set (x .entries) p y) x)
   unfolding bytes withEntries
   set-entry p j i vs y hp hs hj e q =
-      set-in 2 entriesFrom (x .sizes .n * entrySize) (p * entrySize + j) i vs (omega arith) (start-entries x)
-      (entries-long x) (omega arith) (omega arith)
+      let k = entrySize g in
+      set-in 2 entriesFrom (x .sizes .n * k) (p * k + j) i vs (omega arith) (start-entries x)
+      (entries-long x) (omega (arith, mul-le-mul-right k hp, suc-mul p k)) (omega arith)
       ∙ ap (λ (s : List ℕ). joined (set (sections x) 2 s))
-      (sets-sect entrySize entryBytes entry-size freeEntry (x .sizes .n) (x .entries) p j vs y hp (omega arith) hj q)
+      (sets-sect k (entryBytes g) (entry-size g) freeEntry (x .sizes .n) (x .entries) p j vs y hp (omega arith) hj q)
 
   -- ---- maps
 

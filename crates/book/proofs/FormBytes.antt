@@ -12,9 +12,9 @@ use Rattle.words.specs.Lists.{allZero}
 use Rattle.words.specs.Numbers.{num}
 use Rattle.words.specs.Sections.{part}
 use Rattle.book.specs.Book.{Book, Sized}
-use Rattle.book.specs.Layout.{layoutNumber, headerSize, nOffset, sOffset, jOffset, bOffset, uOffset, entryOffset, slotSize}
-use Rattle.book.specs.Layout.{slotOffset, recSize, recOffset, bookSize, bytes, sizesOf, bookOf, Holds}
-use Rattle.book.specs.Form.{sizesOk, layoutOk, stateOk, secondOk, bookOk, formNumber}
+use Rattle.book.specs.Layout.{current, headerSize, countSize, nOffset, sOffset, jOffset, bOffset, uOffset, entryOffset, slotSize}
+use Rattle.book.specs.Layout.{slotOffset, recSize, recOffset, bookSize, bytes, sizesOf, bookOf, HoldsWide, Holds}
+use Rattle.book.specs.Form.{sizesAs, layoutAs, stateOk, secondOk, bookOk, formAs, sizesOk, formNumber}
 use Rattle.book.proofs.SizesIn.{sizes-in}
 use Rattle.book.specs.FormFacts.{Laid}
 use Rattle.book.proofs.FormNumber.{layout-facts, form-parts, parts-form}
@@ -36,7 +36,7 @@ byte-zero b o m h z =
 
 -- ---- the shape, from the tests and back
 
-pub outline-parts : (b : List ℕ) → Laid b → RawParts b → Outline b
+pub outline-parts : {g : ℕ} (b : List ℕ) → Laid g b → RawParts b → Outline b
 unfolding stateOk secondOk
 outline-parts b l r =
     let len = l .len in
@@ -44,13 +44,12 @@ outline-parts b l r =
     let records = r .records in
     record {
       len = len;
-      layout = l .layout;
       spare = r .spare;
       slots = slots;
       records = records;
       states =
-          λ p h. leb-true (getD b (entryOffset p + 1) 0) 1
-          (each-at (stateOk b) 0 (num b nOffset) (sym (all-each (stateOk b) (num b nOffset)) ∙ r .states) p
+          λ p h. leb-true (getD b (entryOffset (num b 0) p + countSize (num b 0)) 0) 1
+          (each-at (stateOk (num b 0) b) 0 (num b nOffset) (sym (all-each (stateOk (num b 0) b) (num b nOffset)) ∙ r .states) p
           (omega arith) h);
       seconds =
           λ q h. eqb-true (getD b (slotOffset (sizesOf b) q + 1) 0) 0
@@ -75,8 +74,9 @@ parts-outline b h =
       records = records;
       spare = h .spare;
       states =
-          all-each (stateOk b) (num b nOffset)
-          ∙ at-each (stateOk b) 0 (num b nOffset) (λ p _ l. le-leb (getD b (entryOffset p + 1) 0) 1 (h .states p l));
+          all-each (stateOk (num b 0) b) (num b nOffset)
+          ∙ at-each (stateOk (num b 0) b) 0 (num b nOffset)
+          (λ p _ l. le-leb (getD b (entryOffset (num b 0) p + countSize (num b 0)) 0) 1 (h .states p l));
       seconds =
           all-each (secondOk b) (num b bOffset)
           ∙ at-each (secondOk b) 0 (num b bOffset)
@@ -89,32 +89,43 @@ parts-outline b h =
           (λ i lo hi. h .freeRecords i lo (omega arith));
     }
 
-layout-shape : (b : List ℕ) → Outline b → sizesOk (sizesOf b) ≡ true → layoutOk b ≡ true
-unfolding layoutOk
-layout-shape b h z =
+layout-shape : (g : ℕ) (b : List ℕ) → Outline b → sizesAs g (sizesOf b) ≡ true → layoutAs g b ≡ true
+unfolding layoutAs
+layout-shape g b h z =
     let len = h .len in
-    rw (le-leb headerSize (length b) (omega arith), eq-eqb (num b 0) layoutNumber (h .layout), z)
+    rw (le-leb headerSize (length b) (omega arith), z)
     (eq-eqb (length b) (bookSize (sizesOf b)) len)
 
--- ---- what callers use
+-- ---- in form as a book of layout g
 
--- bytes in form are the bytes of the book that they say, and that book meets its conditions
-pub holds-form : (b : List ℕ) → ((i : ℕ) → getD b i 0 < 256) → formNumber b ≡ 0 → Holds b
+-- such bytes are those of the book that they say, and that book meets its conditions
+pub holds-as : (g : ℕ) (b : List ℕ) → ((i : ℕ) → getD b i 0 < 256) → formAs g b ≡ 0 → HoldsWide (countSize g) b
 unfolding bookOf
-holds-form b small e =
-    let t = form-parts b e in
-    let l = layout-facts b (t .0) in
+holds-as g b small e =
+    let t = form-parts g b e in
+    let l = layout-facts g b (t .0) in
     holds-outline b small (outline-parts b l (raw-parts b (t .1))) (bounds-in (l .sizes))
 
-pub book-form : (b : List ℕ) → formNumber b ≡ 0 → (sizesOk (bookOf b .sizes) ≡ true) × (bookOk (bookOf b) ≡ true)
+pub book-as : (g : ℕ) (b : List ℕ) → formAs g b ≡ 0 → (sizesAs g (bookOf b .sizes) ≡ true) × (bookOk (bookOf b) ≡ true)
 unfolding bookOf
-book-form b e =
-    let t = form-parts b e in
-    (sizes-in (sizesOf b) (layout-facts b (t .0) .sizes), t .2)
+book-as g b e =
+    let t = form-parts g b e in
+    (sizes-in g (sizesOf b) (layout-facts g b (t .0) .sizes), t .2)
 
 -- a well-sized book in range that meets its conditions has bytes in form
-pub form-bytes : (x : Book) → Sized x → sizesOk (x .sizes) ≡ true → bookOk x ≡ true → formNumber (bytes x) ≡ 0
-form-bytes x s z e =
+pub bytes-as : (g : ℕ) (x : Book) → Sized x → sizesAs g (x .sizes) ≡ true → bookOk x ≡ true → formAs g (bytes x) ≡ 0
+bytes-as g x s z e =
     let h = shape-bytes x s in
-    parts-form (bytes x) (layout-shape (bytes x) h (rw (sizes-bytes x) z))
+    parts-form g (bytes x) (layout-shape g (bytes x) h (rw (sizes-bytes x) z))
     (parts-raw (bytes x) (parts-outline (bytes x) h)) (rw (book-bytes x s) e)
+
+-- ---- in form: what callers use
+
+pub holds-form : (b : List ℕ) → ((i : ℕ) → getD b i 0 < 256) → formNumber b ≡ 0 → Holds b
+holds-form b small e = holds-as current b small e
+
+pub book-form : (b : List ℕ) → formNumber b ≡ 0 → (sizesOk (bookOf b .sizes) ≡ true) × (bookOk (bookOf b) ≡ true)
+book-form b e = book-as current b e
+
+pub form-bytes : (x : Book) → Sized x → sizesOk (x .sizes) ≡ true → bookOk x ≡ true → formNumber (bytes x) ≡ 0
+form-bytes x s z e = bytes-as current x s z e

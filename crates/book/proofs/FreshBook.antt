@@ -1,17 +1,20 @@
 -- The bytes of a fresh book: runs of zeros and of 255, with layout and sizes at the head.
 use mathlib.Core.Path.{_≡_, refl, sym, ap, _∙_}
+use mathlib.Core.Bool.{Bool, true, false}
 use mathlib.Core.List.{List, [], _∷_, _++_, append-nil}
 use Prim.Native.Nat.{ℕ, _+_, _*_}
+use lib.Dec.{eqb}
 use lib.ListN.{replicate, length-replicate, replicate-append-replicate}
 use lib.Seq.{sets}
 use Rattle.words.specs.Blocks.{unmapped}
+use Rattle.words.specs.Choice.{if_then_else_}
 use Rattle.words.specs.Lists.{joined}
 use Rattle.words.specs.Numbers.{two}
 use Rattle.words.proofs.Filling.{fit-none, flat-run}
 use Rattle.words.specs.Sections.{flat, fit}
 use Rattle.words.proofs.SectionLaws.{fit-all}
 use Rattle.book.specs.Book.{volumes, Sizes, Entry, Slot, Rec, noPrint, freeEntry, noSlot, noRec}
-use Rattle.book.specs.Layout.{layoutNumber, entrySize, slotSize, recSize, entriesFrom, mapsFrom, entryBytes, mapBytes, slotBytes}
+use Rattle.book.specs.Layout.{entrySize, slotSize, recSize, entriesFrom, mapsFrom, entryBytes, mapBytes, slotBytes}
 use Rattle.book.specs.Layout.{recBytes, headerWords, bytes, Is}
 use Rattle.book.specs.Next.{fresh}
 use Rattle.book.specs.FormFacts.{Bounds}
@@ -21,9 +24,13 @@ use Rattle.book.proofs.Holding.{is-bytes}
 abbrev pub zeros : ℕ → List ℕ
 zeros n = replicate n 0
 
-entry-zero : entryBytes freeEntry ≡ zeros entrySize
-unfolding freeEntry noPrint
-entry-zero = refl
+entry-zero : (g : ℕ) → entryBytes g freeEntry ≡ zeros (entrySize g)
+unfolding freeEntry noPrint entrySize
+entry-zero g = go (eqb g 1)
+  where
+    go : (t : Bool) → (if t then 0 ∷ [] else two 0) ++ zeros 19 ≡ zeros ((if t then 1 else 2) + 19)
+    go true = refl
+    go false = refl
 
 pub slot-zero : slotBytes noSlot ≡ zeros slotSize
 unfolding noSlot
@@ -39,11 +46,14 @@ map-unmapped l =
     ∙ flat-run l 2 255 two unmapped refl
 
 module _ (z : Sizes) where
-  entries-zero : flat entryBytes (fit freeEntry (z .n) (replicate (z .n) freeEntry)) ≡ zeros (z .n * entrySize)
+  abbrev g : ℕ
+  g = z .layout
+
+  entries-zero : flat (entryBytes g) (fit freeEntry (z .n) (replicate (z .n) freeEntry)) ≡ zeros (z .n * entrySize g)
   entries-zero =
-      ap (λ (es : List Entry). flat entryBytes es)
+      ap (λ (es : List Entry). flat (entryBytes g) es)
       (fit-all freeEntry (z .n) (replicate (z .n) freeEntry) (length-replicate (z .n) freeEntry))
-      ∙ flat-run (z .n) entrySize 0 entryBytes freeEntry entry-zero
+      ∙ flat-run (z .n) (entrySize g) 0 (entryBytes g) freeEntry (entry-zero g)
 
   maps-unmapped : flat (mapBytes (z .l)) (fit [] volumes (replicate volumes (replicate (z .l) unmapped)))
       ≡ replicate (volumes * (z .l * 2)) 255
@@ -59,26 +69,26 @@ module _ (z : Sizes) where
   pub bytes-fresh : sets
       (zeros (mapsFrom z) ++ (replicate (volumes * (z .l * 2)) 255 ++ zeros (z .s * slotSize + z .j * recSize)))
       0
-      (flat two (layoutNumber ∷ z .n ∷ z .l ∷ z .s ∷ z .j ∷ []))
+      (flat two (z .layout ∷ z .n ∷ z .l ∷ z .s ∷ z .j ∷ []))
       ≡ bytes (fresh z)
   unfolding bytes fresh
   bytes-fresh =
-      let low : zeros (mapsFrom z) ≡ zeros entriesFrom ++ zeros (z .n * entrySize) =
-      sym (replicate-append-replicate entriesFrom (z .n * entrySize) 0) in
+      let low : zeros (mapsFrom z) ≡ zeros entriesFrom ++ zeros (z .n * entrySize g) =
+      sym (replicate-append-replicate entriesFrom (z .n * entrySize g) 0) in
       let high : zeros (z .s * slotSize + z .j * recSize) ≡ zeros (z .s * slotSize) ++ (zeros (z .j * recSize) ++ []) =
       sym (replicate-append-replicate (z .s * slotSize) (z .j * recSize) 0)
       ∙ ap (λ (r : List ℕ). zeros (z .s * slotSize) ++ r) (sym (append-nil (zeros (z .j * recSize))))
       in
-      (λ i. sets (low i ++ (replicate (volumes * (z .l * 2)) 255 ++ high i)) 0 (flat two (layoutNumber ∷ z .n ∷ z .l ∷ z .s ∷ z .j ∷ [])))
+      (λ i. sets (low i ++ (replicate (volumes * (z .l * 2)) 255 ++ high i)) 0 (flat two (z .layout ∷ z .n ∷ z .l ∷ z .s ∷ z .j ∷ [])))
       ∙ sym (λ i. joined
       (flat two (headerWords (fresh z)) ∷ flat two (zeros volumes) ∷ entries-zero i ∷ maps-unmapped i ∷ slots-zero i ∷ records-zero i ∷ []))
 
 -- what a format leaves, whatever stood there before
 pub is-fresh : {b₁ b₂ : List ℕ} (z : Sizes) → Bounds z
     → b₁ ≡ zeros (mapsFrom z) ++ (replicate (volumes * (z .l * 2)) 255 ++ zeros (z .s * slotSize + z .j * recSize))
-    → b₂ ≡ sets b₁ 0 (flat two (layoutNumber ∷ z .n ∷ z .l ∷ z .s ∷ z .j ∷ []))
+    → b₂ ≡ sets b₁ 0 (flat two (z .layout ∷ z .n ∷ z .l ∷ z .s ∷ z .j ∷ []))
     → Is b₂ (fresh z)
 unfolding fresh
 is-fresh z h e₁ e₂ =
     is-bytes (fresh z) (sized-fresh z) h
-    (e₂ ∙ ap (λ (l : List ℕ). sets l 0 (flat two (layoutNumber ∷ z .n ∷ z .l ∷ z .s ∷ z .j ∷ []))) e₁ ∙ bytes-fresh z)
+    (e₂ ∙ ap (λ (l : List ℕ). sets l 0 (flat two (z .layout ∷ z .n ∷ z .l ∷ z .s ∷ z .j ∷ []))) e₁ ∙ bytes-fresh z)

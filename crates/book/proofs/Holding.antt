@@ -5,22 +5,25 @@ use mathlib.Core.List.{List}
 use Prim.Native.Nat.{ℕ, _<_}
 use lib.ListN.{length, getD}
 use Rattle.book.specs.Book.{Sizes, Book, Sized}
-use Rattle.book.specs.Layout.{bytes, sizesOf, bookOf, Holds, Is}
+use Rattle.book.specs.Layout.{countSize, bytes, sizesOf, bookOf, HoldsWide, Holds, Is}
 use Rattle.book.specs.Form.{sizesOk}
 use Rattle.book.specs.FormFacts.{SizesIn}
 use Rattle.book.proofs.SizesIn.{sizes-facts}
 use Rattle.book.proofs.Bytes.{length-bytes}
 use Rattle.book.proofs.Laws.{book-bytes}
 use Rattle.book.proofs.Outline.{Outline}
-use Rattle.book.specs.FormFacts.{Bounds}
+use Rattle.book.specs.FormFacts.{BoundsWide, Bounds}
+use Rattle.book.proofs.Widths.{entries-wide}
 use Rattle.book.proofs.Back.{bytes-book, sized-book}
 
-holds-of : (b : List ℕ) → b ≡ bytes (bookOf b) → Sized (bookOf b) → Bounds (bookOf b .sizes) → Holds b
-holds-of b e s z =
+holds-of : {w : ℕ} (b : List ℕ) → b ≡ bytes (bookOf b) → Sized (bookOf b) → BoundsWide w (bookOf b .sizes) → HoldsWide w b
+holds-of {w} b e s z =
     record {
       same = e;
       sized = s;
       len = ap length e ∙ length-bytes (bookOf b);
+      wide = z .wide;
+      entries = entries-wide (bookOf b .sizes) w (z .wide);
       n = z .n;
       l = z .l;
       s = z .s;
@@ -29,7 +32,7 @@ holds-of b e s z =
       records = s .records;
     }
 
-pub holds-outline : (b : List ℕ) → ((i : ℕ) → getD b i 0 < 256) → Outline b → Bounds (sizesOf b) → Holds b
+pub holds-outline : {w : ℕ} (b : List ℕ) → ((i : ℕ) → getD b i 0 < 256) → Outline b → BoundsWide w (sizesOf b) → HoldsWide w b
 unfolding bookOf
 holds-outline b small s z = holds-of b (bytes-book b small s) (sized-book b small s) z
 
@@ -46,15 +49,15 @@ pub sized-is : {b : List ℕ} {x : Book} → Is b x → Sized x
 sized-is i = rw (i .book) at (i .holds .sized)
 
 pub bounds-holds : {b : List ℕ} → Holds b → Bounds (bookOf b .sizes)
-bounds-holds h = record { n = h .n; l = h .l; s = h .s; j = h .j }
+bounds-holds h = record { wide = h .wide; n = h .n; l = h .l; s = h .s; j = h .j }
 
 -- b is the book that it says
 pub is-holds : {b : List ℕ} → Holds b → Is b (bookOf b)
 is-holds h = record { holds = h; book = refl }
 
 -- sizes in range are within the bounds
-pub bounds-in : {z : Sizes} → SizesIn z → Bounds z
-bounds-in i = record { n = i .n; l = i .l; s = i .s; j = i .j }
+pub bounds-in : {g : ℕ} {z : Sizes} → SizesIn g z → BoundsWide (countSize g) z
+bounds-in i = record { wide = ap countSize (i .layout); n = i .n; l = i .l; s = i .s; j = i .j }
 
 pub bounds-ok : (z : Sizes) → sizesOk z ≡ true → Bounds z
 bounds-ok z e = bounds-in (sizes-facts z e)

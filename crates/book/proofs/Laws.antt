@@ -1,21 +1,24 @@
 -- The first law of the layout: what a book's bytes say is that book.
-use mathlib.Core.Path.{_≡_, refl, _∙_}
+use mathlib.Core.Path.{_≡_, refl, ap, _∙_}
 use mathlib.Core.Bool.{Bool, true, false}
-use mathlib.Core.List.{[]}
+use mathlib.Core.List.{[], _∷_, _++_}
 use Prim.Native.Nat.{ℕ, suc, _+_, _<_, _/_, _%_}
 use native.Mathlib.Nat.{add-zero}
 use native.Mathlib.Omega.{arith}
 use lib.Dec.{eqb}
 use lib.ListN.{length, getD}
 use Rattle.words.specs.Blocks.{printSize, unmapped}
+use Rattle.words.specs.Choice.{if_then_else_}
 use Rattle.words.specs.Numbers.{two, num}
 use Rattle.words.proofs.NumberLaws.{two-back}
 use Rattle.words.specs.Sections.{flat, tab}
 use Rattle.words.proofs.SectionLaws.{tab-list, getD-fit}
-use Rattle.book.specs.Book.{volumes, Book, freeEntry, noSlot, noRec, entryAt, cellAt, slotAt, recAt, retentionOf, Sized}
-use Rattle.book.specs.Layout.{headerSize, slotSize, recSize, nOffset, lOffset, sOffset, jOffset, bOffset, uOffset, dayOffset}
+use Rattle.book.specs.Book.{volumes, Entry, Book, freeEntry, noSlot, noRec, entryAt, cellAt, slotAt, recAt, retentionOf, Sized}
+use Rattle.book.specs.Layout.{headerSize, entrySize, slotSize, recSize, nOffset, lOffset, sOffset, jOffset, bOffset, uOffset}
+use Rattle.book.specs.Layout.{dayOffset}
 use Rattle.book.specs.Layout.{cursorOffset, zeroOffset, retentionOffset, entryOffset, cellOffset, slotOffset, recOffset, stateByte}
-use Rattle.book.specs.Layout.{slotBytes, recBytes, headerWords, bytes, sizesOf, entryOf, slotOf, recOf, bookOf}
+use Rattle.book.specs.Layout.{restBytes, entryBytes, slotBytes, recBytes, headerWords, bytes, sizesOf, entryIn, entryOf, slotOf}
+use Rattle.book.specs.Layout.{recOf, bookOf}
 use Rattle.book.proofs.Bytes.{get-head, get-retention, get-entry, get-cell, get-slot, get-rec}
 
 -- a state's byte read back
@@ -31,8 +34,8 @@ module _ (x : Book) where
       → num (bytes x) k ≡ v
   num-head k v h e₀ e₁ = rw (get-head x k (omega arith), get-head x (k + 1) h, e₀, e₁) (two-back v)
 
-  pub num-layout : num (bytes x) 0 ≡ 1
-  num-layout = num-head 0 1 (omega arith) refl refl
+  pub num-layout : num (bytes x) 0 ≡ x .sizes .layout
+  num-layout = num-head 0 (x .sizes .layout) (omega arith) refl refl
 
   pub num-n : num (bytes x) nOffset ≡ x .sizes .n
   num-n = num-head nOffset (x .sizes .n) (omega arith) refl refl
@@ -62,7 +65,7 @@ module _ (x : Book) where
   num-zero = num-head zeroOffset 0 (omega arith) refl refl
 
   pub sizes-bytes : sizesOf (bytes x) ≡ x .sizes
-  sizes-bytes = λ i. record { n = num-n i; l = num-l i; s = num-s i; j = num-j i }
+  sizes-bytes = λ i. record { layout = num-layout i; n = num-n i; l = num-l i; s = num-s i; j = num-j i }
 
   -- ---- the elements
 
@@ -74,24 +77,56 @@ module _ (x : Book) where
       )
       (two-back (retentionOf x v))
 
-  entry-back : (p : ℕ) → p < x .sizes .n → length (entryAt (x .entries) p .print) ≡ printSize → entryOf (bytes x) p ≡ entryAt (x .entries) p
-  entry-back p hp hs =
-      let e = entryAt (x .entries) p in
-      let at = entryOffset p in
-      let held : eqb (getD (bytes x) (at + 1) 0) 1 ≡ e .held =
-      rw (get-entry x p 1 (at + 1) hp (omega arith) (omega arith)) (state-back (e .held)) in
+  -- an entry whose bytes stand at `at`, with a count of one byte and of two
+  narrow-from : (at : ℕ) (e : Entry) → length (e .print) ≡ printSize
+      → ((j i : ℕ) → j < 20 → i ≡ at + j → getD (bytes x) i 0 ≡ getD ((e .count ∷ []) ++ restBytes e) j 0) → entryIn 1 (bytes x) at ≡ e
+  narrow-from at e hs get =
+      let held : eqb (getD (bytes x) (at + 1) 0) 1 ≡ e .held = rw (get 1 (at + 1) (omega arith) (omega arith)) (state-back (e .held)) in
       let expiry : num (bytes x) (at + 2) ≡ e .expiry =
-      rw (
-        get-entry x p 2 (at + 2) hp (omega arith) (omega arith),
-        get-entry x p 3 (at + 2 + 1) hp (omega arith)
-            (omega arith),
-      ) (two-back (e .expiry))
-      in
+      rw (get 2 (at + 2) (omega arith) (omega arith), get 3 (at + 2 + 1) (omega arith) (omega arith)) (two-back (e .expiry)) in
       let print : tab printSize (λ i. getD (bytes x) (at + 4 + i) 0) ≡ e .print =
       tab-list printSize (λ i. getD (bytes x) (at + 4 + i) 0) (e .print) 0 hs
-      (λ i hi. get-entry x p (suc (suc (suc (suc i)))) (at + 4 + i) hp (omega arith) (omega arith) ∙ getD-fit 0 printSize (e .print) i hi)
+      (λ i hi. get (suc (suc (suc (suc i)))) (at + 4 + i) (omega arith) (omega arith) ∙ getD-fit 0 printSize (e .print) i hi)
       in
-      λ i. record { count = get-entry x p 0 at hp (omega arith) (omega arith) i; held = held i; expiry = expiry i; print = print i }
+      λ i. record { count = get 0 at (omega arith) (omega arith) i; held = held i; expiry = expiry i; print = print i }
+
+  wide-from : (at : ℕ) (e : Entry) → length (e .print) ≡ printSize
+      → ((j i : ℕ) → j < 21 → i ≡ at + j → getD (bytes x) i 0 ≡ getD (two (e .count) ++ restBytes e) j 0) → entryIn 2 (bytes x) at ≡ e
+  wide-from at e hs get =
+      let count : num (bytes x) at ≡ e .count =
+      rw (get 0 at (omega arith) (omega arith), get 1 (at + 1) (omega arith) (omega arith)) (two-back (e .count)) in
+      let held : eqb (getD (bytes x) (at + 2) 0) 1 ≡ e .held = rw (get 2 (at + 2) (omega arith) (omega arith)) (state-back (e .held)) in
+      let expiry : num (bytes x) (at + 3) ≡ e .expiry =
+      rw (get 3 (at + 3) (omega arith) (omega arith), get 4 (at + 3 + 1) (omega arith) (omega arith)) (two-back (e .expiry)) in
+      let print : tab printSize (λ i. getD (bytes x) (at + 5 + i) 0) ≡ e .print =
+      tab-list printSize (λ i. getD (bytes x) (at + 5 + i) 0) (e .print) 0 hs
+      (λ i hi. get (suc (suc (suc (suc (suc i))))) (at + 5 + i) (omega arith) (omega arith) ∙ getD-fit 0 printSize (e .print) i hi)
+      in
+      λ i. record { count = count i; held = held i; expiry = expiry i; print = print i }
+
+  -- in layout g
+  entry-from : (g at : ℕ) (e : Entry) → length (e .print) ≡ printSize
+      → ((j i : ℕ) → j < entrySize g → i ≡ at + j → getD (bytes x) i 0 ≡ getD (entryBytes g e) j 0) → entryIn g (bytes x) at ≡ e
+  unfolding entrySize
+  entry-from g at e hs = go (eqb g 1)
+    where
+      go : (t : Bool)
+          → ((j i : ℕ) → j < (if t then 1 else 2) + 19 → i ≡ at + j
+          → getD (bytes x) i 0 ≡ getD ((if t then e .count ∷ [] else two (e .count)) ++ restBytes e) j 0)
+          → record {
+            count = if t then getD (bytes x) at 0 else num (bytes x) at;
+            held = eqb (getD (bytes x) (at + (if t then 1 else 2)) 0) 1;
+            expiry = num (bytes x) (at + ((if t then 1 else 2) + 1));
+            print = tab printSize (λ i. getD (bytes x) (at + ((if t then 1 else 2) + 3) + i) 0);
+          } ≡ e
+      go true get = narrow-from at e hs get
+      go false get = wide-from at e hs get
+
+  entry-back : (p : ℕ) → p < x .sizes .n → length (entryAt (x .entries) p .print) ≡ printSize
+      → entryIn (x .sizes .layout) (bytes x) (entryOffset (x .sizes .layout) p) ≡ entryAt (x .entries) p
+  entry-back p hp hs =
+      let g = x .sizes .layout in
+      entry-from g (entryOffset g p) (entryAt (x .entries) p) hs (λ j i hj e. get-entry x p j i hp hj e)
 
   cell-back : (v l : ℕ) → v < volumes → l < x .sizes .l → num (bytes x) (cellOffset (x .sizes) v l) ≡ cellAt (x .maps) v l
   cell-back v l hv hl =
@@ -145,20 +180,22 @@ module _ (x : Book) where
       tab-list volumes (λ v. num b (retentionOffset v)) (x .retentions) 0 (s .retentions) retention-back
       in
       let es : tab (num b nOffset) (entryOf b) ≡ x .entries =
-      rw num-n (tab-list (z .n) (entryOf b) (x .entries) freeEntry (s .entries) (λ p hp. entry-back p hp (s .prints p hp)))
+      ap (λ (g : ℕ). tab (num b nOffset) (λ p. entryIn g b (entryOffset g p))) num-layout
+      ∙ rw num-n (tab-list (z .n) (λ p. entryIn (z .layout) b (entryOffset (z .layout) p)) (x .entries) freeEntry (s .entries)
+      (λ p hp. entry-back p hp (s .prints p hp)))
       in
       let ms : tab volumes (λ v. tab (num b lOffset) (λ l. num b (cellOffset (sizesOf b) v l))) ≡ x .maps =
-      rw (num-n, num-l)
+      rw (num-layout, num-n, num-l)
       (tab-list volumes (λ v. tab (z .l) (λ l. num b (cellOffset z v l))) (x .maps) [] (s .maps)
       (λ v hv. tab-list (z .l) (λ l. num b (cellOffset z v l)) (getD (x .maps) v []) unmapped (s .cells v hv)
       (λ l hl. cell-back v l hv hl)))
       in
       let ts : tab (num b bOffset) (λ q. slotOf b (slotOffset (sizesOf b) q)) ≡ x .slots =
-      rw (num-n, num-l, num-b)
+      rw (num-layout, num-n, num-l, num-b)
       (tab-list (length (x .slots)) (λ q. slotOf b (slotOffset z q)) (x .slots) noSlot refl (λ q hq. slot-back q (omega (arith, s .slots))))
       in
       let rs : tab (num b uOffset) (λ q. recOf b (recOffset (sizesOf b) q)) ≡ x .records =
-      rw (num-n, num-l, num-s, num-u)
+      rw (num-layout, num-n, num-l, num-s, num-u)
       (tab-list (length (x .records)) (λ q. recOf b (recOffset z q)) (x .records) noRec refl
       (λ q hq. rec-back q (omega (arith, s .records))))
       in

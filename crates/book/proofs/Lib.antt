@@ -1,3 +1,4 @@
+pub mod Widths
 pub mod SizesIn
 pub mod Bytes
 pub mod Laws

@@ -1,5 +1,5 @@
 -- What stands at an offset of bytes, as a field of the book that they say: what each reader's proof takes.
-use mathlib.Core.Path.{_≡_, refl, sym, ap}
+use mathlib.Core.Path.{_≡_, refl, sym, ap, _∙_}
 use mathlib.Core.List.{List, []}
 use Prim.Native.Nat.{ℕ, _+_, _*_, _≤_, _<_}
 use native.Mathlib.Nat.{add-assoc, mul-le-mul-right, suc-mul}
@@ -12,9 +12,10 @@ use Rattle.words.specs.Sections.{flat, tab, part}
 use Rattle.words.proofs.SectionLaws.{length-tab, getD-tab, part-tab, inside}
 use Rattle.book.specs.Book.{volumes, freeEntry, noSlot, noRec, entryAt, cellAt, slotAt, recAt, retentionOf}
 use Rattle.book.specs.Layout.{nOffset, lOffset, sOffset, jOffset, bOffset, uOffset, dayOffset, cursorOffset, retentionOffset}
-use Rattle.book.specs.Layout.{entryOffset, mapsFrom, cellOffset, slotOffset, recOffset, sizesOf, entryOf, cellOf, slotOf, recOf}
-use Rattle.book.specs.Layout.{bookOf, Holds}
+use Rattle.book.specs.Layout.{current, countSize, entryOffset, currentOffset, mapsFrom, cellOffset, slotOffset, recOffset, sizesOf}
+use Rattle.book.specs.Layout.{countIn, entryIn, entryOf, cellOf, slotOf, recOf, bookOf, HoldsWide, Holds}
 use Rattle.book.proofs.Back.{nums-part}
+use Rattle.book.proofs.Widths.{offset-now, offset-same, entry-same}
 
 module _ (b : List ℕ) where
   pub n-at : num b nOffset ≡ bookOf b .sizes .n
@@ -53,24 +54,34 @@ module _ (b : List ℕ) where
   unfolding bookOf
   retention-at v hv = sym (getD-tab volumes (λ v. num b (retentionOffset v)) v 0 hv)
 
-  entry-at : (p : ℕ) → p < bookOf b .sizes .n → entryOf b p ≡ entryAt (bookOf b .entries) p
+  entry-at : (g p i : ℕ) → HoldsWide (countSize g) b → p < bookOf b .sizes .n → i ≡ entryOffset g p
+      → entryIn g b i ≡ entryAt (bookOf b .entries) p
   unfolding bookOf
-  entry-at p hp = sym (getD-tab (num b nOffset) (entryOf b) p freeEntry hp)
+  entry-at g p i h hp e =
+      let z = num b 0 in
+      ap (λ (at : ℕ). entryIn g b at) (e ∙ sym (offset-same z g (h .wide) p))
+      ∙ sym (entry-same z g (h .wide) b (entryOffset z p))
+      ∙ sym (getD-tab (num b nOffset) (entryOf b) p freeEntry hp)
 
-  module _ (p i : ℕ) (hp : p < bookOf b .sizes .n) (e : i ≡ entryOffset p) where
-    pub count-at : getD b i 0 ≡ entryAt (bookOf b .entries) p .count
-    count-at = rw (e, ← entry-at p hp)
+  -- where an entry of today's layout has its fields
+  module _ (p i : ℕ) (h : Holds b) (hp : p < bookOf b .sizes .n) (e : i ≡ currentOffset p) where
+    here : entryIn current b i ≡ entryAt (bookOf b .entries) p
+    here = entry-at current p i h hp (e ∙ offset-now p)
 
-    pub held-at : eqb (getD b (i + 1) 0) 1 ≡ entryAt (bookOf b .entries) p .held
-    held-at = rw (e, ← entry-at p hp)
+    pub count-at : countIn current b i ≡ entryAt (bookOf b .entries) p .count
+    count-at = rw (← here)
 
-    pub expiry-at : num b (i + 2) ≡ entryAt (bookOf b .entries) p .expiry
-    expiry-at = rw (e, ← entry-at p hp)
+    pub held-at : eqb (getD b (i + countSize current) 0) 1 ≡ entryAt (bookOf b .entries) p .held
+    held-at = rw (← here)
 
-    pub print-at : Holds b → part b (i + 4) printSize ≡ entryAt (bookOf b .entries) p .print
-    print-at h =
-        rw (e, ← entry-at p hp)
-        (sym (part-tab printSize b (entryOffset p + 4) (λ k. getD b (entryOffset p + 4 + k) 0) (omega (arith, h)) (λ k hk. refl)))
+    pub expiry-at : num b (i + (countSize current + 1)) ≡ entryAt (bookOf b .entries) p .expiry
+    expiry-at = rw (← here)
+
+    pub print-at : part b (i + (countSize current + 3)) printSize ≡ entryAt (bookOf b .entries) p .print
+    print-at =
+        rw (← here)
+        (sym (part-tab printSize b (i + (countSize current + 3)) (λ k. getD b (i + (countSize current + 3) + k) 0)
+        (omega (arith, h)) (λ k hk. refl)))
 
   pub cell-at : (v l i : ℕ) → v < volumes → l < bookOf b .sizes .l → i ≡ cellOffset (bookOf b .sizes) v l
       → num b i ≡ cellAt (bookOf b .maps) v l

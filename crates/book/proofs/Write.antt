@@ -1,5 +1,5 @@
 -- What bytes are after a store, as the book with one thing changed: what each writer's proof takes.
-use mathlib.Core.Path.{_≡_, ap, _∙_}
+use mathlib.Core.Path.{_≡_, sym, ap, _∙_}
 use mathlib.Core.List.{List}
 use Prim.Native.Nat.{ℕ, _+_, _<_}
 use lib.ListN.{length, set, replicate}
@@ -8,8 +8,9 @@ use Rattle.words.specs.Blocks.{printSize}
 use Rattle.words.specs.Numbers.{two, put}
 use Rattle.words.proofs.Filling.{put-sets}
 use Rattle.book.specs.Book.{volumes, Slot, Rec, Book}
-use Rattle.book.specs.Layout.{bOffset, uOffset, dayOffset, cursorOffset, retentionOffset, entryOffset, cellOffset, slotOffset}
-use Rattle.book.specs.Layout.{recOffset, slotBytes, recBytes, bytes, bookOf, Holds, Is}
+use Rattle.book.specs.Layout.{current, countSize, bOffset, uOffset, dayOffset, cursorOffset, retentionOffset, entryOffset}
+use Rattle.book.specs.Layout.{currentOffset, cellOffset, slotOffset, recOffset, countBytes, slotBytes, recBytes, bytes, bookOf}
+use Rattle.book.specs.Layout.{Holds, Is}
 use Rattle.book.specs.Next.{withDay, withCursor, withRetention, withEntries, withMaps, withSlot, withRecord, countAs, expiryAs}
 use Rattle.book.specs.Next.{heldAs, madeFree, withEntry, withCell}
 use Rattle.book.proofs.FieldsWritten.{set-day, set-cursor, set-retention, set-cell, add-slot, add-record}
@@ -17,6 +18,7 @@ use Rattle.book.proofs.Entries.{set-count, set-expiry, set-held, set-fr
 use Rattle.book.proofs.Sizing.{sized-day, sized-cursor, sized-retention, sized-count, sized-expiry, sized-held, sized-freed}
 use Rattle.book.proofs.Sizing.{sized-cell, sized-slot, sized-record}
 use Rattle.book.proofs.Holding.{is-bytes, bounds-holds}
+use Rattle.book.proofs.Widths.{offset-now, offset-same, count-same}
 
 module _ {b : List ℕ} (h : Holds b) where
   abbrev x : Book
@@ -49,32 +51,48 @@ module _ {b : List ℕ} (h : Holds b) where
 
   -- ---- the entry of block p, at i
 
-  module _ (p i : ℕ) (hp : p < x .sizes .n) (ei : i ≡ entryOffset p) where
-    pub is-count : (c : ℕ) → Is (set b i c) (withEntry (countAs c) p x)
-    unfolding withEntries
-    is-count c =
-        is-bytes (withEntry (countAs c) p x) (sized-count x (h .sized) p c hp) (bounds-holds h)
-        (ap (λ (l : List ℕ). set l i c) (h .same) ∙ set-count x p i hp (h .sized .entries) ei c)
+  module _ (p i : ℕ) (hp : p < x .sizes .n) (at : i ≡ currentOffset p) where
+    ei : i ≡ entryOffset (x .sizes .layout) p
+    ei = at ∙ offset-now p ∙ sym (offset-same (x .sizes .layout) current (h .wide) p)
 
-    pub is-expiry : {b₁ : List ℕ} (d : ℕ) → b₁ ≡ put b (i + 2) d → Is b₁ (withEntry (expiryAs d) p x)
+    pub is-count : {b₁ : List ℕ} (c : ℕ) → b₁ ≡ sets b i (countBytes current c) → Is b₁ (withEntry (countAs c) p x)
+    unfolding withEntries
+    is-count c e =
+        is-bytes (withEntry (countAs c) p x) (sized-count x (h .sized) p c hp) (bounds-holds h)
+        (e ∙ ap (λ (l : List ℕ). sets l i (countBytes current c)) (h .same)
+        ∙ ap (λ (cs : List ℕ). sets (bytes x) i cs) (sym (count-same (x .sizes .layout) current (h .wide) c))
+        ∙ set-count x p i hp (h .sized .entries) ei c)
+
+    pub is-expiry : {b₁ : List ℕ} (d : ℕ) → b₁ ≡ put b (i + (countSize current + 1)) d → Is b₁ (withEntry (expiryAs d) p x)
     unfolding withEntries
     is-expiry d e =
         is-bytes (withEntry (expiryAs d) p x) (sized-expiry x (h .sized) p d hp) (bounds-holds h)
-        (e ∙ put-same (i + 2) d ∙ set-expiry x p i hp (h .sized .entries) ei d)
+        (e ∙ put-same (i + (countSize current + 1)) d
+        ∙ ap (λ (k : ℕ). sets (bytes x) (i + (k + 1)) (two d)) (sym (h .wide))
+        ∙ set-expiry x p i hp (h .sized .entries) ei d)
 
-    pub is-held : {b₁ : List ℕ} (f : List ℕ) → length f ≡ printSize → b₁ ≡ sets (set b (i + 1) 1) (i + 4) f
+    -- a state and a fingerprint stored into b are stored into the book's bytes
+    stored-same : (s : ℕ) (f : List ℕ)
+        → sets (set b (i + countSize current) s) (i + (countSize current + 3)) f
+        ≡ sets (set (bytes x) (i + countSize (x .sizes .layout)) s) (i + (countSize (x .sizes .layout) + 3)) f
+    stored-same s f =
+        ap (λ (l : List ℕ). sets (set l (i + countSize current) s) (i + (countSize current + 3)) f) (h .same)
+        ∙ ap (λ (k : ℕ). sets (set (bytes x) (i + k) s) (i + (k + 3)) f) (sym (h .wide))
+
+    pub is-held : {b₁ : List ℕ} (f : List ℕ) → length f ≡ printSize
+        → b₁ ≡ sets (set b (i + countSize current) 1) (i + (countSize current + 3)) f
         → Is b₁ (withEntry (heldAs f) p x)
     unfolding withEntries
     is-held f hf e =
         is-bytes (withEntry (heldAs f) p x) (sized-held x (h .sized) p f hf) (bounds-holds h)
-        (e ∙ ap (λ (l : List ℕ). sets (set l (i + 1) 1) (i + 4) f) (h .same) ∙ set-held x p i hp (h .sized .entries) ei f hf)
+        (e ∙ stored-same 1 f ∙ set-held x p i hp (h .sized .entries) ei f hf)
 
-    pub is-freed : {b₁ : List ℕ} → b₁ ≡ sets (set b (i + 1) 0) (i + 4) (replicate printSize 0) → Is b₁ (withEntry madeFree p x)
+    pub is-freed : {b₁ : List ℕ} → b₁ ≡ sets (set b (i + countSize current) 0) (i + (countSize current + 3)) (replicate printSize 0)
+        → Is b₁ (withEntry madeFree p x)
     unfolding withEntries
     is-freed e =
         is-bytes (withEntry madeFree p x) (sized-freed x (h .sized) p) (bounds-holds h)
-        (e ∙ ap (λ (l : List ℕ). sets (set l (i + 1) 0) (i + 4) (replicate printSize 0)) (h .same)
-        ∙ set-freed x p i hp (h .sized .entries) ei)
+        (e ∙ stored-same 0 (replicate printSize 0) ∙ set-freed x p i hp (h .sized .entries) ei)
 
   -- ---- from what the two stores left
 

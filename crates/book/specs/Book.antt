@@ -10,8 +10,10 @@ use Rattle.words.specs.Blocks.{printSize, unmapped}
 abbrev pub volumes : ℕ
 volumes = 8
 
--- "N pool blocks", "L logical blocks a volume", "S backup slots", "J journal slots"
+-- the header's first five numbers: "layout; N pool blocks; L logical blocks a volume; S backup slots; J journal slots". The layout is
+-- one of them, since with the sizes it says where everything stands
 pub record Sizes : Type 0 where
+  pub layout : ℕ
   pub n : ℕ
   pub l : ℕ
   pub s : ℕ

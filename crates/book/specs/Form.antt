@@ -1,5 +1,5 @@
 -- When bytes are a book in form, or well-formed (document 01, "A book is in form when"; numbers 1 and 2). Its clauses, in its order:
---   header numbers are in range: layout number and sizes        layoutOk (number 1; the others are number 2)
+--   header numbers are in range: layout number and sizes        layoutAs (number 1; the others are number 2)
 --   B ≤ S, U ≤ J                                                rawOk
 --   day ≤ 60,000, cursor < N                                    bookOk
 --   retentions are in range                                     bookOk: retentionOk
@@ -26,20 +26,21 @@ use Rattle.words.specs.Lists.{all, allZero, upFrom}
 use Rattle.words.specs.Numbers.{num}
 use Rattle.words.specs.Sections.{part}
 use Rattle.book.specs.Book.{Sizes, Entry, Slot, Rec, Book, retentionOf}
-use Rattle.book.specs.Layout.{layoutNumber, headerSize, slotSize, recSize, bOffset, uOffset, zeroOffset, entryOffset, slotOffset}
-use Rattle.book.specs.Layout.{recOffset, bookSize, sizesOf, bookOf}
+use Rattle.book.specs.Layout.{current, headerSize, countSize, slotSize, recSize, bOffset, uOffset, zeroOffset, entryOffset}
+use Rattle.book.specs.Layout.{slotOffset, recOffset, bookSize, sizesOf, bookOf}
 
 unfoldable pub between : ℕ → ℕ → ℕ → Bool
 between low high k = leb low k && leb k high
 
 -- ---- number 1: the length, the layout number and the sizes
 
-unfoldable pub sizesOk : Sizes → Bool
-sizesOk z = between 1 4096 (z .n) && between 1 1024 (z .l) && between 1 1024 (z .s) && between 1 16384 (z .j)
+-- sizes of layout g, in range
+unfoldable pub sizesAs : ℕ → Sizes → Bool
+sizesAs g z =
+    eqb (z .layout) g && between 1 4096 (z .n) && between 1 1024 (z .l) && between 1 1024 (z .s) && between 1 16384 (z .j)
 
-unfoldable pub layoutOk : List ℕ → Bool
-layoutOk b =
-    leb headerSize (length b) && eqb (num b 0) layoutNumber && sizesOk (sizesOf b) && eqb (length b) (bookSize (sizesOf b))
+unfoldable pub layoutAs : ℕ → List ℕ → Bool
+layoutAs g b = leb headerSize (length b) && sizesAs g (sizesOf b) && eqb (length b) (bookSize (sizesOf b))
 
 -- ---- number 2, as far as what the book holds shows it
 
@@ -95,8 +96,9 @@ bookOk x =
 -- ---- number 2, as far as only the bytes show it: "B ≤ S, U ≤ J", "states are 0 or 1", "unused slots and records, a slot's second byte and
 -- the spare header field are zero"
 
-unfoldable pub stateOk : List ℕ → ℕ → Bool
-stateOk b p = leb (getD b (entryOffset p + 1) 0) 1
+-- of entry p, in layout g
+unfoldable pub stateOk : ℕ → List ℕ → ℕ → Bool
+stateOk g b p = leb (getD b (entryOffset g p + countSize g) 0) 1
 
 unfoldable pub secondOk : List ℕ → ℕ → Bool
 secondOk b q = eqb (getD b (slotOffset (sizesOf b) q + 1) 0) 0
@@ -106,14 +108,21 @@ rawOk b =
     leb (num b bOffset) (sizesOf b .s)
     && leb (num b uOffset) (sizesOf b .j)
     && eqb (num b zeroOffset) 0
-    && all (stateOk b) (upFrom 0 (sizesOf b .n))
+    && all (stateOk (num b 0) b) (upFrom 0 (sizesOf b .n))
     && all (secondOk b) (upFrom 0 (num b bOffset))
     && allZero (part b (slotOffset (sizesOf b) (num b bOffset)) ((sizesOf b .s - num b bOffset) * slotSize))
     && allZero (part b (recOffset (sizesOf b) (num b uOffset)) ((sizesOf b .j - num b uOffset) * recSize))
 
--- 1, 2, or 0 for a book in form
-unfoldable pub formNumber : List ℕ → ℕ
-formNumber b =
-    if not (layoutOk b) then 1 else
+-- 1, 2, or 0 for a book in form, as a book of layout g
+unfoldable pub formAs : ℕ → List ℕ → ℕ
+formAs g b =
+    if not (layoutAs g b) then 1 else
     if not (rawOk b && bookOk (bookOf b)) then 2 else
     0
+
+-- as a book of today's layout: what every call asks
+abbrev pub sizesOk : Sizes → Bool
+sizesOk z = sizesAs current z
+
+abbrev pub formNumber : List ℕ → ℕ
+formNumber b = formAs current b

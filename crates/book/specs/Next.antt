@@ -5,6 +5,7 @@ use mathlib.Core.List.{List, [], _∷_, _++_}
 use lib.ListN.{getD, set, replicate}
 use Rattle.words.specs.Blocks.{unmapped}
 use Rattle.book.specs.Book.{volumes, Sizes, Entry, Slot, Rec, Book, noPrint, freeEntry, entryAt}
+use Rattle.book.specs.Layout.{current}
 
 unfoldable pub withDay : ℕ → Book → Book
 withDay d x = record {
@@ -112,6 +113,10 @@ cellsWith ms v l p = set ms v (set (getD ms v []) l p)
 
 abbrev pub withCell : ℕ → ℕ → ℕ → Book → Book
 withCell v l p x = withMaps (cellsWith (x .maps) v l p) x
+
+-- of today's layout
+abbrev pub newSizes : ℕ → ℕ → ℕ → ℕ → Sizes
+newSizes n l s j = record { layout = current; n = n; l = l; s = s; j = j }
 
 -- "Format: all zero but layout and sizes, maps unmapped"
 unfoldable pub fresh : Sizes → Book

@@ -7,6 +7,7 @@ use lib.ListN.{length, getD, take}
 use Rattle.words.specs.Blocks.{unmapped}
 use Rattle.words.specs.Choice.{if_then_else_}
 use Rattle.book.specs.Book.{Sizes, Entry, Book, noPrint}
+use Rattle.book.specs.Next.{newSizes}
 use Rattle.book.specs.Layout.{bookOf}
 use Rattle.book.proofs.AfterD.{afterD}
 use Rattle.model.specs.Plain.{Block, free, held, Plain, start, currentMaps}
@@ -17,7 +18,7 @@ use Rattle.cases.proofs.Letters.{A, B, C, D, E, F, blockOf, printOf, ov
 
 -- "N=4, L=4, S=6, J=8 (276 bytes)"
 abbrev pub sizes : Sizes
-sizes = record { n = 4; l = 4; s = 6; j = 8 }
+sizes = newSizes 4 4 6 8
 
 -- an entry: whether it is held, count, expiry, fingerprint
 pub data Kept : Type 0 where

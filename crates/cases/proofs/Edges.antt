@@ -7,6 +7,7 @@ use lib.ListN.{replicate}
 use Rattle.words.specs.Blocks.{unmapped}
 use Rattle.words.specs.Lists.{upFrom}
 use Rattle.book.specs.Book.{Sizes, entryAt}
+use Rattle.book.specs.Next.{newSizes}
 use Rattle.book.specs.Layout.{bytes, bookOf}
 use Rattle.model.specs.Plain.{free, held, Plain, unenrolled, start}
 use Rattle.model.specs.Calls.{Call, enrol, backup, collect, read, audit, Answer, number, backed, freed, block, sound}
@@ -32,12 +33,12 @@ pub record Both (z : Sizes) (cs : List Call) (answers : List Answer) : Type 0 wh
   pub alike : oursShown (ourEnd z cs) ≡ plainShown (plainEnd z cs)
 
 abbrev pub small : Sizes
-small = record { n = 2; l = 4; s = 4; j = 8 }
+small = newSizes 2 4 4 8
 
 -- ---- "raising before lowering, so a change to the same block at count 255 is refused": 255 cells name block A and one names block B
 
 abbrev pub crowdedSizes : Sizes
-crowdedSizes = record { n = 2; l = 33; s = 11; j = 4 }
+crowdedSizes = newSizes 2 33 11 4
 
 unfoldable pub crowdedMaps : List (List ℕ)
 crowdedMaps = replicate 7 (replicate 32 0 ++ (unmapped ∷ [])) ++ ((replicate 31 0 ++ (1 ∷ unmapped ∷ [])) ∷ [])
@@ -124,7 +125,7 @@ halves-leave-nothing =
 -- ---- "going round after N − 1", past held blocks: the last backup takes block 1 from the cursor 2
 
 abbrev pub round : Sizes
-round = record { n = 4; l = 4; s = 6; j = 8 }
+round = newSizes 4 4 6 8
 
 unfoldable pub rounds : List Call
 rounds =

@@ -4,7 +4,7 @@ use mathlib.Core.Path.{_≡_, refl}
 use mathlib.Core.List.{[], _∷_}
 use lib.ListN.{replicate}
 use Rattle.book.specs.Book.{Sizes}
-use Rattle.book.specs.Next.{fresh, withRetention}
+use Rattle.book.specs.Next.{newSizes, fresh, withRetention}
 use Rattle.model.specs.Calls.{enrol}
 use Rattle.model.specs.Backup as ours
 use Rattle.model.specs.PlainBackup as plain
@@ -14,7 +14,7 @@ use Rattle.cases.proofs.Edges.{plainEnd}
 
 -- room for more than such a run in all that a backup is refused for
 abbrev pub wide : Sizes
-wide = record { n = 1; l = 80; s = 1; j = 80 }
+wide = newSizes 1 80 1 80
 
 unfoldable pub ourNumber : ℕ → ℕ
 ourNumber n = ours.backupNumber (withRetention 0 9 (fresh wide)) 0 1 (list 0 (replicate n A))

@@ -27,9 +27,9 @@ unfolding
     Changes.pairCount Changes.pairAt Changes.pairs Changes.changeCount Changes.lbns Changes.printsFrom Changes.blocksFrom Changes.listSize
     Changes.changeAt Changes.changes Changes.listNumber
     Book.noPrint Book.freeEntry Book.noSlot Book.noRec
-    Layout.bytes Layout.bookOf
-    Form.between Form.sizesOk Form.layoutOk Form.retentionOk Form.entryOk Form.pbnOk Form.recOk Form.slotOk Form.laterOk Form.bookOk
-    Form.stateOk Form.secondOk Form.rawOk Form.formNumber
+    Layout.entrySize Layout.bytes Layout.bookOf
+    Form.between Form.sizesAs Form.layoutAs Form.retentionOk Form.entryOk Form.pbnOk Form.recOk Form.slotOk Form.laterOk Form.bookOk
+    Form.stateOk Form.secondOk Form.rawOk Form.formAs
     Next.withDay Next.withCursor Next.withRetention Next.withEntries Next.withMaps Next.withSlot Next.withRecord Next.countAs Next.expiryAs
     Next.heldAs Next.madeFree Next.fresh
     Days.kept Days.badDay Days.notAfter Days.badRetention

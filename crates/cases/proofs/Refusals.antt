@@ -6,7 +6,7 @@ use mathlib.Core.List.{List, [], _∷_, _++_, map}
 use lib.ListN.{take, drop, replicate}
 use Rattle.words.specs.Numbers.{two, put}
 use Rattle.book.specs.Layout.{bytes, bOffset, zeroOffset}
-use Rattle.book.specs.Next.{fresh}
+use Rattle.book.specs.Next.{newSizes, fresh}
 use Rattle.model.specs.OnBytes.{numberOf, formatBytes, enrolBytes, backupBytes, collectBytes, readNumberBytes, readPlaceBytes, auditBytes}
 use Rattle.model.specs.Calls.{Call, enrol, backup, collect, read, Answer, number, backed, freed}
 use Rattle.model.specs.Plain.{start}
@@ -66,7 +66,7 @@ unfolding model over list callOf table calls tried numbers
 order = record { ourNumbers = refl; plainNumbers = refl }
 
 -- 9 comes before 10, and 16 before 17; pairs may touch
-pub full : Both (record { n = 2; l = 4; s = 2; j = 2 })
+pub full : Both (newSizes 2 4 2 2)
     (enrol 0 1
     ∷ backup 0 1 (two 2 ++ two 0 ++ two 1 ++ two 1 ++ two 1 ++ drop 6 (list 0 (A ∷ A ∷ [])))
     ∷ backup 0 5 empty
@@ -99,7 +99,7 @@ abbrev pub nothing : List ℕ
 nothing = []
 
 pub record Damage : Type 0 where
-  pub format : map (λ z. numberOf (formatBytes good z)) (small ∷ sizes ∷ record { n = 0; l = 4; s = 4; j = 8 } ∷ []) ≡ 0 ∷ 1 ∷ 1 ∷ []
+  pub format : map (λ z. numberOf (formatBytes good z)) (small ∷ sizes ∷ newSizes 0 4 4 8 ∷ []) ≡ 0 ∷ 1 ∷ 1 ∷ []
   pub enrols : map (λ b. numberOf (enrolBytes b 8 0)) (nothing ∷ short ∷ odd ∷ more ∷ good ∷ []) ≡ 1 ∷ 1 ∷ 2 ∷ 2 ∷ 5 ∷ []
   pub collects : map (λ b. numberOf (collectBytes b 60001)) (nothing ∷ short ∷ odd ∷ more ∷ good ∷ []) ≡ 1 ∷ 1 ∷ 2 ∷ 2 ∷ 7 ∷ []
   pub audits : map (λ b. numberOf (auditBytes b)) (nothing ∷ short ∷ odd ∷ more ∷ good ∷ []) ≡ 1 ∷ 1 ∷ 2 ∷ 2 ∷ 0 ∷ []

@@ -6,11 +6,11 @@ ghost use lib.ListN.{length, replicate};
 ghost use lib.Seq.{sets};
 ghost use Rattle.words.specs.Numbers.{two};
 ghost use Rattle.words.specs.Sections.{flat};
-ghost use Rattle.book.specs.Layout.{layoutNumber, headerSize, bookSize, Is};
-ghost use Rattle.book.specs.Next.{fresh};
+ghost use Rattle.book.specs.Layout.{current, headerSize, bookSize, Is};
+ghost use Rattle.book.specs.Next.{newSizes, fresh};
 ghost use Rattle.book.specs.FormFacts.{Bounds};
 use super::header::L_OFFSET;
-use super::header::LAYOUT_NUMBER;
+use super::header::LAYOUT;
 use super::header::N_OFFSET;
 use super::offsets::ENTRIES_FROM;
 use super::offsets::ENTRY_SIZE;
@@ -34,18 +34,18 @@ fn blank(b: &mut [u8], low: usize, cells: usize, high: usize)
 // The layout number and the sizes.
 fn put_sizes(b: &mut [u8], n: u16, l: u16, s: u16, j: u16)
     requires { ⌜ headerSize ≤ length (now b) ⌝ }
-    ensures { λ _. ⌜ now (b .exit) ≡ sets (now (b .entry)) 0 (flat two (layoutNumber ∷ n ∷ l ∷ s ∷ j ∷ [])) ⌝ }
+    ensures { λ _. ⌜ now (b .exit) ≡ sets (now (b .entry)) 0 (flat two (current ∷ n ∷ l ∷ s ∷ j ∷ [])) ⌝ }
 {
-    put_u16(b, 0, LAYOUT_NUMBER);
+    put_u16(b, 0, LAYOUT);
     put_u16(b, N_OFFSET, n);
     put_three(b, L_OFFSET, l, s, j);
 }
 
 // All zero but layout and sizes, maps unmapped.
 pub fn format(book: &mut [u8], n: u16, l: u16, s: u16, j: u16)
-    requires { ⌜ Bounds (record { n = n; l = l; s = s; j = j }) ⌝ }
-    requires { ⌜ length (now book) ≡ bookSize (record { n = n; l = l; s = s; j = j }) ⌝ }
-    ensures { λ _. ⌜ Is (now (book .exit)) (fresh (record { n = n; l = l; s = s; j = j })) ⌝ }
+    requires { ⌜ Bounds (newSizes n l s j) ⌝ }
+    requires { ⌜ length (now book) ≡ bookSize (newSizes n l s j) ⌝ }
+    ensures { λ _. ⌜ Is (now (book .exit)) (fresh (newSizes n l s j)) ⌝ }
 {
     let low = ENTRIES_FROM + (n as usize) * ENTRY_SIZE;
     let cells = VOLUMES * ((l as usize) * 2);

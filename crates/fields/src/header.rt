@@ -8,7 +8,8 @@ ghost use Rattle.book.specs.Next.{withDay, withCursor, withRetention};
 use words::put_u16;
 use words::u16_at;
 
-pub const LAYOUT_NUMBER: u16 = 1;
+// The layout that format makes and that the calls take.
+pub const LAYOUT: u16 = 1;
 
 pub const HEADER_SIZE: usize = 20;
 

@@ -4,7 +4,7 @@ ghost use Prim.Native.Nat.{_+_, _<_, _≤_};
 ghost use lib.ListN.{length};
 ghost use Rattle.book.specs.Book.{volumes};
 ghost use Rattle.book.specs.Layout.{slotSize, recSize, mapsFrom, slotsFrom, recordsFrom, told, Holds};
-ghost use Rattle.book.specs.Layout.{entryOffset, cellOffset, slotOffset, recOffset};
+ghost use Rattle.book.specs.Layout.{currentOffset, cellOffset, slotOffset, recOffset};
 use super::header;
 use words::LBN;
 use words::PBN;
@@ -48,7 +48,7 @@ pub fn records_from(book: &[u8]) -> usize
 }
 
 pub fn entry_offset(p: PBN) -> usize
-    ensures { λ r. ⌜ r ≡ entryOffset (p .0) ⌝ }
+    ensures { λ r. ⌜ r ≡ currentOffset (p .0) ⌝ }
 {
     ENTRIES_FROM + (p.0 as usize) * ENTRY_SIZE
 }

@@ -2,6 +2,7 @@
 ghost use mathlib.Core.Path.{_≡_};
 ghost use Rattle.book.specs.Form.{between, sizesOk};
 ghost use Rattle.book.specs.Layout.{bookSize};
+ghost use Rattle.book.specs.Next.{newSizes};
 use super::offsets::ENTRIES_FROM;
 use super::offsets::ENTRY_SIZE;
 use super::offsets::REC_SIZE;
@@ -19,7 +20,7 @@ fn in_range(x: u16, high: u16) -> bool
 }
 
 pub fn sizes_ok(n: u16, l: u16, s: u16, j: u16) -> bool
-    ensures { λ r. ⌜ r ≡ sizesOk (record { n = n; l = l; s = s; j = j }) ⌝ }
+    ensures { λ r. ⌜ r ≡ sizesOk (newSizes n l s j) ⌝ }
 {
     in_range(n, MAX_BLOCKS as u16)
         & in_range(l, MAX_LBNS as u16)
@@ -29,7 +30,7 @@ pub fn sizes_ok(n: u16, l: u16, s: u16, j: u16) -> bool
 
 // The length of a book of these sizes.
 pub fn size(n: u16, l: u16, s: u16, j: u16) -> usize
-    ensures { λ r. ⌜ r ≡ bookSize (record { n = n; l = l; s = s; j = j }) ⌝ }
+    ensures { λ r. ⌜ r ≡ bookSize (newSizes n l s j) ⌝ }
 {
     ENTRIES_FROM
         + n as usize * ENTRY_SIZE

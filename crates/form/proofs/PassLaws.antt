@@ -19,11 +19,12 @@ use Rattle.words.specs.Numbers.{num}
 use Rattle.words.specs.Sections.{tab, part}
 use Rattle.words.proofs.SectionLaws.{length-tab}
 use Rattle.book.specs.Book.{volumes, Slot}
-use Rattle.book.specs.Layout.{nOffset, lOffset, sOffset, jOffset, bOffset, uOffset, retentionOffset, entriesFrom, entrySize, mapsFrom}
-use Rattle.book.specs.Layout.{cellOffset, slotsFrom, slotSize, recSize, slotOffset, recordsFrom, recOffset, bookSize, sizesOf, entryOf}
+use Rattle.book.specs.Layout.{nOffset, lOffset, sOffset, jOffset, bOffset, uOffset, retentionOffset, entriesFrom, countSize, entrySize}
+use Rattle.book.specs.Layout.{mapsFrom, cellOffset, slotsFrom, slotSize, recSize, slotOffset, recordsFrom, recOffset, bookSize, sizesOf}
+use Rattle.book.specs.Layout.{entryOf}
 use Rattle.book.specs.Layout.{cellOf, recOf, bookOf}
 use Rattle.book.specs.Form.{retentionOk, entryOk, pbnOk, recOk, enrolled, slotOk, daysOk, pairsOk, bookOk, stateOk, secondOk, rawOk}
-use Rattle.book.specs.Form.{layoutOk, formNumber}
+use Rattle.book.specs.Form.{layoutAs, formAs}
 use Rattle.book.proofs.FormNumber.{number-0, number-2}
 use Rattle.book.specs.FormFacts.{BookParts}
 use Rattle.book.proofs.Clauses.{book-parts, parts-book, RawParts, raw-parts, parts-raw}
@@ -42,11 +43,12 @@ module _ (b : List ℕ) where
   unfolding bookOf retentionsOk
   retentions-pass = tab-each retentionOk volumes (λ v. num b (retentionOffset v))
 
-  entries-pass : (all (stateOk b) (upFrom 0 (num b nOffset)) && all entryOk (bookOf b .entries)) ≡ entriesOk b (num b nOffset)
+  entries-pass : (all (stateOk (num b 0) b) (upFrom 0 (num b nOffset)) && all entryOk (bookOf b .entries))
+      ≡ entriesOk (num b 0) b (num b nOffset)
   unfolding bookOf entriesOk
   entries-pass =
-      rw (all-each (stateOk b) (num b nOffset), tab-each entryOk (num b nOffset) (entryOf b))
-      (sym (each-and (stateOk b) (λ p. entryOk (entryOf b p)) 0 (num b nOffset)))
+      rw (all-each (stateOk (num b 0) b) (num b nOffset), tab-each entryOk (num b nOffset) (entryOf b))
+      (sym (each-and (stateOk (num b 0) b) (λ p. entryOk (entryOf b p)) 0 (num b nOffset)))
 
   maps-pass : all (all (pbnOk (bookOf b .sizes .n))) (bookOf b .maps)
       ≡ mapsOk b (mapsFrom (sizesOf b)) (volumes * num b lOffset) (num b nOffset)
@@ -132,7 +134,7 @@ module _ (b : List ℕ) (len : length b ≡ bookSize (sizesOf b)) where
         spare = r .spare;
       }) in
       let entries =
-      sym (entries-pass b) ∙ true-and (all (stateOk b) (upFrom 0 (num b nOffset))) (all entryOk (bookOf b .entries))
+      sym (entries-pass b) ∙ true-and (all (stateOk (num b 0) b) (upFrom 0 (num b nOffset))) (all entryOk (bookOf b .entries))
       (r .states) (p .entries) in
       let slots : slotsLeft b 0 noLasts 0 0 ≡ true = sym (slots-pass b) ∙ rw (r .seconds, p .slots, p .days) (p .pairs) in
       rw (
@@ -155,10 +157,11 @@ module _ (b : List ℕ) (len : length b ≡ bookSize (sizesOf b)) where
       let t₁ = and-true (headOk b) (blocksOk b) (t₂ .0) in
       let h = head-facts b (t₁ .0) in
       let retentions = retentionsOk b in
-      let entries = entriesOk b (num b nOffset) in
+      let entries = entriesOk (num b 0) b (num b nOffset) in
       let m = and-true (retentions && entries) (mapsOk b (mapsFrom (sizesOf b)) (volumes * num b lOffset) (num b nOffset)) (t₁ .1) in
       let n = and-true retentions entries (m .0) in
-      let states = and-true (all (stateOk b) (upFrom 0 (num b nOffset))) (all entryOk (bookOf b .entries)) (entries-pass b ∙ n .1) in
+      let states =
+      and-true (all (stateOk (num b 0) b) (upFrom 0 (num b nOffset))) (all entryOk (bookOf b .entries)) (entries-pass b ∙ n .1) in
       let s = and-true (slotsLeft b 0 noLasts 0 0) (zerosIn b (slotOffset (sizesOf b) (num b bOffset)) (recordsFrom (sizesOf b))) (t₂ .1) in
       let j =
       and-true (recordsOk b (recordsFrom (sizesOf b)) (num b uOffset))
@@ -198,19 +201,23 @@ module _ (b : List ℕ) (len : length b ≡ bookSize (sizesOf b)) where
       (λ e. let t = and-true (rawOk b) (bookOk (bookOf b)) e in to-sections (raw-parts b (t .0)) (book-parts (bookOf b) (t .1)))
       (λ e. let t = from-sections e in true-and (rawOk b) (bookOk (bookOf b)) (parts-raw b (t .0)) (parts-book (bookOf b) (t .1)))
 
-  pub out-of-form : layoutOk b ≡ true → sectionsOk b ≡ false → 2 ≡ formNumber b
-  out-of-form e f = sym (number-2 b e (sections-form ∙ f))
+  pub out-of-form : (g : ℕ) → layoutAs g b ≡ true → sectionsOk b ≡ false → 2 ≡ formAs g b
+  out-of-form g e f = sym (number-2 g b e (sections-form ∙ f))
 
-  pub in-form : layoutOk b ≡ true → sectionsOk b ≡ true → 0 ≡ formNumber b
-  in-form e f = sym (number-0 b e (sections-form ∙ f))
+  pub in-form : (g : ℕ) → layoutAs g b ≡ true → sectionsOk b ≡ true → 0 ≡ formAs g b
+  in-form g e f = sym (number-0 g b e (sections-form ∙ f))
 
 -- ---- the groups as the code tests them, on numbers that it read
 
 module _ (b : List ℕ) where
-  pub blocks-tests : {n l : ℕ} {r e m : Bool} → n ≡ num b nOffset → l ≡ num b lOffset → r ≡ retentionsOk b → e ≡ entriesOk b n
-      → m ≡ mapsOk b (entriesFrom + n * entrySize) (volumes * l) n → (r && e && m) ≡ blocksOk b
-  unfolding blocksOk
-  blocks-tests en el er ee em = rw (er, ee, em, en, el)
+  pub blocks-tests : (g : ℕ) {n l : ℕ} {r e m : Bool} → num b 0 ≡ g → n ≡ num b nOffset → l ≡ num b lOffset
+      → r ≡ retentionsOk b → e ≡ entriesOk g b n
+      → m ≡ mapsOk b (entriesFrom + n * (countSize g + 19)) (volumes * l) n → (r && e && m) ≡ blocksOk b
+  unfolding blocksOk entrySize
+  blocks-tests g eg en el er ee em =
+      rw (er, ee, em, en, el)
+      (ap (λ (k : ℕ). retentionsOk b && entriesOk k b (num b nOffset)
+      && mapsOk b (entriesFrom + num b nOffset * (countSize k + 19)) (volumes * num b lOffset) (num b nOffset)) (sym eg))
 
   pub slots-tests : {from used s : ℕ} {r z : Bool} → from ≡ slotsFrom (sizesOf b) → used ≡ num b bOffset → s ≡ num b sOffset
       → r ≡ slotsLeft b 0 noLasts 0 0 → z ≡ zerosIn b (from + used * slotSize) (from + s * slotSize) → (r && z) ≡ slotsOk b

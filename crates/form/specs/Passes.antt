@@ -14,7 +14,7 @@ use Rattle.sections.specs.Checks.{zerosIn, retentionsOk, entriesOk, mapsOk, rec
 unfoldable pub blocksOk : List ℕ → Bool
 blocksOk b =
     retentionsOk b
-    && entriesOk b (num b nOffset)
+    && entriesOk (num b 0) b (num b nOffset)
     && mapsOk b (mapsFrom (sizesOf b)) (volumes * num b lOffset) (num b nOffset)
 
 unfoldable pub slotsOk : List ℕ → Bool

@@ -2,9 +2,8 @@
 ghost use Prim.Native.Nat.{_+_, _*_, _≤_, _<_};
 ghost use mathlib.Core.Path.{_≡_};
 ghost use lib.ListN.{length};
-ghost use Rattle.book.specs.Layout.{headerSize};
-ghost use Rattle.book.specs.Layout.{slotsFrom, sizesOf};
-ghost use Rattle.book.specs.Form.{layoutOk, formNumber};
+ghost use Rattle.book.specs.Layout.{current, headerSize, slotsFrom, sizesOf};
+ghost use Rattle.book.specs.Form.{layoutAs, formNumber};
 ghost use Rattle.book.specs.FormFacts.{Laid};
 ghost use Rattle.form.specs.Passes.{blocksOk, slotsOk, journalOk};
 ghost use Rattle.sections.specs.Checks.{headOk, HeadIn};
@@ -14,6 +13,7 @@ use fields::header::DAY_OFFSET;
 use fields::header::HEADER_SIZE;
 use fields::header::J_OFFSET;
 use fields::header::L_OFFSET;
+use fields::header::LAYOUT;
 use fields::header::N_OFFSET;
 use fields::header::S_OFFSET;
 use fields::header::U_OFFSET;
@@ -36,7 +36,7 @@ use words::refusals;
 use words::u16_at;
 
 fn layout_ok(b: &[u8]) -> bool
-    ensures { λ r. ⌜ r ≡ layoutOk (now (b .entry)) ⌝ }
+    ensures { λ r. ⌜ r ≡ layoutAs current (now (b .entry)) ⌝ }
 {
     if b.len() < HEADER_SIZE {
         return false;
@@ -45,7 +45,7 @@ fn layout_ok(b: &[u8]) -> bool
     let l = u16_at(b, L_OFFSET);
     let s = u16_at(b, S_OFFSET);
     let j = u16_at(b, J_OFFSET);
-    (u16_at(b, 0) == 1) & sizes_ok(n, l, s, j) & (b.len() == size(n, l, s, j))
+    (u16_at(b, 0) == LAYOUT) & sizes_ok(n, l, s, j) & (b.len() == size(n, l, s, j))
 }
 
 // What the header holds beside the layout number and the sizes.
@@ -62,7 +62,7 @@ fn head_ok(b: &[u8]) -> bool
 
 // Retentions, block entries and maps.
 fn blocks_ok(b: &[u8]) -> bool
-    requires { ⌜ Laid (now b) ⌝ }
+    requires { ⌜ Laid current (now b) ⌝ }
     ensures { λ r. ⌜ r ≡ blocksOk (now (b .entry)) ⌝ }
 {
     let n = u16_at(b, N_OFFSET);
@@ -73,7 +73,7 @@ fn blocks_ok(b: &[u8]) -> bool
 }
 
 fn slots_from(b: &[u8]) -> usize
-    requires { ⌜ headerSize ≤ length (now b) ⌝ }
+    requires { ⌜ Laid current (now b) ⌝ }
     ensures { λ r. ⌜ r ≡ slotsFrom (sizesOf (now (b .entry))) ⌝ }
 {
     ENTRIES_FROM
@@ -82,7 +82,7 @@ fn slots_from(b: &[u8]) -> usize
 }
 
 fn slots_ok(b: &[u8]) -> bool
-    requires { ⌜ Laid (now b) ⌝ }
+    requires { ⌜ Laid current (now b) ⌝ }
     requires { ⌜ HeadIn (now b) ⌝ }
     ensures { λ r. ⌜ r ≡ slotsOk (now (b .entry)) ⌝ }
 {
@@ -95,7 +95,7 @@ fn slots_ok(b: &[u8]) -> bool
 }
 
 fn journal_ok(b: &[u8]) -> bool
-    requires { ⌜ Laid (now b) ⌝ }
+    requires { ⌜ Laid current (now b) ⌝ }
     requires { ⌜ HeadIn (now b) ⌝ }
     ensures { λ r. ⌜ r ≡ journalOk (now (b .entry)) ⌝ }
 {

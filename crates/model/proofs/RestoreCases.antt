@@ -6,6 +6,7 @@ use lib.ListN.{replicate}
 use Rattle.words.specs.Blocks.{blockSize, unmapped}
 use Rattle.words.specs.Outcome.{Outcome, refused, accepted}
 use Rattle.book.specs.Book.{Book}
+use Rattle.book.specs.Next.{newSizes}
 use Rattle.model.specs.Days.{kept}
 use Rattle.model.specs.Journal.{journal, backups, days, noVolume}
 use Rattle.model.specs.Kept.{keptNumber}
@@ -15,7 +16,7 @@ use Rattle.model.specs.Restore.{runNumber, restore}
 -- LBN 0 has block 0, then block 1, then block 0 again
 unfoldable pub thrice : Book
 thrice = record {
-  sizes = record { n = 2; l = 2; s = 3; j = 3 };
+  sizes = newSizes 2 2 3 3;
   day = 3;
   cursor = 0;
   retentions = 9 ∷ [];

@@ -6,9 +6,9 @@ use native.Mathlib.Omega.{arith}
 use lib.ListN.{length}
 use Rattle.words.specs.Lists.{joined}
 use Rattle.book.specs.Book.{noPrint, freeEntry, noSlot, noRec}
-use Rattle.book.specs.Layout.{bytes, bookOf}
-use Rattle.book.specs.Form.{between, sizesOk, layoutOk, retentionOk, entryOk, pbnOk, recOk, slotOk, laterOk, bookOk, stateOk, secondOk}
-use Rattle.book.specs.Form.{rawOk, formNumber}
+use Rattle.book.specs.Layout.{entrySize, bytes, bookOf}
+use Rattle.book.specs.Form.{between, sizesAs, layoutAs, retentionOk, entryOk, pbnOk, recOk, slotOk, laterOk, bookOk, stateOk, secondOk}
+use Rattle.book.specs.Form.{rawOk, formAs}
 use Rattle.book.specs.Next.{withDay}
 use Rattle.book.proofs.AfterD.{afterD}
 use Rattle.pages.specs.Tally.{tallyNumber, decimal, line, refusedWord, bookPage, tallyPage}
@@ -29,9 +29,9 @@ pageAfterD =
 -- opens all that the cases compute with
 unfoldable opened : ℕ
 unfolding
-    noPrint freeEntry noSlot noRec bytes bookOf between sizesOk layoutOk retentionOk entryOk pbnOk recOk slotOk laterOk
+    noPrint freeEntry noSlot noRec entrySize bytes bookOf between sizesAs layoutAs retentionOk entryOk pbnOk recOk slotOk laterOk
     bookOk stateOk secondOk rawOk
-    formNumber withDay tallyNumber blocks held free waiting references decimal line bookPage tallyPage afterD pageAfterD
+    formAs withDay tallyNumber blocks held free waiting references decimal line bookPage tallyPage afterD pageAfterD
 opened = 0
 
 page : tallyPage afterD ≡ pageAfterD

@@ -13,6 +13,7 @@ use Rattle.words.specs.Choice.{if_then_else_}
 use Rattle.words.specs.Laying.{Stored}
 use Rattle.words.proofs.Ranges.{below-or-not}
 use Rattle.book.specs.Layout.{bookOf, Holds}
+use Rattle.book.specs.Layout.{current}
 use Rattle.book.specs.Form.{formNumber}
 use Rattle.book.proofs.FormNumber.{form-cases}
 use Rattle.book.proofs.FormBytes.{holds-form}
@@ -37,7 +38,7 @@ module _ (b : List ℕ) where
   -- no number is above 2
   pub number-small : tallyNumber b ≤ 2
   unfolding tallyNumber
-  number-small = go (ltb 65536 (length b)) (form-cases b)
+  number-small = go (ltb 65536 (length b)) (form-cases current b)
     where
       go : (t : Bool) → ((formNumber b ≡ 0) ⊎ ((formNumber b ≡ 1) ⊎ (formNumber b ≡ 2))) → (if t then 1 else formNumber b) ≤ 2
       go true w = omega arith

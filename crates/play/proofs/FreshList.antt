@@ -9,7 +9,7 @@ use Rattle.words.proofs.Accepted.{refused-not, unless-refused}
 use Rattle.words.specs.Outcome.{accepted, unless}
 use Rattle.book.specs.Book.{Sizes}
 use Rattle.book.specs.Layout.{bookSize, bytes}
-use Rattle.book.specs.Next.{fresh}
+use Rattle.book.specs.Next.{newSizes, fresh}
 use Rattle.model.specs.Claims.{Fresh}
 use Rattle.model.specs.OnBytes.{numberOf, formatNumber, formatBytes}
 use Rattle.model.specs.Pool.{poolSize}
@@ -27,7 +27,7 @@ module _ (book : Lent (List ℕ)) (pool spare calls out : List ℕ) (n l s j : �
   b₁ = now (book .exit)
 
   abbrev z : Sizes
-  z = record { n = n; l = l; s = s; j = j }
+  z = newSizes n l s j
 
   -- the format's number
   format-number : k ≡ formatNumber b z

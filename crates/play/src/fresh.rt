@@ -1,4 +1,5 @@
 // A list of calls on a fresh book.
+ghost use Rattle.book.specs.Next.{newSizes};
 ghost use Rattle.calls.specs.Lending.{PlayedFreshLent};
 use super::playing::aspen_play;
 use engine::format::aspen_format;
@@ -16,7 +17,7 @@ pub fn play_fresh(
     answers: &mut [u8],
     written: &mut u32,
 ) -> u16
-    ensures { λ r. ⌜ PlayedFreshLent book pool spare (record { n = n; l = l; s = s; j = j }) calls answers written r ⌝ }
+    ensures { λ r. ⌜ PlayedFreshLent book pool spare (newSizes n l s j) calls answers written r ⌝ }
 {
     let refusal = aspen_format(book, n, l, s, j);
     if refusal != 0 {

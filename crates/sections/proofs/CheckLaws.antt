@@ -13,11 +13,13 @@ use Rattle.words.proofs.ChoiceLaws.{and-true}
 use Rattle.words.proofs.Each.{zeros-each}
 use Rattle.words.specs.Lists.{allZero}
 use Rattle.words.specs.Numbers.{num}
+use Rattle.words.specs.Sections.{tab}
 use Rattle.words.proofs.SectionLaws.{part-tab}
-use Rattle.book.specs.Layout.{layoutNumber, headerSize, bookSize, entryOffset, entrySize, nOffset, lOffset, sOffset, jOffset, bOffset}
-use Rattle.book.specs.Layout.{uOffset, dayOffset, cursorOffset, zeroOffset, sizesOf, entryOf, recOf}
-use Rattle.book.specs.Form.{layoutOk, sizesOk, stateOk, entryOk, pbnOk, recOk}
-use Rattle.sections.specs.Checks.{zerosIn, headOk, HeadIn}
+use Rattle.book.specs.Layout.{headerSize, countSize, bookSize, entryOffset, nOffset, lOffset, sOffset, jOffset, bOffset}
+use Rattle.book.specs.Layout.{uOffset, dayOffset, cursorOffset, zeroOffset, sizesOf, countIn, entryIn, recOf}
+use Rattle.book.specs.Form.{between, sizesAs, layoutAs, sizesOk, stateOk, entryOk, pbnOk, recOk}
+use Rattle.book.specs.Next.{newSizes}
+use Rattle.sections.specs.Checks.{zerosIn, headOk, restOk, HeadIn}
 
 pub head-facts : (b : List ℕ) → headOk b ≡ true → HeadIn b
 unfolding headOk
@@ -51,56 +53,92 @@ facts-head b h =
 
 -- ---- the tests as the code makes them, on numbers that it read
 
-pub layout-tests : (b : List ℕ) {k n l s j w : ℕ} {t : Bool} → headerSize ≤ length b → n ≡ num b nOffset
+pub layout-tests : (g : ℕ) (b : List ℕ) {k n l s j w : ℕ} {t : Bool} → headerSize ≤ length b → n ≡ num b nOffset
     → l ≡ num b lOffset → s ≡ num b sOffset
-    → j ≡ num b jOffset → k ≡ num b 0 → t ≡ sizesOk (record { n = n; l = l; s = s; j = j })
-    → w ≡ bookSize (record { n = n; l = l; s = s; j = j })
-    → (eqb k layoutNumber && t && eqb (length b) w) ≡ layoutOk b
-unfolding layoutOk
-layout-tests b h en el es ej ek et ew = rw (le-leb headerSize (length b) h, et, ew, ek, en, el, es, ej)
+    → j ≡ num b jOffset → k ≡ num b 0 → t ≡ sizesOk (newSizes n l s j)
+    → w ≡ bookSize (record { layout = g; n = n; l = l; s = s; j = j })
+    → (eqb k g && t && eqb (length b) w) ≡ layoutAs g b
+unfolding layoutAs sizesAs
+layout-tests g b h en el es ej ek et ew =
+    rw (le-leb headerSize (length b) h, et, ew, ek, en, el, es, ej) (go (eqb (num b 0) g) refl)
+  where
+    size : ℕ → ℕ
+    size g = bookSize (record { layout = g; n = num b nOffset; l = num b lOffset; s = num b sOffset; j = num b jOffset })
 
--- an entry at its bytes, on each way that the code goes
-module _ (b : List ℕ) (p : ℕ) (fits : entryOffset p + entrySize ≤ length b) where
-  abbrev count : ℕ
-  count = getD b (entryOffset p) 0
+    n : Bool
+    n = between 1 4096 (num b nOffset)
 
+    l : Bool
+    l = between 1 1024 (num b lOffset)
+
+    s : Bool
+    s = between 1 1024 (num b sOffset)
+
+    j : Bool
+    j = between 1 16384 (num b jOffset)
+
+    go : (t : Bool) → eqb (num b 0) g ≡ t
+        → (t && (n && l && s && j) && eqb (length b) (size g)) ≡ ((t && n && l && s && j) && eqb (length b) (size (num b 0)))
+    go false e = refl
+    go true e = ap (λ (k : ℕ). (n && l && s && j) && eqb (length b) (size k)) (sym (eqb-true (num b 0) g e))
+
+-- what follows an entry's count, on each way that the code goes
+module _ (b : List ℕ) (count at : ℕ) (fits : at + 19 ≤ length b) where
   abbrev state : ℕ
-  state = getD b (entryOffset p + 1) 0
+  state = getD b at 0
 
   abbrev expiry : ℕ
-  expiry = num b (entryOffset p + 2)
+  expiry = num b (at + 1)
 
   abbrev clear : Bool
-  clear = zerosIn b (entryOffset p + 4) (entryOffset p + entrySize)
+  clear = zerosIn b (at + 3) (at + 19)
 
-  entry-tests : (stateOk b p && entryOk (entryOf b p)) ≡ (leb state 1 && (leb expiry 65000 && (eqb state 1 || (eqb count 0 && clear))))
-  unfolding stateOk entryOk
-  entry-tests =
-      let t = part-tab printSize b (entryOffset p + 4) (λ i. getD b (entryOffset p + 4 + i) 0) (omega arith) (λ i hi. refl) in
-      let e : entryOffset p + 4 + printSize ≡ entryOffset p + entrySize = omega arith in
-      let z : allZero (entryOf b p .print) ≡ clear =
-      ap allZero t ∙ zeros-each b printSize (entryOffset p + 4) (omega arith) ∙ ap (zerosIn b (entryOffset p + 4)) e
+  rest-tests : restOk b count at ≡ (leb state 1 && (leb expiry 65000 && (eqb state 1 || (eqb count 0 && clear))))
+  unfolding restOk entryOk
+  rest-tests =
+      let t = part-tab printSize b (at + 3) (λ i. getD b (at + 3 + i) 0) (omega arith) (λ i hi. refl) in
+      let e : at + 3 + printSize ≡ at + 19 = omega arith in
+      let z : allZero (tab printSize (λ i. getD b (at + 3 + i) 0)) ≡ clear =
+      ap allZero t ∙ zeros-each b printSize (at + 3) (omega arith) ∙ ap (zerosIn b (at + 3)) e
       in
       ap (λ (r : Bool). leb state 1 && (leb expiry 65000 && (eqb state 1 || (eqb count 0 && r)))) z
 
-  pub bad-state : 1 < state → false ≡ (stateOk b p && entryOk (entryOf b p))
-  bad-state h = sym (entry-tests ∙ rw (lt-leb state 1 h))
+  pub bad-state : 1 < state → false ≡ restOk b count at
+  bad-state h = sym (rest-tests ∙ rw (lt-leb state 1 h))
 
-  pub late-expiry : state ≤ 1 → 65000 < expiry → false ≡ (stateOk b p && entryOk (entryOf b p))
-  late-expiry h x = sym (entry-tests ∙ rw (le-leb state 1 h, lt-leb expiry 65000 x))
+  pub late-expiry : state ≤ 1 → 65000 < expiry → false ≡ restOk b count at
+  late-expiry h x = sym (rest-tests ∙ rw (le-leb state 1 h, lt-leb expiry 65000 x))
 
-  pub held-entry : state ≡ 1 → expiry ≤ 65000 → true ≡ (stateOk b p && entryOk (entryOf b p))
-  held-entry h x = sym (entry-tests ∙ rw (le-leb state 1 (omega arith), le-leb expiry 65000 x, eq-eqb state 1 h))
+  pub held-entry : state ≡ 1 → expiry ≤ 65000 → true ≡ restOk b count at
+  held-entry h x = sym (rest-tests ∙ rw (le-leb state 1 (omega arith), le-leb expiry 65000 x, eq-eqb state 1 h))
 
   module _ (h : state ≡ 0) (x : expiry ≤ 65000) where
-    free-tests : (stateOk b p && entryOk (entryOf b p)) ≡ (eqb count 0 && clear)
-    free-tests = entry-tests ∙ rw (le-leb state 1 (omega arith), le-leb expiry 65000 x, ne-eqb state 1 (λ e. omega arith))
+    free-tests : restOk b count at ≡ (eqb count 0 && clear)
+    free-tests = rest-tests ∙ rw (le-leb state 1 (omega arith), le-leb expiry 65000 x, ne-eqb state 1 (λ e. omega arith))
 
-    pub counted-free : 0 < count → false ≡ (stateOk b p && entryOk (entryOf b p))
+    pub counted-free : 0 < count → false ≡ restOk b count at
     counted-free k = sym (free-tests ∙ rw (ne-eqb count 0 (λ e. omega arith)))
 
-    pub free-entry : count ≡ 0 → clear ≡ (stateOk b p && entryOk (entryOf b p))
+    pub free-entry : count ≡ 0 → clear ≡ restOk b count at
     free-entry k = sym (free-tests ∙ rw (eq-eqb count 0 k))
+
+-- entry p of layout g, by its count and what follows it
+pub entry-tests : (g : ℕ) (b : List ℕ) (p at : ℕ) → at ≡ entryOffset g p
+    → restOk b (countIn g b at) (at + countSize g) ≡ (stateOk g b p && entryOk (entryIn g b (entryOffset g p)))
+unfolding restOk stateOk
+entry-tests g b p at e =
+    let c = countSize g in
+    let one : at + c + 1 ≡ at + (c + 1) = omega arith in
+    let three : at + c + 3 ≡ at + (c + 3) = omega arith in
+    (λ i. leb (getD b (at + c) 0) 1
+    && entryOk
+    (record {
+      count = countIn g b at;
+      held = eqb (getD b (at + c) 0) 1;
+      expiry = num b (one i);
+      print = tab printSize (λ k. getD b (three i + k) 0);
+    }))
+    ∙ ap (λ (o : ℕ). leb (getD b (o + c) 0) 1 && entryOk (entryIn g b o)) e
 
 pub rec-tests : (b : List ℕ) (at : ℕ) {n l x y z : ℕ} {p : Bool} → n ≡ num b nOffset → l ≡ num b lOffset
     → x ≡ num b at → y ≡ num b (at + 2) → z ≡ num b (at + 4) → p ≡ pbnOk n y → (ltb x l && p && ltb z n) ≡ recOk (sizesOf b) (recOf b at)

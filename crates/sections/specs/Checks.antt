@@ -5,11 +5,13 @@ use mathlib.Core.Bool.{Bool, _&&_}
 use mathlib.Core.List.{List}
 use lib.Dec.{leb, ltb, eqb}
 use lib.ListN.{getD}
+use Rattle.words.specs.Blocks.{printSize}
 use Rattle.words.specs.Lists.{each}
 use Rattle.words.specs.Numbers.{num}
+use Rattle.words.specs.Sections.{tab}
 use Rattle.book.specs.Book.{volumes}
 use Rattle.book.specs.Layout.{nOffset, sOffset, jOffset, bOffset, uOffset, dayOffset, cursorOffset, zeroOffset, retentionOffset}
-use Rattle.book.specs.Layout.{recSize, sizesOf, entryOf, recOf}
+use Rattle.book.specs.Layout.{entryOffset, recSize, sizesOf, entryIn, recOf}
 use Rattle.book.specs.Form.{retentionOk, stateOk, entryOk, pbnOk, recOk}
 
 -- the bytes from o up to e are zero
@@ -28,9 +30,21 @@ headOk b =
 unfoldable pub retentionsOk : List ℕ → Bool
 retentionsOk b = each (λ v. retentionOk (num b (retentionOffset v))) 0 volumes
 
--- n entries, state byte and all
-unfoldable pub entriesOk : List ℕ → ℕ → Bool
-entriesOk b n = each (λ p. stateOk b p && entryOk (entryOf b p)) 0 n
+-- an entry with this count, whose other fields stand at `at`: its state's byte, and the entry
+unfoldable pub restOk : List ℕ → ℕ → ℕ → Bool
+restOk b count at =
+    leb (getD b at 0) 1
+    && entryOk
+    (record {
+      count = count;
+      held = eqb (getD b at 0) 1;
+      expiry = num b (at + 1);
+      print = tab printSize (λ i. getD b (at + 3 + i) 0);
+    })
+
+-- n entries of layout g, state byte and all
+unfoldable pub entriesOk : ℕ → List ℕ → ℕ → Bool
+entriesOk g b n = each (λ p. stateOk g b p && entryOk (entryIn g b (entryOffset g p))) 0 n
 
 -- the cells of all maps, one after the other
 unfoldable pub mapsOk : List ℕ → ℕ → ℕ → ℕ → Bool

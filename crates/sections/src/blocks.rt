@@ -1,12 +1,10 @@
 // Retentions, block entries and maps in form, each in one pass over its section.
 ghost use Prim.Native.Nat.{_+_, _*_, _≤_, _<_};
 ghost use mathlib.Core.Path.{_≡_};
-ghost use mathlib.Core.Bool.{_&&_};
 ghost use lib.ListN.{length};
-ghost use Rattle.book.specs.Layout.{entriesFrom, entryOffset, entrySize};
-ghost use Rattle.book.specs.Layout.{entryOf};
-ghost use Rattle.book.specs.Form.{stateOk, entryOk, pbnOk};
-ghost use Rattle.sections.specs.Checks.{retentionsOk, entriesOk, mapsOk};
+ghost use Rattle.book.specs.Layout.{current, entriesFrom, currentOffset};
+ghost use Rattle.book.specs.Form.{pbnOk};
+ghost use Rattle.sections.specs.Checks.{retentionsOk, restOk, entriesOk, mapsOk};
 use super::zeros::zeros;
 use fields::header::HEADER_SIZE;
 use fields::offsets::ENTRIES_FROM;
@@ -16,6 +14,7 @@ use words::UNMAPPED;
 use words::limits::MAX_EXPIRY;
 use words::limits::MAX_RETENTION;
 use words::u16_at;
+use words::wide;
 
 pub fn retentions_ok(b: &[u8]) -> bool
     requires { ⌜ entriesFrom ≤ length (now b) ⌝ }
@@ -30,34 +29,35 @@ pub fn retentions_ok(b: &[u8]) -> bool
     good
 }
 
-fn entry_ok(b: &[u8], p: usize) -> bool
-    requires { ⌜ entryOffset p + entrySize ≤ length (now b) ⌝ }
-    ensures { λ r. ⌜ r ≡ (stateOk (now (b .entry)) p && entryOk (entryOf (now (b .entry)) p)) ⌝ }
+// An entry with this count, whose other fields stand at `at`.
+fn rest_ok(b: &[u8], count: u16, at: usize) -> bool
+    requires { ⌜ at + 19 ≤ length (now b) ⌝ }
+    ensures { λ r. ⌜ r ≡ restOk (now (b .entry)) count at ⌝ }
 {
-    let at = ENTRIES_FROM + p * ENTRY_SIZE;
-    let state = b[at + 1];
+    let state = b[at];
     if state > 1 {
         return false;
     }
-    if u16_at(b, at + 2) > MAX_EXPIRY {
+    if u16_at(b, at + 1) > MAX_EXPIRY {
         return false;
     }
     if state == 1 {
         return true;
     }
-    if b[at] != 0 {
+    if count != 0 {
         return false;
     }
-    zeros(b, at + 4, at + ENTRY_SIZE)
+    zeros(b, at + 3, at + 19)
 }
 
 pub fn entries_ok(b: &[u8], n: usize) -> bool
-    requires { ⌜ entryOffset n ≤ length (now b) ⌝ }
-    ensures { λ r. ⌜ r ≡ entriesOk (now (b .entry)) n ⌝ }
+    requires { ⌜ currentOffset n ≤ length (now b) ⌝ }
+    ensures { λ r. ⌜ r ≡ entriesOk current (now (b .entry)) n ⌝ }
 {
     let mut p = 0;
     while p < n {
-        if !entry_ok(b, p) {
+        let at = ENTRIES_FROM + p * ENTRY_SIZE;
+        if !rest_ok(b, wide(b[at]), at + 1) {
             return false;
         }
         p += 1;

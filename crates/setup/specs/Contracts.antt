@@ -4,12 +4,13 @@ use mathlib.Core.Path.{_≡_}
 use mathlib.Core.List.{List}
 use denote.Ref.{now}
 use Rattle.words.specs.Lent.{Lent}
+use Rattle.book.specs.Next.{newSizes}
 use Rattle.model.specs.OnBytes.{numberOf, bookAfter, formatBytes, enrolBytes}
 
 -- r is what the call returns
 pub record Formatted (b : Lent (List ℕ)) (n l s j r : ℕ) : Type 0 where
-  pub number : r ≡ numberOf (formatBytes (now (b .entry)) (record { n = n; l = l; s = s; j = j }))
-  pub book : now (b .exit) ≡ bookAfter (formatBytes (now (b .entry)) (record { n = n; l = l; s = s; j = j })) (now (b .entry))
+  pub number : r ≡ numberOf (formatBytes (now (b .entry)) (newSizes n l s j))
+  pub book : now (b .exit) ≡ bookAfter (formatBytes (now (b .entry)) (newSizes n l s j)) (now (b .entry))
 
 pub record Enrolled (b : Lent (List ℕ)) (v retention r : ℕ) : Type 0 where
   pub number : r ≡ numberOf (enrolBytes (now (b .entry)) v retention)

@@ -15,7 +15,7 @@ returns c =
     let at = c .before .entry-offset in
     let from = at .result + 4 in
     ap (λ (k : ℕ). take k (drop from (s .args .book .now))) (add-sub-cancel-left from printSize)
-    ∙ print-at (s .args .book .now) (s .args .p .0) (at .result) (s .pre .1) (at .ensures) (s .pre .0)
+    ∙ print-at (s .args .book .now) (s .args .p .0) (at .result) (s .pre .0) (s .pre .1) (at .ensures)
 
 pub print-of-spec : {M : Type 1} → statement M
 print-of-spec =

@@ -5,15 +5,15 @@ use mathlib.Core.List.{List, [], _∷_}
 use lib.Seq.{sets}
 use Rattle.words.specs.Numbers.{two, put}
 use Rattle.words.specs.Sections.{flat}
-use Rattle.book.specs.Layout.{layoutNumber, nOffset, lOffset}
+use Rattle.book.specs.Layout.{current, nOffset, lOffset}
 use borrow.Author.Needs.{needs}
 use Rattle.fields.proofs.fresh.put_sizes.Statement.{statement}
 use Rattle.fields.proofs.fresh.put_sizes.Tie as tie
 
 -- the layout, N, then the three others
-stores : (b : List ℕ) {layout after-n three : List ℕ} (n l s j : ℕ) → layout ≡ put b 0 layoutNumber
+stores : (b : List ℕ) {layout after-n three : List ℕ} (n l s j : ℕ) → layout ≡ put b 0 current
     → after-n ≡ put layout nOffset n → three ≡ sets after-n lOffset (flat two (l ∷ s ∷ j ∷ []))
-    → three ≡ sets b 0 (flat two (layoutNumber ∷ n ∷ l ∷ s ∷ j ∷ []))
+    → three ≡ sets b 0 (flat two (current ∷ n ∷ l ∷ s ∷ j ∷ []))
 stores b n l s j p q r = rw (r, q, p)
 
 -- after each store, the last first

@@ -1,11 +1,11 @@
 -- `fields::sizes::sizes_ok` meets its contract: the code computes the definition.
 use borrow.Author.Needs.{needs}
-use Rattle.book.specs.Form.{sizesOk}
+use Rattle.book.specs.Form.{sizesAs}
 use Rattle.fields.proofs.sizes.sizes_ok.Statement.{statement}
 use Rattle.fields.proofs.sizes.sizes_ok.Tie as tie
 
 returns : tie.Need-returns
-unfolding sizesOk
+unfolding sizesAs
 returns c =
     rw (
       c .before .before .before .in-range .ensures,

@@ -10,6 +10,7 @@ use Rattle.words.proofs.ChoiceLaws.{failed, passed}
 use Rattle.book.specs.Book.{Sizes}
 use Rattle.book.specs.Layout.{bookSize}
 use Rattle.book.specs.Form.{sizesOk}
+use Rattle.book.specs.Next.{newSizes}
 use Rattle.book.proofs.Holding.{bounds-ok}
 use Rattle.setup.proofs.FormatExits.{format-sizes, format-length, format-done}
 use Rattle.setup.proofs.format.format.Statement.{statement}
@@ -20,7 +21,7 @@ abbrev start : tie.Else1 → tie.Start
 start c = c .before .before .before
 
 abbrev given : tie.Start → Sizes
-given s = record { n = s .args .n; l = s .args .l; s = s .args .s; j = s .args .j }
+given s = newSizes (s .args .n) (s .args .l) (s .args .s) (s .args .j)
 
 -- what each test passed says
 sizes : (c : tie.Else1) → sizesOk (given (start c)) ≡ true
@@ -33,10 +34,13 @@ fits c = omega arith
 returns : tie.Need-returns
 returns c =
     let k = c .before in
-    format-sizes _ (given (k .before .before)) refl (failed (k .sizes-ok .ensures) (c .if1 .taken))
+    let a = k .before .before .args in
+    format-sizes _ (a .n) (a .l) (a .s) (a .j) refl (failed (k .sizes-ok .ensures) (c .if1 .taken))
 
 returns-2 : tie.Need-returns-2
-returns-2 c = format-length _ (given (start (c .before .before))) refl (λ e. omega arith)
+returns-2 c =
+    let a = start (c .before .before) .args in
+    format-length _ (a .n) (a .l) (a .s) (a .j) refl (λ e. omega arith)
 
 format-requires : tie.Need-format-requires
 format-requires c κs =
@@ -48,7 +52,8 @@ returns-3 : tie.Need-returns-3
 returns-3 c =
     let d = c .before .before .before .before in
     let k = d .before .before in
-    format-done _ (given (start k)) (sizes k) (fits d) (c .before .before .format .ensures)
+    let a = start k .args in
+    format-done _ (a .n) (a .l) (a .s) (a .j) (sizes k) (fits d) (c .before .before .format .ensures)
 
 pub format-spec : {M : Type 1} → statement M
 format-spec =
