@@ -21,10 +21,12 @@ void refuse_store(const struct store *store, uint16_t number)
                      "%s/pool has %zu bytes where the book says %zu; nothing was written; put back "
                      "a copy of the store",
                      folder, store->pool.length, aspen_pool_size(view_figures(store->book).blocks));
-    default:
+    case ASPEN_BAD_FORM:
         fail_refused(STATUS_STORE, number,
                      "%s/book is damaged; nothing was written; put back a copy of the store",
                      folder);
+    default:
+        fail_refused(STATUS_STORE, number, "%s", aspen_text(number));
     }
 }
 
@@ -121,11 +123,14 @@ static _Noreturn void refuse_change(uint16_t number, const struct asked *asked)
                      "audit %s, and put back a copy of the store",
                      folder);
     case ASPEN_COUNT_FULL:
-        fail_refused(STATUS_REFUSED, number,
-                     "one block would stand in more than 255 cells; cut blank blocks off the "
-                     "image's end");
-    default:
+        fail_refused(STATUS_STORE, number,
+                     "the count of a block is 65,535, so the book is damaged; run aspenbox audit "
+                     "%s, and put back a copy of the store",
+                     folder);
+    case ASPEN_BAD_LIST:
         fail_refused(STATUS_REFUSED, number, "the box doesn't take this change list");
+    default: /* numbers of calls that the host doesn't make */
+        fail_refused(STATUS_REFUSED, number, "%s", aspen_text(number));
     }
 }
 

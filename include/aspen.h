@@ -4,7 +4,8 @@
  * An aid writes the list of its changed blocks (aspen_write_list). The box takes such a list as
  * a backup (aspen_backup), keeps equal blocks once, frees what no kept backup needs
  * (aspen_collect), and reads old backups, a block (aspen_read) or a run of blocks (aspen_restore).
- * aspen_play makes a whole list of such calls that is stored as bytes.
+ * aspen_play makes a whole list of such calls that is stored as bytes. A book of an earlier layout
+ * becomes one that these calls take by a converter (aspen_convert_1_2).
  *
  * Memory. The box lives in two buffers of the caller's: the book, which notes what each volume
  * held and when, and the pool, which holds the blocks. The library allocates nothing and keeps
@@ -24,8 +25,8 @@
  * may calls that only read the same ones. While a call writes a buffer nothing else may use it;
  * to have one writer at a time is the caller's duty.
  *
- * Stack. On x86-64 aspen_play takes 49,744 bytes of it, aspen_audit 49,440, aspen_backup 24,928 and
- * aspen_restore 2,272, nearly all for tables that live for one call; every other function takes 256
+ * Stack. On x86-64 aspen_play takes 49,760 bytes of it, aspen_audit 49,416, aspen_backup 24,920 and
+ * aspen_restore 2,264, nearly all for tables that live for one call; every other function takes 256
  * at most.
  */
 #ifndef ASPEN_H
@@ -39,9 +40,9 @@ extern "C" {
 #endif
 
 /* The version of the library, as text and in numbers. */
-#define ASPEN_VERSION "0.1.0"
+#define ASPEN_VERSION "0.2.0"
 #define ASPEN_VERSION_MAJOR 0
-#define ASPEN_VERSION_MINOR 1
+#define ASPEN_VERSION_MINOR 2
 #define ASPEN_VERSION_PATCH 0
 
 /* Limits. The numbers of blocks, slots and records, the blocks of a run, and the retention, are 1
@@ -57,12 +58,20 @@ extern "C" {
 #define ASPEN_MAX_RETENTION 5000  /* days */
 #define ASPEN_MAX_DAY 60000
 
+/* The layout of the books that aspen_format makes and that the calls take. Converters take and
+ * write others. */
+#define ASPEN_LAYOUT 2
+
 /* Sizes in bytes. Constant expressions where the arguments are; each argument is used once, but for
  * that of aspen_list_bound, which is used twice. */
 
-/* The book of n pool blocks, l logical blocks a volume, s slots and j records. */
-#define aspen_book_size(n, l, s, j) \
-    ((size_t)36 + (size_t)20 * (n) + (size_t)16 * (l) + (size_t)8 * (s) + (size_t)6 * (j))
+/* The book of n pool blocks, l logical blocks a volume, s slots and j records, in this layout. */
+#define aspen_book_size_of(layout, n, l, s, j) \
+    ((size_t)36 + (size_t)((layout) == 1 ? 20 : 21) * (n) + (size_t)16 * (l) + (size_t)8 * (s) + \
+     (size_t)6 * (j))
+
+/* The same in the layout that the calls take. */
+#define aspen_book_size(n, l, s, j) aspen_book_size_of(ASPEN_LAYOUT, n, l, s, j)
 
 /* The pool of n blocks. */
 #define aspen_pool_size(n) ((size_t)ASPEN_BLOCK_SIZE * (n))
@@ -129,7 +138,8 @@ enum aspen_result {
     ASPEN_BAD_LAYOUT = 1,     /* the book's length, layout number or sizes break the layout */
     ASPEN_BAD_FORM = 2,       /* the book is otherwise out of form: it is damaged */
     ASPEN_BAD_POOL = 3,       /* the pool isn't aspen_pool_size(n) bytes long */
-    ASPEN_SHORT_SPARE = 4,    /* the spare is shorter than the book */
+    ASPEN_SHORT_SPARE = 4,    /* the spare is shorter than the book, or a converter's output than
+                                 the book to write */
     ASPEN_BAD_VOLUME = 5,     /* no such volume, or not enrolled; for enrol, enrolled already */
     ASPEN_BAD_RETENTION = 6,  /* the retention is 0 or above ASPEN_MAX_RETENTION */
     ASPEN_BAD_DAY = 7,        /* above the limit, before the book's, not after the last backup's */
@@ -139,14 +149,15 @@ enum aspen_result {
     ASPEN_OTHER_BYTES = 11,   /* the held block with this fingerprint has other bytes */
     ASPEN_NO_BLOCK = 12,      /* no block of the pool is free */
     ASPEN_COUNT_ZERO = 13,    /* the replaced block has count 0: the book is damaged */
-    ASPEN_COUNT_FULL = 14,    /* the block's count is 255 already */
+    ASPEN_COUNT_FULL = 14,    /* the block's count is 65,535 already: the book is damaged */
     ASPEN_NO_BACKUP = 15,     /* the volume has no backup of this number */
     ASPEN_NOT_KEPT = 16,      /* that backup's days have run out */
     ASPEN_BAD_LBN = 17,       /* the LBN is l or more */
     ASPEN_UNMAPPED = 18,      /* that backup has no block at this LBN */
     ASPEN_BAD_INPUT = 19,     /* writer: a wrong l, mark or length; play: no list of calls */
     ASPEN_SHORT_OUTPUT = 20,  /* the output is shorter than what is to be written, or may be */
-    ASPEN_BAD_RUN = 21        /* the run ends after the volume, or the output is too short for it */
+    ASPEN_BAD_RUN = 21,       /* the run ends after the volume, or the output is too short for it */
+    ASPEN_COUNT_WIDE = 22     /* a count is above 255, for which layout 1 has no room */
 };
 
 /*
@@ -175,6 +186,7 @@ uint16_t aspen_enrol(uint8_t *book, size_t book_len, uint16_t volume, uint16_t r
  * The spare is room to work in, as long as the book at least; what it holds afterwards means
  * nothing. The pool changes only at blocks that were free before the call, so a host that
  * stores the pool first and then the book loses no backup if the power fails in between.
+ * ASPEN_COUNT_ZERO and ASPEN_COUNT_FULL never come in a book that calls made: it is damaged then.
  *
  * Answers: *number, the backup's number, counted from 1 in each volume; *taken, how many free
  * blocks it took; *touched, how many changes there were plus how many of them replaced a block.
@@ -378,6 +390,29 @@ uint16_t aspen_write_list(uint16_t l, const uint8_t *marks, size_t marks_len,
                           const uint8_t *prints, size_t prints_len, const uint8_t *image,
                           size_t image_len, uint8_t *list, size_t list_len, uint32_t *written);
 
+/*
+ * Converters take a book in one layout and write it to the output in another, with every field
+ * equal but the layout number. The layouts differ in the count of a block alone: it has one byte in
+ * layout 1 and two in layout 2. The book is only read, and the pool is the same for both. An output
+ * of aspen_converted_size bytes is enough; it may be longer, and what follows the book there is as
+ * it was. A book of any other layout than the one taken is refused by ASPEN_BAD_LAYOUT.
+ */
+
+/*
+ * Writes a book of layout 1 in layout 2. aspen_convert_2_1 gives the very same book back.
+ *
+ * Returns ASPEN_OK, ASPEN_BAD_LAYOUT, ASPEN_BAD_FORM or ASPEN_SHORT_SPARE.
+ */
+uint16_t aspen_convert_1_2(const uint8_t *book, size_t book_len, uint8_t *out, size_t out_len);
+
+/*
+ * Writes a book of layout 2 in layout 1, for a program that takes no other. This can't be done if a
+ * block's count is above 255.
+ *
+ * Returns ASPEN_OK, ASPEN_BAD_LAYOUT, ASPEN_BAD_FORM, ASPEN_SHORT_SPARE or ASPEN_COUNT_WIDE.
+ */
+uint16_t aspen_convert_2_1(const uint8_t *book, size_t book_len, uint8_t *out, size_t out_len);
+
 /* A short text for a number that a function returned. */
 static inline const char *aspen_text(uint16_t number)
 {
@@ -386,7 +421,7 @@ static inline const char *aspen_text(uint16_t number)
         "the book's length, layout number or sizes are wrong",
         "the book is out of form: it is damaged",
         "the pool has the wrong length",
-        "the spare is shorter than the book",
+        "the spare is shorter than the book, or a converter's output than the book to write",
         "no such volume, or not enrolled; for enrol, enrolled already",
         "the retention is out of range",
         "the day is above the limit or too early",
@@ -396,14 +431,15 @@ static inline const char *aspen_text(uint16_t number)
         "a held block with this fingerprint has other bytes",
         "no block of the pool is free",
         "a replaced block has count 0: the book is damaged",
-        "the block's count is 255 already",
+        "the block's count is 65,535 already: the book is damaged",
         "the volume has no backup of this number",
         "the backup isn't kept any more",
         "the volume has no such LBN",
         "the backup has no block at this LBN",
         "wrong inputs of the writer, or no list of calls",
         "the output is too short",
-        "the run ends after the volume, or the output is too short"
+        "the run ends after the volume, or the output is too short",
+        "a count is above 255, for which layout 1 has no room"
     };
 
     return number < sizeof texts / sizeof texts[0] ? texts[number] : "no number of the box";
@@ -413,6 +449,23 @@ static inline const char *aspen_text(uint16_t number)
 static inline uint16_t aspen_u16(const uint8_t *at)
 {
     return (uint16_t)(at[0] | at[1] << 8);
+}
+
+/* The layout number that a book starts with, 0 where there are fewer than two bytes. Whether the
+ * rest is a book of that layout isn't looked at. */
+static inline uint16_t aspen_layout(const uint8_t *book, size_t book_len)
+{
+    return book_len < 2 ? 0 : aspen_u16(book);
+}
+
+/* How long this book is in that layout, by the sizes in its first 10 bytes: the output that a
+ * converter needs. 0 where there are fewer. */
+static inline size_t aspen_converted_size(uint16_t layout, const uint8_t *book, size_t book_len)
+{
+    if (book_len < 10)
+        return 0;
+    return aspen_book_size_of(layout, aspen_u16(book + 2), aspen_u16(book + 4), aspen_u16(book + 6),
+                              aspen_u16(book + 8));
 }
 
 #ifdef __cplusplus

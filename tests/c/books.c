@@ -2,7 +2,7 @@
 
 #include <string.h>
 
-enum { HEADER = 36, ENTRY = 20, CELL = 2, SLOT = 8, RECORD = 6, VOLUMES = 8, PRINT = 16 };
+enum { HEADER = 36, ENTRY = 21, CELL = 2, SLOT = 8, RECORD = 6, VOLUMES = 8, PRINT = 16 };
 
 size_t case_entry(unsigned pbn)
 {
@@ -49,18 +49,18 @@ void book_fresh(uint8_t *book, unsigned n, unsigned l, unsigned s, unsigned j)
 
     memset(book, 0, slots + SLOT * (size_t)s + RECORD * (size_t)j);
     memset(book + maps, 255, slots - maps);
-    put_u16(book, AT_LAYOUT, 1);
+    put_u16(book, AT_LAYOUT, 2);
     put_u16(book, AT_N, n);
     put_u16(book, AT_L, l);
     put_u16(book, AT_S, s);
     put_u16(book, AT_J, j);
 }
 
-static void put_entry(uint8_t *book, unsigned pbn, uint8_t count, unsigned expiry, char letter)
+static void put_entry(uint8_t *book, unsigned pbn, unsigned count, unsigned expiry, char letter)
 {
     uint8_t *entry = book + case_entry(pbn);
 
-    entry[ENTRY_COUNT] = count;
+    put_u16(entry, ENTRY_COUNT, count);
     entry[ENTRY_STATE] = 1;
     put_u16(entry, ENTRY_EXPIRY, expiry);
     memset(entry + ENTRY_PRINT, letter, PRINT);
@@ -111,4 +111,20 @@ void book_after_d(uint8_t *book)
     put_record(book, 2, 3, PBN_UNMAPPED, 0);
     put_record(book, 3, 0, 0, 2);
     put_record(book, 4, 3, 0, 1);
+}
+
+void book_narrow(uint8_t *narrow, const uint8_t *book, size_t length)
+{
+    size_t n = get_u16(book, AT_N), maps = HEADER + ENTRY * n, i;
+
+    memcpy(narrow, book, HEADER);
+    put_u16(narrow, AT_LAYOUT, 1);
+    for (i = 0; i < n; i++) {
+        const uint8_t *entry = book + HEADER + ENTRY * i;
+        uint8_t *at = narrow + HEADER + (ENTRY - 1) * i;
+
+        at[0] = entry[ENTRY_COUNT];
+        memcpy(at + 1, entry + ENTRY_STATE, ENTRY - ENTRY_STATE);
+    }
+    memcpy(narrow + maps - n, book + maps, length - maps);
 }

@@ -5,8 +5,8 @@
 #include <stddef.h>
 #include <stdint.h>
 
-/* The sizes of document 01's cases. */
-enum { CASE_N = 4, CASE_L = 4, CASE_S = 6, CASE_J = 8, CASE_BOOK = 276 };
+/* The sizes of document 01's cases, and the length of their book; and that of layout 1. */
+enum { CASE_N = 4, CASE_L = 4, CASE_S = 6, CASE_J = 8, CASE_BOOK = 280, CASE_NARROW = 276 };
 
 /* Header fields. */
 enum {
@@ -24,13 +24,13 @@ enum {
 };
 
 /* Fields of an entry and of a slot. */
-enum { ENTRY_COUNT = 0, ENTRY_STATE = 1, ENTRY_EXPIRY = 2, ENTRY_PRINT = 4 };
+enum { ENTRY_COUNT = 0, ENTRY_STATE = 2, ENTRY_EXPIRY = 3, ENTRY_PRINT = 5 };
 enum { SLOT_VOLUME = 0, SLOT_ZERO = 1, SLOT_DAY = 2, SLOT_FIRST = 4, SLOT_NUMBER = 6 };
 enum { RECORD_LBN = 0, RECORD_BEFORE = 2, RECORD_AFTER = 4 };
 
 enum { PBN_UNMAPPED = 65535 };
 
-/* Where parts of a book of the cases' sizes start. */
+/* Where parts of a book of the cases' sizes start; entries start there in every book. */
 size_t case_entry(unsigned pbn);
 size_t case_cell(unsigned volume, unsigned lbn);
 size_t case_slot(unsigned slot);
@@ -45,5 +45,7 @@ void put_u16(uint8_t *bytes, size_t at, unsigned value);
 void book_fresh(uint8_t *book, unsigned n, unsigned l, unsigned s, unsigned j);
 /* The book of the cases after case d. */
 void book_after_d(uint8_t *book);
+/* The same fields in layout 1; of a count it has the low byte. */
+void book_narrow(uint8_t *narrow, const uint8_t *book, size_t length);
 
 #endif

@@ -29,7 +29,7 @@ static void check_entry(const struct box *box, unsigned pbn, unsigned count, uns
     uint8_t print[ASPEN_PRINT_SIZE];
 
     memset(print, letter, sizeof print);
-    CHECK_EQ(entry[ENTRY_COUNT], count);
+    CHECK_EQ(get_u16(entry, ENTRY_COUNT), count);
     CHECK_EQ(entry[ENTRY_STATE], letter != 0);
     CHECK_EQ(get_u16(entry, ENTRY_EXPIRY), expiry);
     CHECK_BYTES(entry + ENTRY_PRINT, print, sizeof print);

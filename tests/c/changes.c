@@ -13,9 +13,9 @@ static struct buffer letters(unsigned lbn, const char *text)
     return list_of(lbn, text, text);
 }
 
-static void set_count(struct box *box, unsigned pbn, uint8_t count)
+static void set_count(struct box *box, unsigned pbn, unsigned count)
 {
-    box->book.bytes[case_entry(pbn) + ENTRY_COUNT] = count;
+    put_u16(box->book.bytes, case_entry(pbn) + ENTRY_COUNT, count);
 }
 
 /* Flips a bit in a block of the pool. */
@@ -24,17 +24,16 @@ static void flip(struct box *box, unsigned pbn)
     box->pool.bytes[ASPEN_BLOCK_SIZE * pbn + ASPEN_BLOCK_SIZE - 1] ^= 1;
 }
 
-/* Backs up volume 0 on day 10, after case d with this count of a block. */
-static struct backed_up with_count(unsigned pbn, uint8_t count, struct buffer list,
-                                   uint16_t expected)
+/* Backs up volume 0 on day 10, after case d with this count of a block; and what becomes of it. */
+static void with_count(unsigned pbn, unsigned count, struct buffer list, uint16_t expected,
+                       unsigned then)
 {
     struct box box = box_after_d();
-    struct backed_up answers;
 
     set_count(&box, pbn, count);
-    answers = call_backup(&box, 0, 10, list, expected);
+    call_backup(&box, 0, 10, list, expected);
+    CHECK_EQ(get_u16(box.book.bytes, case_entry(pbn) + ENTRY_COUNT), then);
     box_free(&box);
-    return answers;
 }
 
 static void test_other_bytes(void)
@@ -66,13 +65,51 @@ static void test_no_block(void)
 static void test_counts(void)
 {
     check_about("the replaced block's count is 0");
-    with_count(1, 0, letters(1, "C"), ASPEN_COUNT_ZERO);
-    check_about("the found block's count is 255");
-    with_count(2, 255, letters(1, "C"), ASPEN_COUNT_FULL);
-    with_count(2, 255, letters(2, "C"), ASPEN_COUNT_FULL);
-    CHECK_EQ(with_count(2, 254, letters(1, "C"), ASPEN_OK).touched, 2);
-    check_about("the same block again at 255: lowered, then raised");
-    CHECK_EQ(with_count(2, 255, letters(0, "C"), ASPEN_OK).touched, 2);
+    with_count(1, 0, letters(1, "C"), ASPEN_COUNT_ZERO, 0);
+    check_about("the found block's count passes one byte");
+    with_count(2, 254, letters(1, "C"), ASPEN_OK, 255);
+    with_count(2, 255, letters(1, "C"), ASPEN_OK, 256);
+    with_count(2, 255, letters(1, "CCC"), ASPEN_OK, 258);
+    with_count(2, 511, letters(2, "C"), ASPEN_OK, 512);
+    check_about("the replaced block's count falls to one byte");
+    with_count(2, 256, letters(0, "B"), ASPEN_OK, 255);
+    with_count(2, 512, letters(0, "B"), ASPEN_OK, 511);
+    check_about("the found block's count is 65,535");
+    with_count(2, 65535, letters(1, "C"), ASPEN_COUNT_FULL, 65535);
+    with_count(2, 65535, letters(2, "C"), ASPEN_COUNT_FULL, 65535);
+    with_count(2, 65534, letters(1, "C"), ASPEN_OK, 65535);
+    with_count(2, 65534, letters(1, "CC"), ASPEN_COUNT_FULL, 65534);
+    check_about("the same block again at 65,535: lowered, then raised");
+    with_count(2, 65535, letters(0, "C"), ASPEN_OK, 65535);
+    with_count(2, 65535, letters(0, "BC"), ASPEN_OK, 65535);
+}
+
+/* A page that stands in 300 cells, as blank ones do, and then in 256 and 255. */
+static void test_equal_cells(void)
+{
+    enum { CELLS = 300, PAIRS = 5 };
+    struct box box = box_of(2, CELLS, 3, CELLS + 45);
+    struct buffer list = buffer_filled(aspen_list_size(PAIRS, CELLS), 'E');
+    const uint8_t *entry = box.book.bytes + case_entry(0);
+    unsigned i;
+
+    check_about("300 equal cells");
+    put_u16(list.bytes, 0, PAIRS);
+    for (i = 0; i < PAIRS; i++) {
+        put_u16(list.bytes, 2 + 4 * i, CELLS / PAIRS * i);
+        put_u16(list.bytes, 4 + 4 * i, CELLS / PAIRS);
+    }
+    call_enrol(&box, 0, 1, ASPEN_OK);
+    CHECK_EQ(call_backup(&box, 0, 1, list, ASPEN_OK).taken, 1);
+    CHECK_EQ(get_u16(entry, ENTRY_COUNT), CELLS);
+    CHECK_EQ(call_audit(&box, ASPEN_OK), 1);
+    call_backup(&box, 0, 2, letters(0, "FFFFFFFFFFFFFFFFFFFFFFFFFFFFFFFFFFFFFFFFFFFF"), ASPEN_OK);
+    CHECK_EQ(get_u16(entry, ENTRY_COUNT), 256);
+    CHECK_EQ(call_audit(&box, ASPEN_OK), 1);
+    call_backup(&box, 0, 3, letters(44, "F"), ASPEN_OK);
+    CHECK_EQ(get_u16(entry, ENTRY_COUNT), 255);
+    CHECK_EQ(call_audit(&box, ASPEN_OK), 1);
+    box_free(&box);
 }
 
 static void test_order_at_a_change(void)
@@ -81,7 +118,7 @@ static void test_order_at_a_change(void)
 
     check_about("at one change: 13 before 14");
     set_count(&box, 1, 0);
-    set_count(&box, 2, 255);
+    set_count(&box, 2, 65535);
     call_backup(&box, 0, 10, letters(1, "C"), ASPEN_COUNT_ZERO);
     check_about("at one change: 11 before 13");
     flip(&box, 2);
@@ -97,7 +134,7 @@ static void test_first_change_decides(void)
     struct box box = box_after_d();
 
     check_about("the first change that is stopped decides");
-    set_count(&box, 2, 255);
+    set_count(&box, 2, 65535);
     flip(&box, 1);
     call_backup(&box, 0, 10, letters(2, "CB"), ASPEN_COUNT_FULL);
     call_backup(&box, 0, 10, letters(2, "BC"), ASPEN_OTHER_BYTES);
@@ -138,6 +175,7 @@ void test_changes(void)
     test_other_bytes();
     test_no_block();
     test_counts();
+    test_equal_cells();
     test_order_at_a_change();
     test_first_change_decides();
     test_lowest_is_found();

@@ -27,6 +27,21 @@ static void check_counts(const char *about, const struct box *box, size_t length
     CHECK_GUARDS(&box->book);
 }
 
+/* More references than maps have cells: every block has the largest count. */
+static void test_most_references(void)
+{
+    const struct counts all = { ASPEN_MAX_BLOCKS, ASPEN_MAX_BLOCKS, 0, 268431360 };
+    struct box box = box_of(ASPEN_MAX_BLOCKS, 1, 1, 1);
+    unsigned pbn;
+
+    for (pbn = 0; pbn < ASPEN_MAX_BLOCKS; pbn++) {
+        put_u16(box.book.bytes, case_entry(pbn) + ENTRY_COUNT, 65535);
+        box.book.bytes[case_entry(pbn) + ENTRY_STATE] = 1;
+    }
+    check_counts("counts of 65,535", &box, box.book.length, ASPEN_OK, all);
+    box_free(&box);
+}
+
 void test_count(void)
 {
     const struct counts none = { CASE_N, 0, 0, 0 }, after_d = { CASE_N, 3, 1, 3 };
@@ -40,4 +55,5 @@ void test_count(void)
     check_counts("counts of a book cut short", &fresh, CASE_BOOK - 1, ASPEN_BAD_LAYOUT, untouched);
     box_free(&fresh);
     box_free(&used);
+    test_most_references();
 }

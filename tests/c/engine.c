@@ -14,6 +14,7 @@ int main(void)
     test_lists();
     test_changes();
     test_restore();
+    test_convert();
     test_play();
     return check_report();
 }

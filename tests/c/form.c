@@ -52,8 +52,8 @@ static void test_fresh(void)
 /* The cases' book cut off or gone on with zeros. */
 static void test_lengths(void)
 {
-    static const size_t lengths[] = { 0, 1, 2, 19, 20, 35, 36, 86, 275, 277, 552 };
-    struct buffer whole = buffer_filled(552, 0);
+    static const size_t lengths[] = { 0, 1, 2, 19, 20, 35, 36, 87, 276, 279, 281, 560 };
+    struct buffer whole = buffer_filled(560, 0);
     size_t i;
 
     book_after_d(whole.bytes);
@@ -84,8 +84,10 @@ static void test_header(void)
     const size_t retention = AT_RETENTIONS + 2 * 7;
 
     check_field("layout", AT_LAYOUT, 0, ASPEN_BAD_LAYOUT);
-    check_field("layout", AT_LAYOUT, 2, ASPEN_BAD_LAYOUT);
-    check_field("layout", AT_LAYOUT, 257, ASPEN_BAD_LAYOUT);
+    check_field("layout", AT_LAYOUT, 1, ASPEN_BAD_LAYOUT);
+    check_field("layout", AT_LAYOUT, 3, ASPEN_BAD_LAYOUT);
+    check_field("layout", AT_LAYOUT, 258, ASPEN_BAD_LAYOUT);
+    check_field("layout", AT_LAYOUT, ASPEN_LAYOUT, ASPEN_OK);
     check_field("N", AT_N, 5, ASPEN_BAD_LAYOUT);
     check_field("L", AT_L, 5, ASPEN_BAD_LAYOUT);
     check_field("S", AT_S, 5, ASPEN_BAD_LAYOUT);
@@ -108,13 +110,18 @@ static void test_header(void)
 
 static void test_entries(void)
 {
-    const size_t held = case_entry(2), free = case_entry(3);
+    const size_t waiting = case_entry(0), held = case_entry(2), free = case_entry(3);
 
-    check_field("count and state", held, 255 + 256 * 1, ASPEN_OK);
-    check_field("count and state", held, 1 + 256 * 2, ASPEN_BAD_FORM);
-    check_field("free with a fingerprint", held, 0, ASPEN_BAD_FORM);
-    check_field("free with a count", free, 1, ASPEN_BAD_FORM);
-    check_field("held with a zero fingerprint", free, 256, ASPEN_OK);
+    check_field("count", held + ENTRY_COUNT, 255, ASPEN_OK);
+    check_field("count", held + ENTRY_COUNT, 256, ASPEN_OK);
+    check_field("count", held + ENTRY_COUNT, 65535, ASPEN_OK);
+    check_field("state", held + ENTRY_STATE, 2, ASPEN_BAD_FORM);
+    check_field("state", held + ENTRY_STATE, 255, ASPEN_BAD_FORM);
+    check_field("free with its fingerprint", waiting + ENTRY_STATE, 18 * 256, ASPEN_BAD_FORM);
+    check_field("free with a count", free + ENTRY_COUNT, 1, ASPEN_BAD_FORM);
+    check_field("free with a count", free + ENTRY_COUNT, 256, ASPEN_BAD_FORM);
+    check_field("held with a zero fingerprint", free + ENTRY_STATE, 1, ASPEN_OK);
+    check_field("free with a fingerprint", free + ENTRY_PRINT, 1, ASPEN_BAD_FORM);
     check_field("free with a fingerprint", free + ENTRY_PRINT + 14, 256, ASPEN_BAD_FORM);
     check_field("expiry", free + ENTRY_EXPIRY, 65000, ASPEN_OK);
     check_field("expiry", free + ENTRY_EXPIRY, 65001, ASPEN_BAD_FORM);

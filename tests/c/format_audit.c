@@ -38,6 +38,7 @@ void test_format(void)
     check_about("format, another length");
     check_format(CASE_BOOK - 1, CASE_N, CASE_L, CASE_S, CASE_J, ASPEN_BAD_LAYOUT);
     check_format(CASE_BOOK + 1, CASE_N, CASE_L, CASE_S, CASE_J, ASPEN_BAD_LAYOUT);
+    check_format(CASE_NARROW, CASE_N, CASE_L, CASE_S, CASE_J, ASPEN_BAD_LAYOUT);
     check_format(0, CASE_N, CASE_L, CASE_S, CASE_J, ASPEN_BAD_LAYOUT);
     check_about("format, sizes out of range");
     check_format_fit(0, 1, 1, 1, ASPEN_BAD_LAYOUT);
@@ -103,6 +104,7 @@ void test_audit(void)
     check_audit("audit after case d", AT_DAY, 9, 1);
     check_audit("audit of another fingerprint", case_entry(0) + ENTRY_PRINT, 'Z', 1);
     check_audit("audit of another count", case_entry(1) + ENTRY_COUNT, 3, 0);
+    check_audit("audit of a count 256 higher", case_entry(1) + ENTRY_COUNT + 1, 1, 0);
     check_audit("audit of another expiry", case_entry(0) + ENTRY_EXPIRY, 12, 0);
     check_audit("audit of another map", case_cell(0, 1), 2, 0);
     check_audit("audit of another before", case_record(4) + RECORD_BEFORE, 2, 0);

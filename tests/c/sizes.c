@@ -1,4 +1,4 @@
-/* The header's sizes and limits, with the figures of document 01. */
+/* The header's sizes and limits, with the figures of documents 01 and 02. */
 #include <aspen.h>
 
 #include "check.h"
@@ -7,12 +7,38 @@
 /* Sizes are constant expressions. */
 enum {
     SMALLEST_BOOK = aspen_book_size(1, 1, 1, 1),
+    SMALLEST_NARROW = aspen_book_size_of(1, 1, 1, 1, 1),
     LARGEST_LIST = aspen_list_bound(ASPEN_MAX_LBNS),
     LARGEST_ROWS = aspen_blocks_size(ASPEN_MAX_BLOCKS),
     LARGEST_RUN = aspen_runs_bound(1, ASPEN_MAX_LBNS)
 };
 
 typedef uint8_t list_of_two_runs[aspen_list_bound(ASPEN_MAX_RUN + 1)];
+
+/* Books in both layouts; no argument is used twice. */
+static void test_books(void)
+{
+    uint16_t layout = 1, n = ASPEN_MAX_BLOCKS, l = ASPEN_MAX_LBNS;
+    uint16_t s = ASPEN_MAX_SLOTS, j = ASPEN_MAX_RECORDS;
+
+    check_about("sizes of books");
+    CHECK_EQ(ASPEN_LAYOUT, 2);
+    CHECK_EQ(SMALLEST_BOOK, 87);
+    CHECK_EQ(aspen_book_size(4, 4, 6, 8), 280);
+    CHECK_EQ(aspen_book_size(1 + 3, 2 + 2, 3 + 3, 4 + 4), 280);
+    CHECK_EQ(aspen_book_size(n, l, s, j), 208932);
+    CHECK_EQ(SMALLEST_NARROW, 86);
+    CHECK_EQ(aspen_book_size_of(1, 4, 4, 6, 8), 276);
+    CHECK_EQ(aspen_book_size_of(2, 4, 4, 6, 8), 280);
+    CHECK_EQ(aspen_book_size_of(2 - 1, n, l, s, j), 204836);
+    CHECK_EQ(aspen_book_size_of(layout++, n++, l++, s++, j++), 204836);
+    CHECK_EQ(layout, 2);
+    CHECK_EQ(n + l + s + j, 4097 + 1025 + 1025 + 16385);
+    CHECK_EQ(aspen_book_size_of(layout, 4096, 1024, 1024, 16384), 208932);
+    n = 4;
+    CHECK_EQ(aspen_book_size(n++, 4, 6, 8), 280);
+    CHECK_EQ(n, 5);
+}
 
 /* The longest list of so many blocks: all of them, in runs of 64 and a rest. */
 static void test_bounds(void)
@@ -63,12 +89,8 @@ void test_sizes(void)
 {
     const uint16_t blocks = ASPEN_MAX_BLOCKS;
 
+    test_books();
     check_about("sizes");
-    CHECK_EQ(SMALLEST_BOOK, 86);
-    CHECK_EQ(aspen_book_size(4, 4, 6, 8), 276);
-    CHECK_EQ(aspen_book_size(ASPEN_MAX_BLOCKS, ASPEN_MAX_LBNS, ASPEN_MAX_SLOTS, ASPEN_MAX_RECORDS),
-             204836);
-    CHECK_EQ(aspen_book_size(1 + 3, 2 + 2, 3 + 3, 4 + 4), 276);
     CHECK_EQ(aspen_pool_size(4), 2048);
     CHECK_EQ(aspen_pool_size(blocks), 2097152);
     CHECK_EQ(aspen_list_size(0, 0), 2);

@@ -19,6 +19,7 @@ void test_refusals(void);
 void test_lists(void);
 void test_changes(void);
 void test_restore(void);
+void test_convert(void);
 
 /* With libplay.a. */
 void test_play(void);

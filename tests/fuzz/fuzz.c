@@ -49,8 +49,7 @@ static size_t book_length(const uint8_t *bytes, size_t length)
 
     if (length < HEADER)
         return length;
-    asked = aspen_book_size(u16_at(bytes, 2), u16_at(bytes, 4), u16_at(bytes, 6),
-                            u16_at(bytes, 8));
+    asked = aspen_converted_size(aspen_layout(bytes, length), bytes, length);
     return asked < length ? asked : length;
 }
 
@@ -131,14 +130,14 @@ struct side lent(const struct sent *sent)
 }
 
 /* How often each number came, printed at the end. */
-static unsigned long times[ASPEN_BAD_RUN + 1];
+static unsigned long times[ASPEN_COUNT_WIDE + 1];
 
 static void print_times(void)
 {
     size_t i;
 
     fprintf(stderr, "numbers:");
-    for (i = 0; i <= ASPEN_BAD_RUN; i++)
+    for (i = 0; i <= ASPEN_COUNT_WIDE; i++)
         if (times[i] != 0)
             fprintf(stderr, " %lu=%lu", (unsigned long)i, times[i]);
     fprintf(stderr, "\n");

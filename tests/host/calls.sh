@@ -50,7 +50,7 @@ expect 0 "enrolled" enrol holes 0 --keep 50
 blocks ABCDEFGHIJKLMNOPQRSTUVWXYZabcdef >image
 expect 0 "32 of 32" backup holes 0 image --day-number 1
 age holes
-maps=$((36 + 20 * 40))
+maps=$((36 + entry * 40))
 records=$((maps + 16 * 64 + 8 * 8))
 for ((record = 31; record > 0; record--)); do
     poke holes/book $((records + 6 * record)) "$(printf '%02x' $((2 * record)))"

@@ -35,7 +35,7 @@ fresh
 : >box/book
 all_say 5 "refused 1" "${changing[2]}" "${changing[3]}" "${book_only[2]}"
 fresh
-poke box/book 37 02
+poke box/book 38 02
 all_say 5 "refused 2: box/book is damaged; nothing was written; put back a copy of the store" \
     "${changing[@]}" "${book_only[@]}" "${with_pool[@]}"
 

@@ -25,7 +25,7 @@ expect 1 "aspenbox_sound 1" status box --prometheus --older 3
 expect 0 "sound" audit box
 expect 0 "held 3" tally box
 expect 0 "" book box
-check "the book alone" same "$(wc -c <"$work/out")" 276
+check "the book alone" same "$(wc -c <"$work/out")" 280
 expect 0 '"book":"' book box --json
 poke box/pool 3 00
 expect 1 "1 damaged" scrub box

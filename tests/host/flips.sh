@@ -29,7 +29,7 @@ unsound() {
     expect 1 "unsound: $1" audit box
     expect 1 "the book is damaged" status box
 }
-flip box/book $((36 + 20 * 3)) 0
+flip box/book $((36 + entry * 3)) 0
 unsound "its bytes don't fit their digest"
 
 # Every bit, one after the other: list, collect, backup and restore. With ASPEN_EVERY set, every so many bits.
@@ -60,7 +60,7 @@ rm -r box
 cp -r whole box
 age box
 check "a lock of three lines" same "$(wc -l <box/lock)" 3
-flip box/book $((36 + 20 * 3)) 0
+flip box/book $((36 + entry * 3)) 0
 unsound "maps, counts or days don't agree with the journal"
 # A whole one is taken, and has its digest after the next write.
 rm -r box
@@ -78,7 +78,7 @@ first_write() {
     expect 0 "" "$@"
     check "$1 leaves a digest" same "$(tail -c 40 box/book | head -c 8)" aspnseal
     expect 0 "sound" audit box
-    flip box/book $((36 + 20 * 3)) 0
+    flip box/book $((36 + entry * 3)) 0
     expect 1 "don't fit their digest" list box
 }
 first_write collect box --day 2026-01-03

@@ -4,6 +4,8 @@ passed=0
 failed=0
 store=box # the store that a call may change
 input=/dev/null # the standard input of calls
+# shellcheck disable=SC2034
+entry=21 # bytes of a block's entry in the book; the first one is at 36
 
 pass() {
     passed=$((passed + 1))

@@ -64,7 +64,7 @@ expect 0 "enrolled" enrol holes 0 --keep 50
 expect 0 "enrolled" enrol holes 1 --keep 50
 back_up 0 1 ABCD
 age holes
-maps=$((36 + 20 * 48))
+maps=$((36 + entry * 48))
 records=$((maps + 16 * 32 + 8 * 8))
 # moves RECORD FROM TO: the block of a record, which has its number, goes from one LBN to another
 moves() {

@@ -72,7 +72,7 @@ for set in "${sets[@]}"; do
     check "format $set: lengths" same "$(wc -c new/lock new/book new/pool | awk '{ print $1 }')" \
         "$(wc -c open/lock open/book open/pool | awk '{ print $1 }')"
     check "format $set: pool" cmp new/pool open/pool
-    check "format $set: book" cmp -n 276 new/book open/book
+    check "format $set: book" cmp -n 280 new/book open/book
     check "format $set: lock" same "$(head -2 new/lock)" "$(head -2 open/lock)"
     expect 0 "sound" audit new
     cp -r new before

@@ -22,6 +22,8 @@ extern __typeof__(aspen_cells) reference_cells;
 extern __typeof__(aspen_blocks) reference_blocks;
 extern __typeof__(aspen_play) reference_play;
 extern __typeof__(aspen_write_list) reference_write_list;
+extern __typeof__(aspen_convert_1_2) reference_convert_1_2;
+extern __typeof__(aspen_convert_2_1) reference_convert_2_1;
 
 /* A box as a seeded run of calls leaves it, with what the run would send next; the pointers are
  * good until the next one is made. */

@@ -8,7 +8,6 @@ use entries::entry::expiry;
 use fields::header::blocks;
 use words::PBN;
 use words::limits::Table;
-use words::wide;
 
 fn entry_matches(book: &[u8], counts: &Table, expiries: &Table, p: PBN) -> bool
     requires { ⌜ FormFacts (now book) ⌝ }
@@ -16,7 +15,7 @@ fn entry_matches(book: &[u8], counts: &Table, expiries: &Table, p: PBN) -> bool
     ensures { λ r. ⌜ MatchesEntry book counts expiries (p .0) r ⌝ }
 {
     let at = p.0 as usize;
-    (wide(count(book, p)) == counts[at]) & (expiry(book, p) == expiries[at])
+    (count(book, p) == counts[at]) & (expiry(book, p) == expiries[at])
 }
 
 pub fn entries_match(book: &[u8], counts: &Table, expiries: &Table) -> bool

@@ -56,7 +56,7 @@ module _ (b : List ℕ) (small : (i : ℕ) → getD b i 0 < 256) where
       go true h = sym (part-cons b o 0 (omega arith))
       go false h = two-part o h
 
-  rest-part : (c o : ℕ) → o + (c + 19) ≤ length b → getD b (o + c) 0 ≤ 1
+  pub rest-part : (c o : ℕ) → o + (c + 19) ≤ length b → getD b (o + c) 0 ≤ 1
       → stateByte (eqb (getD b (o + c) 0) 1)
       ∷ (two (num b (o + (c + 1))) ++ fit 0 printSize (tab printSize (λ i. getD b (o + (c + 3) + i) 0)))
       ≡ part b (o + c) 19

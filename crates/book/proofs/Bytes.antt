@@ -18,10 +18,14 @@ use Rattle.book.specs.Layout.{cellOffset, slotsFrom, slotOffset, records
 use Rattle.book.specs.Layout.{slotBytes}
 use Rattle.book.specs.Layout.{recBytes, headerWords, sections, bytes}
 
--- "length: 36 + 20N + 16L + 8S + 6J" in layout 1
-pub size-of : (z : Sizes) → z .layout ≡ 1 → bookSize z ≡ 36 + 20 * z .n + 16 * z .l + 8 * z .s + 6 * z .j
+-- "length: 36 + 20N + 16L + 8S + 6J" in layout 1, "21N in the length" in layout 2
+pub narrow-size : (z : Sizes) → z .layout ≡ 1 → bookSize z ≡ 36 + 20 * z .n + 16 * z .l + 8 * z .s + 6 * z .j
 unfolding entrySize
-size-of z e = rw e (omega arith)
+narrow-size z e = rw e (omega arith)
+
+pub wide-size : (z : Sizes) → z .layout ≡ 2 → bookSize z ≡ 36 + 21 * z .n + 16 * z .l + 8 * z .s + 6 * z .j
+unfolding entrySize
+wide-size z e = rw e (omega arith)
 
 -- ---- the size of each element
 

@@ -1,5 +1,5 @@
 -- The number of form, taken apart, and what it takes to be other than 1.
-use Prim.Native.Nat.{ℕ}
+use Prim.Native.Nat.{ℕ, _*_}
 use mathlib.Core.Path.{_≡_, ap}
 use mathlib.Core.Logic.{_⊎_, inl, inr}
 use mathlib.Core.Bool.{true, false, _&&_}
@@ -7,12 +7,12 @@ use mathlib.Core.List.{List}
 use native.Mathlib.Omega.{arith}
 use lib.Dec.{leb, eqb}
 use lib.ListN.{length}
+use Rattle.words.specs.Numbers.{num}
 use borrow.Author.Tests.{leb-true, eqb-true}
 use Rattle.words.proofs.ChoiceLaws.{and-true, true-and, true-or-false}
-use Rattle.book.specs.Layout.{headerSize, countSize, bookSize, sizesOf, bookOf}
+use Rattle.book.specs.Layout.{headerSize, entrySize, nOffset, bookSize, sizesOf, bookOf}
 use Rattle.book.specs.Form.{sizesAs, layoutAs, bookOk, rawOk, formAs}
 use Rattle.book.proofs.SizesIn.{sizes-as}
-use Rattle.book.proofs.Widths.{entries-wide}
 use Rattle.book.specs.FormFacts.{Laid}
 
 -- 1 without the layout; then 2 or 0
@@ -68,5 +68,5 @@ layout-facts g b e =
       header = leb-true headerSize (length b) (t₂ .0);
       sizes = z;
       len = eqb-true (length b) (bookSize (sizesOf b)) (t₁ .1);
-      entries = entries-wide (sizesOf b) (countSize g) (ap countSize (z .layout));
+      entries = ap (λ (k : ℕ). num b nOffset * entrySize k) (z .layout);
     }

@@ -1,3 +1,4 @@
+pub mod AnEntry
 pub mod Widths
 pub mod SizesIn
 pub mod Bytes
@@ -17,4 +18,5 @@ pub mod Clauses
 pub mod Conditions
 pub mod FormBytes
 pub mod FormFactLaws
+pub mod Split
 pub mod AfterD

@@ -54,7 +54,7 @@ module _ (b : List ℕ) where
   unfolding bookOf
   retention-at v hv = sym (getD-tab volumes (λ v. num b (retentionOffset v)) v 0 hv)
 
-  entry-at : (g p i : ℕ) → HoldsWide (countSize g) b → p < bookOf b .sizes .n → i ≡ entryOffset g p
+  pub entry-at : (g p i : ℕ) → HoldsWide (countSize g) b → p < bookOf b .sizes .n → i ≡ entryOffset g p
       → entryIn g b i ≡ entryAt (bookOf b .entries) p
   unfolding bookOf
   entry-at g p i h hp e =

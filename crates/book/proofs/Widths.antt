@@ -6,6 +6,7 @@ use mathlib.Core.List.{List, [], _∷_}
 use native.Mathlib.Omega.{arith}
 use lib.Dec.{eqb}
 use lib.ListN.{getD}
+use borrow.Author.Tests.{ne-eqb}
 use Rattle.words.specs.Blocks.{printSize}
 use Rattle.words.specs.Choice.{if_then_else_}
 use Rattle.words.specs.Numbers.{two, num}
@@ -16,6 +17,22 @@ use Rattle.book.specs.Layout.{current, countSize, entrySize, entriesFrom
 pub entries-wide : (z : Sizes) (w : ℕ) → countSize (z .layout) ≡ w → z .n * entrySize (z .layout) ≡ z .n * (w + 19)
 unfolding entrySize
 entries-wide z w e = ap (λ (k : ℕ). z .n * (k + 19)) e
+
+-- an entry of layout 1, and of any other
+pub narrow-entry : (g : ℕ) → g ≡ 1 → entrySize g ≡ 20
+unfolding entrySize
+narrow-entry g e = rw e
+
+pub wide-entry : (g : ℕ) → (g ≡ 1 → ⊥) → entrySize g ≡ 21
+unfolding entrySize
+wide-entry g n = rw (ne-eqb g 1 n)
+
+pub wide-count : (g : ℕ) → (g ≡ 1 → ⊥) → countSize g ≡ 2
+wide-count g n = rw (ne-eqb g 1 n)
+
+pub narrow-offset : (p : ℕ) → entriesFrom + p * 20 ≡ entryOffset 1 p
+unfolding entrySize
+narrow-offset p = refl
 
 pub offset-now : (p : ℕ) → currentOffset p ≡ entryOffset current p
 unfolding entrySize

@@ -1,5 +1,5 @@
 -- What a call knows of a book in form (the representation invariant), in facts: the tests of Form.antt, clause by clause.
-use Prim.Native.Nat.{ℕ, _+_, _*_, _<_, _≤_}
+use Prim.Native.Nat.{ℕ, _*_, _<_, _≤_}
 use mathlib.Core.Path.{_≡_}
 use mathlib.Core.List.{List}
 use lib.ListN.{length}
@@ -39,7 +39,7 @@ pub record Laid (g : ℕ) (b : List ℕ) : Type 0 where
   pub sizes : SizesIn g (sizesOf b)
   pub len : length b ≡ bookSize (sizesOf b)
   -- for `omega`
-  pub entries : num b nOffset * entrySize (num b 0) ≡ num b nOffset * (countSize g + 19)
+  pub entries : num b nOffset * entrySize (num b 0) ≡ num b nOffset * entrySize g
 
 -- what the book shows
 pub record BookParts (x : Book) : Type 0 where

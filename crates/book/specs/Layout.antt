@@ -16,13 +16,13 @@ use Rattle.book.specs.Book.{volumes, Sizes, Entry, Slot, Rec, Book, free
 
 -- the layout that format makes and that the calls take
 abbrev pub current : ℕ
-current = 1
+current = 2
 
 -- sizes of the elements, in bytes
 abbrev pub headerSize : ℕ
 headerSize = 20
 
--- a count has one byte in layout 1, and two in any other
+-- a count has one byte in layout 1; "the count becomes u16" in layout 2, and stays so
 abbrev pub countSize : ℕ → ℕ
 countSize g = if eqb g 1 then 1 else 2
 
@@ -97,7 +97,7 @@ recordsFrom z = slotsFrom z + z .s * slotSize
 abbrev pub recOffset : Sizes → ℕ → ℕ
 recOffset z q = recordsFrom z + q * recSize
 
--- "length: 36 + 20N + 16L + 8S + 6J" in layout 1
+-- "length: 36 + 20N + 16L + 8S + 6J" in layout 1, and "entries have 21 bytes (21N in the length)" in layout 2 (document 02, K3)
 abbrev pub bookSize : Sizes → ℕ
 bookSize z = recordsFrom z + z .j * recSize
 

@@ -91,6 +91,22 @@ withRecord r x = record {
   records = x .records ++ (r ∷ []);
 }
 
+-- "with every field equal", but for the layout number (document 02, K3)
+abbrev pub sizesIn : ℕ → Sizes → Sizes
+sizesIn g z = record { layout = g; n = z .n; l = z .l; s = z .s; j = z .j }
+
+unfoldable pub withLayout : ℕ → Book → Book
+withLayout g x = record {
+  sizes = sizesIn g (x .sizes);
+  day = x .day;
+  cursor = x .cursor;
+  retentions = x .retentions;
+  entries = x .entries;
+  maps = x .maps;
+  slots = x .slots;
+  records = x .records;
+}
+
 -- an entry with one thing changed
 unfoldable pub countAs : ℕ → Entry → Entry
 countAs c e = record { count = c; held = e .held; expiry = e .expiry; print = e .print }

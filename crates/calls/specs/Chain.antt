@@ -58,7 +58,7 @@ pub record AsPlain (z : Sizes) (xs : List Asked) (out b′ pool′ out′ : List
   pub answers : out′ ≡ owedBytes z xs ++ drop (length (owedBytes z xs)) out
   pub written : w′ ≡ length (owedBytes z xs)
   pub shown : oursShown (at b′ pool′) ≡ plainShown (plainAfter z (listedOf xs))
-  -- "It gives no 1 to 4 and no 13"
+  -- "It gives no 1 to 4 and no 13"; "14 never comes after a list from a fresh book" (document 02, K3)
   pub undamaged : all (λ a. not (damageReply a)) (owed z [] xs) ≡ true
 
 -- ---- what holds of the next call, whichever it is; o is where the list left book and pool

@@ -35,10 +35,11 @@ pub record Both (z : Sizes) (cs : List Call) (answers : List Answer) : Type 0 wh
 abbrev pub small : Sizes
 small = newSizes 2 4 4 8
 
--- ---- "raising before lowering, so a change to the same block at count 255 is refused": 255 cells name block A and one names block B
+-- ---- "A blank page fills many cells on every aid, and a clinic met number 14" (document 02, K3): 255 cells name block A and one names
+-- block B; then A gets that one, and another
 
 abbrev pub crowdedSizes : Sizes
-crowdedSizes = newSizes 2 33 11 4
+crowdedSizes = newSizes 2 33 9 2
 
 unfoldable pub crowdedMaps : List (List ℕ)
 crowdedMaps = replicate 7 (replicate 32 0 ++ (unmapped ∷ [])) ++ ((replicate 31 0 ++ (1 ∷ unmapped ∷ [])) ∷ [])
@@ -70,23 +71,19 @@ plainCrowded = record {
   volumes = map (λ m. record { retention = 9; images = record { day = 0; cells = m; changed = 0 } ∷ [] }) crowdedMaps;
 }
 
--- the same block again; another cell with a before, and one without
-unfoldable pub crowding : List Call
-crowding = backup 0 1 (list 0 (A ∷ [])) ∷ backup 7 2 (list 31 (A ∷ [])) ∷ backup 0 2 (list 32 (A ∷ [])) ∷ []
-
-unfoldable pub crowdAnswers : List Answer
-crowdAnswers = backed 2 0 2 ∷ number 14 ∷ number 14 ∷ []
+unfoldable pub crowding : Call
+crowding = backup 7 1 (list 31 (A ∷ A ∷ []))
 
 pub record Crowded : Type 0 where
   pub alike : oursShown crowded ≡ plainShown plainCrowded
-  pub ourAnswers : answersOf (ours spare) crowded crowding ≡ crowdAnswers
-  pub plainAnswers : answersOf plain plainCrowded crowding ≡ crowdAnswers
-  pub entry : entryAt (bookOf (endOf (ours spare) crowded crowding .book) .entries) 0
-      ≡ record { count = 255; held = true; expiry = 10; print = printOf A }
+  pub answer : ours spare crowded crowding .answer ≡ backed 2 0 3
+  pub count : entryAt (bookOf (ours spare crowded crowding .next .book) .entries) 0 .count ≡ 257
+  pub plainAnswer : plain plainCrowded crowding .answer ≡ backed 2 0 3
+  pub alikeAfter : oursShown (ours spare crowded crowding .next) ≡ plainShown (plain plainCrowded crowding .next)
 
-pub lowering-comes-first : Crowded
-unfolding model over list crowdedMaps crowded plainCrowded crowding crowdAnswers
-lowering-comes-first = record { alike = refl; ourAnswers = refl; plainAnswers = refl; entry = refl }
+pub past-255 : Crowded
+unfolding model over list crowdedMaps crowded plainCrowded crowding
+past-255 = record { alike = refl; answer = refl; count = refl; plainAnswer = refl; alikeAfter = refl }
 
 -- ---- "keeping half a refused list": refused at the first, a middle and the last change
 
@@ -223,6 +220,47 @@ pub record Damaged : Type 0 where
 pub damage-is-13 : Damaged
 unfolding model over list damaged damages
 damage-is-13 = record { answers = refl; same = refl }
+
+-- ---- 14: "In a damaged book 14 then means a count of 65,535" (document 02, K3); audit says no
+
+-- a cell names block A, and its count is k
+unfoldable pub miscounted : ℕ → Ours
+miscounted k = record {
+  book = bytes (record {
+    sizes = small;
+    day = 0;
+    cursor = 0;
+    retentions = 9 ∷ replicate 7 0;
+    entries =
+        record { count = k; held = true; expiry = 0; print = printOf A }
+        ∷ record { count = 1; held = true; expiry = 0; print = printOf B } ∷ [];
+    maps = (0 ∷ 1 ∷ unmapped ∷ unmapped ∷ []) ∷ replicate 7 (replicate 4 unmapped);
+    slots = [];
+    records = [];
+  });
+  pool = blockOf A ++ blockOf B;
+}
+
+-- another cell, with a before and without one, and behind a change that alone is accepted
+unfoldable pub fills : List Call
+fills = audit ∷ backup 0 1 (list 1 (A ∷ [])) ∷ backup 0 1 (list 2 (A ∷ [])) ∷ backup 0 1 (list 0 (A ∷ A ∷ [])) ∷ []
+
+-- block A's count after a backup
+unfoldable pub countAfter : ℕ → List ℕ → ℕ
+countAfter k l = entryAt (bookOf (ours spare (miscounted k) (backup 0 1 l) .next .book) .entries) 0 .count
+
+pub record Miscounted : Type 0 where
+  pub answers : answersOf (ours spare) (miscounted 65535) fills ≡ sound false ∷ number 14 ∷ number 14 ∷ number 14 ∷ []
+  pub unchanged : endOf (ours spare) (miscounted 65535) fills ≡ miscounted 65535
+  -- the same cell again: lowered before it is raised
+  pub again : ours spare (miscounted 65535) (backup 0 1 (list 0 (A ∷ []))) .answer ≡ backed 1 0 2
+  pub stays : countAfter 65535 (list 0 (A ∷ [])) ≡ 65535
+  -- up to there a count rises
+  pub rises : map (λ k. countAfter k (list 2 (A ∷ []))) (255 ∷ 511 ∷ 65534 ∷ []) ≡ 256 ∷ 512 ∷ 65535 ∷ []
+
+pub damage-is-14 : Miscounted
+unfolding model over list miscounted fills countAfter
+damage-is-14 = record { answers = refl; unchanged = refl; again = refl; stays = refl; rises = refl }
 
 -- ---- 11: "a block taken earlier in this list has its change's bytes"; equal bytes share it
 

@@ -24,10 +24,10 @@ unfoldable pub clinic : Fresh
 unfolding model
 clinic = record {
   sizes = sizes;
-  given = replicate 276 170;
+  given = replicate 280 170;
   book = bytes (fresh sizes);
   pool = replicate 2048 255;
-  spare = 276;
+  spare = 280;
   formatted = refl;
   poolEnough = refl;
   spareEnough = omega arith;

@@ -8,3 +8,4 @@ pub mod Audits
 pub mod Examples
 pub mod Restores
 pub mod Shown
+pub mod Converts

@@ -14,6 +14,7 @@ use Rattle.model.specs.Read
 use Rattle.model.specs.Kept
 use Rattle.model.specs.Restore
 use Rattle.model.specs.Audit
+use Rattle.model.specs.Convert
 use Rattle.model.specs.OnBytes
 use Rattle.model.specs.Views
 use Rattle.model.specs.Plain
@@ -31,7 +32,7 @@ unfolding
     Form.between Form.sizesAs Form.layoutAs Form.retentionOk Form.entryOk Form.pbnOk Form.recOk Form.slotOk Form.laterOk Form.bookOk
     Form.stateOk Form.secondOk Form.rawOk Form.formAs
     Next.withDay Next.withCursor Next.withRetention Next.withEntries Next.withMaps Next.withSlot Next.withRecord Next.countAs Next.expiryAs
-    Next.heldAs Next.madeFree Next.fresh
+    Next.heldAs Next.madeFree Next.withLayout Next.fresh
     Days.kept Days.badDay Days.notAfter Days.badRetention
     Journal.journal Journal.backups Journal.days Journal.noVolume
     Enrol.enrolNumber Enrol.enrol
@@ -43,6 +44,7 @@ unfolding
     Kept.keptNumber Restore.runNumber Restore.restore
     Audit.noMaps Audit.mapsSound Audit.countSound Audit.expirySound Audit.printsSound Audit.cellSound Audit.currentSound Audit.backupSound
     Audit.backupsSound Audit.audit
+    Convert.roomNumber Convert.converted Convert.narrowNumber Convert.toTwo Convert.toOne
     OnBytes.poolNumber OnBytes.spareNumber OnBytes.formatNumber OnBytes.formatBytes OnBytes.enrolBytes
     OnBytes.backedBytes OnBytes.backupBytes
     OnBytes.collectedBytes OnBytes.collectBytes OnBytes.readBytes OnBytes.readNumberBytes OnBytes.readPlaceBytes
@@ -53,7 +55,7 @@ unfolding
     Plain.collected Plain.collectNumber Plain.collect Plain.readNumber Plain.read
     PlainBackup.backupsSoFar PlainBackup.changesSoFar PlainBackup.backupNumber PlainBackup.findHeld PlainBackup.findFree
     PlainBackup.takeBlock
-    PlainBackup.placeFree PlainBackup.placeHeld PlainBackup.place PlainBackup.moveNumber PlainBackup.moved PlainBackup.moveTo
+    PlainBackup.placeFree PlainBackup.placeHeld PlainBackup.place PlainBackup.moved
     PlainBackup.changeStep PlainBackup.begun PlainBackup.withImage PlainBackup.closed PlainBackup.backup
     Sides.readAnswer Sides.auditAnswer Sides.oursEnrolled Sides.oursBacked Sides.oursCollected Sides.ours
     Sides.plainEnrolled Sides.plainBacked Sides.plainCollected Sides.plain Sides.oursShown Sides.plainShown

@@ -13,7 +13,6 @@ use words::LBN;
 use words::PBN;
 use words::UNMAPPED;
 use words::limits::LAST_VOLUME;
-use words::wide;
 
 // The readers are asked only of a book in form.
 fn out_of_form(book: &[u8]) -> bool
@@ -63,7 +62,7 @@ fn block(book: &[u8], p: u16) {
     if p >= header::blocks(book) {
         return;
     }
-    let count = wide(entry::count(book, PBN(p)));
+    let count = entry::count(book, PBN(p));
     let expiry = entry::expiry(book, PBN(p));
     number(b"; block ", p);
     number(b" has count ", count);

@@ -25,25 +25,25 @@ alike : {a b c d a′ b′ c′ d′ : ℕ} → a ≡ a′ → b ≡ b′ → c 
     (record { held = a′; free = b′; waiting = c′; references = d′ })
 alike p q r s = λ i. record { held = p i; free = q i; waiting = r i; references = s i }
 
-module _ (t : Counts) (h : Bool) {c r : ℕ} (w : r ≡ c) where
+module _ (t : Counts) (h : Bool) (c : ℕ) where
   pub counted-free : h ≡ false → record
-      { held = t .held; free = t .free + 1; waiting = t .waiting; references = t .references + r } ≡ counted t h c
+      { held = t .held; free = t .free + 1; waiting = t .waiting; references = t .references + c } ≡ counted t h c
   unfolding counted
-  counted-free e = rw (e, w) (alike (omega arith) refl (omega arith) refl)
+  counted-free e = rw e (alike (omega arith) refl (omega arith) refl)
 
   pub counted-waiting : h ≡ true → c ≡ 0
-      → record { held = t .held + 1; free = t .free; waiting = t .waiting + 1; references = t .references + r }
+      → record { held = t .held + 1; free = t .free; waiting = t .waiting + 1; references = t .references + c }
       ≡ counted t h c
   unfolding counted
-  counted-waiting e z = rw (e, eq-eqb c 0 z, w) (alike refl (omega arith) refl refl)
+  counted-waiting e z = rw (e, eq-eqb c 0 z) (alike refl (omega arith) refl refl)
 
   pub counted-named : h ≡ true → (c ≡ 0 → ⊥)
-      → record { held = t .held + 1; free = t .free; waiting = t .waiting; references = t .references + r }
+      → record { held = t .held + 1; free = t .free; waiting = t .waiting; references = t .references + c }
       ≡ counted t h c
   unfolding counted
-  counted-named e z = rw (e, ne-eqb c 0 z, w) (alike refl (omega arith) (omega arith) refl)
+  counted-named e z = rw (e, ne-eqb c 0 z) (alike refl (omega arith) (omega arith) refl)
 
-few-more : (t : Counts) (h : Bool) (c n : ℕ) → c < 256 → Few n t → Few (n + 1) (counted t h c)
+few-more : (t : Counts) (h : Bool) (c n : ℕ) → c < 65536 → Few n t → Few (n + 1) (counted t h c)
 unfolding counted
 few-more t h c n b f =
     record {
@@ -83,7 +83,7 @@ passing-none es =
           { held = omega arith; free = omega arith; waiting = omega arith; references = omega arith };
     }
 
-pub passing-more : {es : List Entry} {p : ℕ} {t t′ : Counts} {h : Bool} {c : ℕ} → p < length es → c < 256
+pub passing-more : {es : List Entry} {p : ℕ} {t t′ : Counts} {h : Bool} {c : ℕ} → p < length es → c < 65536
     → h ≡ entryAt es p .held → c ≡ entryAt es p .count → t′ ≡ counted t h c → Passing es p t → Passing es (p + 1) t′
 passing-more {es} {p} {t} {t′} {h} {c} b s u v e l =
     record { counts = e ∙ rw (l .counts, u, v) (sym (counts-more es p b)); few = rw e (few-more t h c p s (l .few)) }

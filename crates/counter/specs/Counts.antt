@@ -21,9 +21,9 @@ counted t h c = record {
   references = t .references + c;
 }
 
--- what n entries with counts of one byte can come to at most
+-- what n entries with counts of two bytes can come to at most
 pub record Few (n : ℕ) (t : Counts) : Type 0 where
   pub held : t .held ≤ n
   pub free : t .free ≤ n
   pub waiting : t .waiting ≤ n
-  pub references : t .references ≤ n * 255
+  pub references : t .references ≤ n * 65535

@@ -5,7 +5,6 @@ ghost use Rattle.counter.specs.Counts.{countsOf, counted, Few};
 use entries::entry;
 use fields::header;
 use words::PBN;
-use words::wide;
 
 // How many blocks are held, free, and held with count 0, and the sum of the counts.
 pub struct Counts {
@@ -16,11 +15,11 @@ pub struct Counts {
 }
 
 // One entry more.
-fn count_entry(t: Counts, held: bool, count: u8) -> Counts
+fn count_entry(t: Counts, held: bool, count: u16) -> Counts
     requires { ⌜ Few 4096 t ⌝ }
     ensures { λ r. ⌜ r ≡ counted t held count ⌝ }
 {
-    let references = t.references + wide(count) as u32;
+    let references = t.references + count as u32;
     if !held {
         return Counts {
             held: t.held,

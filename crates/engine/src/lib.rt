@@ -2,6 +2,7 @@
 pub mod audit;
 pub mod backup;
 pub mod collect;
+pub mod converters;
 pub mod count;
 pub mod enrol;
 pub mod format;

@@ -15,23 +15,23 @@ use words::put_u16;
 use words::u16_at;
 
 // Where the fields after the count stand within an entry.
-const STATE: usize = 1;
+const STATE: usize = 2;
 
-const EXPIRY: usize = 2;
+const EXPIRY: usize = 3;
 
-const PRINT: usize = 4;
+const PRINT: usize = 5;
 
 const FREE: u8 = 0;
 
 const HELD: u8 = 1;
 
-pub fn count(book: &[u8], p: PBN) -> u8
+pub fn count(book: &[u8], p: PBN) -> u16
     requires { ⌜ Holds (now book) ⌝ }
     requires { ⌜ p .0 < told book .sizes .n ⌝ }
     ensures { λ r. ⌜ r ≡ entryAt (told (book .entry) .entries) (p .0) .count ⌝ }
 {
     let at = entry_offset(p);
-    book[at]
+    u16_at(book, at)
 }
 
 pub fn is_held(book: &[u8], p: PBN) -> bool
@@ -64,13 +64,13 @@ pub fn print_of(book: &[u8], p: PBN) -> &[u8]
     &book[from..end]
 }
 
-pub fn set_count(book: &mut [u8], p: PBN, c: u8)
+pub fn set_count(book: &mut [u8], p: PBN, c: u16)
     requires { ⌜ Holds (now book) ⌝ }
     requires { ⌜ p .0 < told book .sizes .n ⌝ }
     ensures { λ _. ⌜ Is (now (book .exit)) (withEntry (countAs c) (p .0) (told (book .entry))) ⌝ }
 {
     let at = entry_offset(p);
-    book[at] = c;
+    put_u16(book, at, c);
 }
 
 pub fn set_expiry(book: &mut [u8], p: PBN, day: u16)

@@ -9,7 +9,10 @@ use words::put_u16;
 use words::u16_at;
 
 // The layout that format makes and that the calls take.
-pub const LAYOUT: u16 = 1;
+pub const LAYOUT: u16 = 2;
+
+// The first layout, whose counts have one byte.
+pub const NARROW_LAYOUT: u16 = 1;
 
 pub const HEADER_SIZE: usize = 20;
 

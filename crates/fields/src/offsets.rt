@@ -13,7 +13,10 @@ use words::limits::LAST_VOLUME;
 // Where the entries start, the sizes of the elements in bytes, and how many maps there are.
 pub const ENTRIES_FROM: usize = 36;
 
-pub const ENTRY_SIZE: usize = 20;
+pub const ENTRY_SIZE: usize = 21;
+
+// In layout 1, whose counts have one byte.
+pub const NARROW_ENTRY_SIZE: usize = 20;
 
 pub const SLOT_SIZE: usize = 8;
 

@@ -19,7 +19,7 @@ use Rattle.words.specs.Numbers.{num}
 use Rattle.words.specs.Sections.{tab, part}
 use Rattle.words.proofs.SectionLaws.{length-tab}
 use Rattle.book.specs.Book.{volumes, Slot}
-use Rattle.book.specs.Layout.{nOffset, lOffset, sOffset, jOffset, bOffset, uOffset, retentionOffset, entriesFrom, countSize, entrySize}
+use Rattle.book.specs.Layout.{nOffset, lOffset, sOffset, jOffset, bOffset, uOffset, retentionOffset, entriesFrom, entrySize}
 use Rattle.book.specs.Layout.{mapsFrom, cellOffset, slotsFrom, slotSize, recSize, slotOffset, recordsFrom, recOffset, bookSize, sizesOf}
 use Rattle.book.specs.Layout.{entryOf}
 use Rattle.book.specs.Layout.{cellOf, recOf, bookOf}
@@ -210,14 +210,13 @@ module _ (b : List ℕ) (len : length b ≡ bookSize (sizesOf b)) where
 -- ---- the groups as the code tests them, on numbers that it read
 
 module _ (b : List ℕ) where
-  pub blocks-tests : (g : ℕ) {n l : ℕ} {r e m : Bool} → num b 0 ≡ g → n ≡ num b nOffset → l ≡ num b lOffset
-      → r ≡ retentionsOk b → e ≡ entriesOk g b n
-      → m ≡ mapsOk b (entriesFrom + n * (countSize g + 19)) (volumes * l) n → (r && e && m) ≡ blocksOk b
-  unfolding blocksOk entrySize
-  blocks-tests g eg en el er ee em =
-      rw (er, ee, em, en, el)
+  pub blocks-tests : (g : ℕ) {n l k : ℕ} {r e m : Bool} → num b 0 ≡ g → n ≡ num b nOffset → l ≡ num b lOffset → k ≡ n * entrySize g
+      → r ≡ retentionsOk b → e ≡ entriesOk g b n → m ≡ mapsOk b (entriesFrom + k) (volumes * l) n → (r && e && m) ≡ blocksOk b
+  unfolding blocksOk
+  blocks-tests g eg en el ek er ee em =
+      rw (er, ee, em, ek, en, el)
       (ap (λ (k : ℕ). retentionsOk b && entriesOk k b (num b nOffset)
-      && mapsOk b (entriesFrom + num b nOffset * (countSize k + 19)) (volumes * num b lOffset) (num b nOffset)) (sym eg))
+      && mapsOk b (entriesFrom + num b nOffset * entrySize k) (volumes * num b lOffset) (num b nOffset)) (sym eg))
 
   pub slots-tests : {from used s : ℕ} {r z : Bool} → from ≡ slotsFrom (sizesOf b) → used ≡ num b bOffset → s ≡ num b sOffset
       → r ≡ slotsLeft b 0 noLasts 0 0 → z ≡ zerosIn b (from + used * slotSize) (from + s * slotSize) → (r && z) ≡ slotsOk b

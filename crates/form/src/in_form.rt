@@ -2,11 +2,11 @@
 ghost use Prim.Native.Nat.{_+_, _*_, _≤_, _<_};
 ghost use mathlib.Core.Path.{_≡_};
 ghost use lib.ListN.{length};
-ghost use Rattle.book.specs.Layout.{current, headerSize, slotsFrom, sizesOf};
-ghost use Rattle.book.specs.Form.{layoutAs, formNumber};
+ghost use Rattle.book.specs.Layout.{headerSize, entryOffset, slotsFrom, sizesOf};
+ghost use Rattle.book.specs.Form.{layoutAs, formAs, formNumber};
 ghost use Rattle.book.specs.FormFacts.{Laid};
 ghost use Rattle.form.specs.Passes.{blocksOk, slotsOk, journalOk};
-ghost use Rattle.sections.specs.Checks.{headOk, HeadIn};
+ghost use Rattle.sections.specs.Checks.{headOk, entriesOk, HeadIn};
 use fields::header::B_OFFSET;
 use fields::header::CURSOR_OFFSET;
 use fields::header::DAY_OFFSET;
@@ -15,18 +15,20 @@ use fields::header::J_OFFSET;
 use fields::header::L_OFFSET;
 use fields::header::LAYOUT;
 use fields::header::N_OFFSET;
+use fields::header::NARROW_LAYOUT;
 use fields::header::S_OFFSET;
 use fields::header::U_OFFSET;
 use fields::header::ZERO_OFFSET;
 use fields::offsets::ENTRIES_FROM;
-use fields::offsets::ENTRY_SIZE;
 use fields::offsets::REC_SIZE;
 use fields::offsets::SLOT_SIZE;
 use fields::offsets::VOLUMES;
-use fields::sizes::size;
+use fields::sizes::entries_size;
+use fields::sizes::size_as;
 use fields::sizes::sizes_ok;
 use sections::blocks::entries_ok;
 use sections::blocks::maps_ok;
+use sections::blocks::narrow_entries_ok;
 use sections::blocks::retentions_ok;
 use sections::zeros::zeros;
 use slots::journal::used_records_ok;
@@ -35,8 +37,8 @@ use words::limits::MAX_DAY;
 use words::refusals;
 use words::u16_at;
 
-fn layout_ok(b: &[u8]) -> bool
-    ensures { λ r. ⌜ r ≡ layoutAs current (now (b .entry)) ⌝ }
+fn layout_ok(b: &[u8], layout: u16) -> bool
+    ensures { λ r. ⌜ r ≡ layoutAs layout (now (b .entry)) ⌝ }
 {
     if b.len() < HEADER_SIZE {
         return false;
@@ -45,7 +47,7 @@ fn layout_ok(b: &[u8]) -> bool
     let l = u16_at(b, L_OFFSET);
     let s = u16_at(b, S_OFFSET);
     let j = u16_at(b, J_OFFSET);
-    (u16_at(b, 0) == LAYOUT) & sizes_ok(n, l, s, j) & (b.len() == size(n, l, s, j))
+    (u16_at(b, 0) == layout) & sizes_ok(n, l, s, j) & (b.len() == size_as(layout, n, l, s, j))
 }
 
 // What the header holds beside the layout number and the sizes.
@@ -60,33 +62,43 @@ fn head_ok(b: &[u8]) -> bool
     slots & records & day & cursor & (u16_at(b, ZERO_OFFSET) == 0)
 }
 
+// Block entries. Each width has a loop of its own, whose size of an entry is a constant.
+fn layout_entries_ok(b: &[u8], layout: u16, n: u16) -> bool
+    requires { ⌜ entryOffset layout n ≤ length (now b) ⌝ }
+    ensures { λ r. ⌜ r ≡ entriesOk layout (now (b .entry)) n ⌝ }
+{
+    if layout == NARROW_LAYOUT {
+        return narrow_entries_ok(b, n as usize);
+    }
+    entries_ok(b, n as usize)
+}
+
 // Retentions, block entries and maps.
-fn blocks_ok(b: &[u8]) -> bool
-    requires { ⌜ Laid current (now b) ⌝ }
+fn blocks_ok(b: &[u8], layout: u16) -> bool
+    requires { ⌜ Laid layout (now b) ⌝ }
     ensures { λ r. ⌜ r ≡ blocksOk (now (b .entry)) ⌝ }
 {
     let n = u16_at(b, N_OFFSET);
+    let maps = ENTRIES_FROM + entries_size(layout, n);
     let cells = VOLUMES * (u16_at(b, L_OFFSET) as usize);
-    retentions_ok(b)
-        & entries_ok(b, n as usize)
-        & maps_ok(b, ENTRIES_FROM + n as usize * ENTRY_SIZE, cells, n)
+    retentions_ok(b) & layout_entries_ok(b, layout, n) & maps_ok(b, maps, cells, n)
 }
 
-fn slots_from(b: &[u8]) -> usize
-    requires { ⌜ Laid current (now b) ⌝ }
+fn slots_from(b: &[u8], layout: u16) -> usize
+    requires { ⌜ Laid layout (now b) ⌝ }
     ensures { λ r. ⌜ r ≡ slotsFrom (sizesOf (now (b .entry))) ⌝ }
 {
     ENTRIES_FROM
-        + u16_at(b, N_OFFSET) as usize * ENTRY_SIZE
+        + entries_size(layout, u16_at(b, N_OFFSET))
         + VOLUMES * (u16_at(b, L_OFFSET) as usize * 2)
 }
 
-fn slots_ok(b: &[u8]) -> bool
-    requires { ⌜ Laid current (now b) ⌝ }
+fn slots_ok(b: &[u8], layout: u16) -> bool
+    requires { ⌜ Laid layout (now b) ⌝ }
     requires { ⌜ HeadIn (now b) ⌝ }
     ensures { λ r. ⌜ r ≡ slotsOk (now (b .entry)) ⌝ }
 {
-    let from = slots_from(b);
+    let from = slots_from(b, layout);
     let used = u16_at(b, B_OFFSET) as usize;
     let records = u16_at(b, U_OFFSET) as usize;
     let end = from + u16_at(b, S_OFFSET) as usize * SLOT_SIZE;
@@ -94,36 +106,43 @@ fn slots_ok(b: &[u8]) -> bool
         & zeros(b, from + used * SLOT_SIZE, end)
 }
 
-fn journal_ok(b: &[u8]) -> bool
-    requires { ⌜ Laid current (now b) ⌝ }
+fn journal_ok(b: &[u8], layout: u16) -> bool
+    requires { ⌜ Laid layout (now b) ⌝ }
     requires { ⌜ HeadIn (now b) ⌝ }
     ensures { λ r. ⌜ r ≡ journalOk (now (b .entry)) ⌝ }
 {
-    let from = slots_from(b) + u16_at(b, S_OFFSET) as usize * SLOT_SIZE;
+    let from = slots_from(b, layout) + u16_at(b, S_OFFSET) as usize * SLOT_SIZE;
     let used = u16_at(b, U_OFFSET) as usize;
     used_records_ok(b, from, used, u16_at(b, N_OFFSET), u16_at(b, L_OFFSET))
         & zeros(b, from + used * REC_SIZE, b.len())
 }
 
-// 0 for a book in form; 1 where its length, layout number or sizes break the layout, 2 where it is otherwise out of
-// form.
-pub fn form_number(book: &[u8]) -> u16
-    ensures { λ r. ⌜ r ≡ formNumber (now (book .entry)) ⌝ }
+// 0 for a book of this layout in form; 1 where its length, layout number or sizes break the layout, 2 where it is
+// otherwise out of form.
+pub fn form_as(book: &[u8], layout: u16) -> u16
+    ensures { λ r. ⌜ r ≡ formAs layout (now (book .entry)) ⌝ }
 {
-    if !layout_ok(book) {
+    if !layout_ok(book, layout) {
         return refusals::BAD_LAYOUT;
     }
     if !head_ok(book) {
         return refusals::BAD_FORM;
     }
-    if !blocks_ok(book) {
+    if !blocks_ok(book, layout) {
         return refusals::BAD_FORM;
     }
-    if !slots_ok(book) {
+    if !slots_ok(book, layout) {
         return refusals::BAD_FORM;
     }
-    if !journal_ok(book) {
+    if !journal_ok(book, layout) {
         return refusals::BAD_FORM;
     }
     0
+}
+
+// As a book of today's layout.
+pub fn form_number(book: &[u8]) -> u16
+    ensures { λ r. ⌜ r ≡ formNumber (now (book .entry)) ⌝ }
+{
+    form_as(book, LAYOUT)
 }

@@ -1,3 +1,5 @@
+pub mod ConvertCases
+pub mod CountCases
 pub mod RestoreCases
 pub mod kept
 pub mod claims

@@ -15,3 +15,4 @@ pub mod RunFit
 pub mod BackupFit
 pub mod OnBytesFit
 pub mod ImageIn
+pub mod ConvertFit

@@ -85,11 +85,12 @@ nameBlock v lbn p es x =
     withRecord (record { lbn = lbn; before = cellAt (x .maps) v lbn; after = p })
     (withCell v lbn p (withEntries (set es p (raised (entryAt es p))) x))
 
--- 13: "before's count is 0"; 14: "the found block's count after step 3 is 255"
+-- 13: "before's count is 0"; 14, of "the found block's count after step 3": "In a damaged book 14 then means a count of 65,535"
+-- (document 02, K3)
 unfoldable pub moveNumber : ℕ → ℕ → ℕ → List Entry → ℕ
 moveNumber until before p es =
     if not (eqb before unmapped) && eqb (entryAt es before .count) 0 then 13 else
-    if eqb (entryAt (lower until before es) p .count) 255 then 14 else
+    if eqb (entryAt (lower until before es) p .count) 65535 then 14 else
     0
 
 -- steps 3 and 4; touched is "n plus the changes that had a before"

@@ -112,9 +112,9 @@ pub record Images (f : Fresh) (cs : List Call) : Type 0 where
 
 -- ---- what follows
 
--- 1 to 4 and 13: a damaged book, pool or spare
+-- 1 to 4, 13 and 14: a damaged book, pool or spare
 abbrev pub isDamage : ℕ → Bool
-isDamage k = someOf (eqb k) (1 ∷ 2 ∷ 3 ∷ 4 ∷ 13 ∷ [])
+isDamage k = someOf (eqb k) (1 ∷ 2 ∷ 3 ∷ 4 ∷ 13 ∷ 14 ∷ [])
 
 abbrev pub saysDamage : Answer → Bool
 saysDamage (number k) = isDamage k
@@ -126,7 +126,7 @@ saysDamage (sound b) = false
 pub record Corollaries (f : Fresh) (cs : List Call) : Type 0 where
   -- audit says yes after any list
   pub audits : ourAnswer f cs audit ≡ sound true
-  -- "It gives no 1 to 4 and no 13"
+  -- "It gives no 1 to 4 and no 13"; "14 never comes after a list from a fresh book" (document 02, K3)
   pub undamaged : all (λ a. not (saysDamage a)) (ourAnswers f cs) ≡ true
   -- "so at most 2n"
   pub touches : (v t : ℕ) (list : List ℕ) (k taken touched : ℕ) → ourAnswer f cs (backup v t list) ≡ backed k taken touched

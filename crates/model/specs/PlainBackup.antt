@@ -7,12 +7,12 @@ use lib.ListN.{length, getD, take, drop, set}
 use lib.Dec.{leb, ltb, eqb}
 use Rattle.words.specs.Blocks.{unmapped}
 use Rattle.words.specs.Choice.{if_then_else_}
-use Rattle.words.specs.Lists.{countOf, placeFrom, orElse, joined, same, sum}
+use Rattle.words.specs.Lists.{placeFrom, orElse, same, sum}
 use Rattle.words.specs.Outcome.{Outcome, refused, accepted, andThen, unless}
 use Rattle.runs.specs.Changes.{Change, changes, changeCount, listNumber}
 use Rattle.model.specs.Days.{badDay, notAfter}
 use Rattle.model.specs.Plain.{Block, free, held, Image, Volume, Plain, atDay, withBlocks, withVolume, volumeAt, isEnrolled, daysOf}
-use Rattle.model.specs.Plain.{current, currentMaps, isFree, bytesOf}
+use Rattle.model.specs.Plain.{current, isFree, bytesOf}
 
 -- "9 and 10 count all backups and changes so far"
 unfoldable pub backupsSoFar : Plain → ℕ
@@ -78,11 +78,6 @@ placeHeld c w (some p) = if same (bytesOf (getD (w .blocks) p free)) (c .block) 
 unfoldable pub place : Change → PlainWork → Outcome PlainPlaced
 place c w = placeHeld c w (findHeld (w .blocks) (c .print))
 
--- 14: "255 cells of current maps name the found block, this list's earlier changes made and this cell's before taken out"
-unfoldable pub moveNumber : List (List ℕ) → ℕ → ℕ → PlainPlaced → ℕ
-moveNumber maps v lbn d =
-    if eqb (countOf (eqb (d .pbn)) (joined (set maps v (set (d .work .copy) lbn unmapped)))) 255 then 14 else 0
-
 -- "Taken, touched and freed are counted as above"
 unfoldable pub moved : ℕ → PlainPlaced → PlainWork
 moved lbn d = record {
@@ -93,16 +88,13 @@ moved lbn d = record {
   touched = d .work .touched + (if eqb (getD (d .work .copy) lbn unmapped) unmapped then 1 else 2);
 }
 
-unfoldable pub moveTo : List (List ℕ) → ℕ → ℕ → PlainPlaced → Outcome PlainWork
-moveTo maps v lbn d = unless (moveNumber maps v lbn d) (accepted (moved lbn d))
+-- 11 and 12 are all that stops a change: 14 comes from damage alone, so "the plain store drops it as well" (document 02, K3)
+unfoldable pub changeStep : Change → PlainWork → Outcome PlainWork
+changeStep c w = andThen (place c w) (λ d. accepted (moved (c .lbn) d))
 
--- maps are the current maps before the call, and v is the volume
-unfoldable pub changeStep : List (List ℕ) → ℕ → Change → PlainWork → Outcome PlainWork
-changeStep maps v c w = andThen (place c w) (moveTo maps v (c .lbn))
-
-abbrev pub runChanges : List (List ℕ) → ℕ → List Change → PlainWork → Outcome PlainWork
-runChanges maps v [] w = accepted w
-runChanges maps v (c ∷ cs) w = andThen (changeStep maps v c w) (λ w′. runChanges maps v cs w′)
+abbrev pub runChanges : List Change → PlainWork → Outcome PlainWork
+runChanges [] w = accepted w
+runChanges (c ∷ cs) w = andThen (changeStep c w) (λ w′. runChanges cs w′)
 
 -- ---- the whole call: "copies the current map, .. and appends the copy with T"
 
@@ -132,4 +124,4 @@ closed q v t n w = record {
 unfoldable pub backup : Plain → ℕ → ℕ → List ℕ → Outcome PlainBacked
 backup q v t list =
     unless (backupNumber q v t list)
-    (andThen (runChanges (currentMaps q) v (changes list) (begun q v)) (λ w. accepted (closed q v t (changeCount list) w)))
+    (andThen (runChanges (changes list) (begun q v)) (λ w. accepted (closed q v t (changeCount list) w)))

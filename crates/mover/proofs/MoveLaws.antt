@@ -123,17 +123,17 @@ module _ (v until lbn p : ℕ) (x : Book) (pool : List ℕ) (t : Tally) where
 
   module _ (e : not (not (eqb (cellAt (x .maps) v lbn) unmapped)
       && eqb (entryAt (x .entries) (cellAt (x .maps) v lbn) .count) 0) ≡ true) where
-    pub move-full : entryAt (lower until (cellAt (x .maps) v lbn) (x .entries)) p .count ≡ 255
+    pub move-full : entryAt (lower until (cellAt (x .maps) v lbn) (x .entries)) p .count ≡ 65535
         → moveTo v until lbn (cellAt (x .maps) v lbn) (record { pbn = p; work = workAt x pool t }) ≡ refused 14
     unfolding moveTo moveNumber
     move-full f =
         rw (
           not-true (not (eqb before unmapped) && eqb (entryAt (x .entries) before .count) 0) e,
           eq-eqb
-              (entryAt (lower until before (x .entries)) p .count) 255 f,
+              (entryAt (lower until before (x .entries)) p .count) 65535 f,
         )
 
-    pub move-goes : (entryAt (lower until (cellAt (x .maps) v lbn) (x .entries)) p .count ≡ 255 → ⊥) → (y : Book) (t′ : Tally)
+    pub move-goes : (entryAt (lower until (cellAt (x .maps) v lbn) (x .entries)) p .count ≡ 65535 → ⊥) → (y : Book) (t′ : Tally)
         → y ≡ nameBlock v lbn p (lower until (cellAt (x .maps) v lbn) (x .entries)) x
         → t′ .taken ≡ t .taken → t′ .touched ≡ t .touched + (if eqb (cellAt (x .maps) v lbn) unmapped then 1 else 2)
         → moveTo v until lbn (cellAt (x .maps) v lbn) (record { pbn = p; work = workAt x pool t }) ≡ accepted (workAt y pool t′)
@@ -142,7 +142,7 @@ module _ (v until lbn p : ℕ) (x : Book) (pool : List ℕ) (t : Tally) where
         rw (
           not-true (not (eqb before unmapped) && eqb (entryAt (x .entries) before .count) 0) e,
           ne-eqb
-              (entryAt (lower until before (x .entries)) p .count) 255 f,
+              (entryAt (lower until before (x .entries)) p .count) 65535 f,
           g,
           k,
           l,

@@ -23,9 +23,6 @@ use words::UNMAPPED;
 use words::limits::MAX_COUNT;
 use words::refusals;
 
-// A count that can't rise.
-const FULL: u8 = MAX_COUNT as u8;
-
 // What a change answers: what is counted after it, or the number of its refusal.
 pub enum Step {
     Next(Tally),
@@ -60,12 +57,12 @@ fn lower(work: &mut [u8], before: PBN, until: u16) -> bool
 }
 
 // The block's count rises by 1, the map names it, a record is added.
-fn name_block(work: &mut [u8], v: u16, lbn: LBN, before: PBN, p: PBN, count: u8)
+fn name_block(work: &mut [u8], v: u16, lbn: LBN, before: PBN, p: PBN, count: u16)
     requires { ⌜ Holds (now work) ⌝ }
     requires { ⌜ (v < volumes) × (lbn .0 < told work .sizes .l) × (p .0 < told work .sizes .n) ⌝ }
     requires { ⌜ (length (told work .records) < told work .sizes .j)
         × (before .0 ≡ cellAt (told work .maps) v (lbn .0)) ⌝ }
-    requires { ⌜ (count ≡ entryAt (told work .entries) (p .0) .count) × (count < 255) ⌝ }
+    requires { ⌜ (count ≡ entryAt (told work .entries) (p .0) .count) × (count < 65535) ⌝ }
     ensures { λ _. ⌜ Is (now (work .exit))
         (nameBlock v (lbn .0) (p .0) (told (work .entry) .entries) (told (work .entry))) ⌝ }
 {
@@ -87,7 +84,8 @@ pub fn move_to(work: &mut [u8], v: u16, lbn: LBN, p: PBN, until: u16, t: Tally) 
         return Step::Stop(refusals::COUNT_ZERO);
     }
     let count = entry::count(work, p);
-    if count == FULL {
+    // Only a damaged book has such a count: eight maps of 1,024 cells name a block 8,192 times at most.
+    if count == MAX_COUNT {
         return Step::Stop(refusals::COUNT_FULL);
     }
     name_block(work, v, lbn, before, p, count);

@@ -49,6 +49,16 @@ decimal-length (suc k) n h = go (ltb n 10) refl (decimal-length k (n / 10) (omeg
     go true e ih = omega (arith, count-one n (ltb-true n 10 e))
     go false e ih = omega (arith, count-more n (ltb-false n 10 e))
 
+-- its digits with room for that many: a case computes them without counting to n
+pub decimal-few : (k n : ℕ) → n < 10 ^ suc k → decimal n ≡ digits (suc k) n
+decimal-few zero n h = decimal-one n h ∙ rw (lt-ltb n 10 h)
+decimal-few (suc k) n h = go (ltb n 10) refl (decimal-few k (n / 10) (omega (arith, pow-suc 10 (suc k))))
+  where
+    go : (t : Bool) → ltb n 10 ≡ t → decimal (n / 10) ≡ digits (suc k) (n / 10)
+        → decimal n ≡ (if t then (48 + n) ∷ [] else digits (suc k) (n / 10) ++ (48 + n % 10) ∷ [])
+    go true e ih = decimal-one n (ltb-true n 10 e)
+    go false e ih = decimal-more n (ltb-false n 10 e) ∙ ap (λ (l : List ℕ). l ++ (48 + n % 10) ∷ []) ih
+
 -- ---- what holds of one digit, and of a number where it holds of the tenth part, holds of every number
 
 module _ (P : ℕ → Type 0) (one : (n : ℕ) → n < 10 → P n) (more : (n : ℕ) → 10 ≤ n → P (n / 10) → P n) where

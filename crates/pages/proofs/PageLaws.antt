@@ -24,7 +24,7 @@ use Rattle.words.proofs.SectionsLaid.{stored-front}
 use Rattle.pages.proofs.Lines.{line-fits}
 use Rattle.counter.specs.Counts.{countsOf, Few}
 use Rattle.counter.specs.declared.counts.Counts.{Counts}
-use Rattle.pages.specs.Pages.{countsPage}
+use Rattle.pages.specs.Pages.{countsPage, pageRoom}
 
 module _ (b : List ℕ) where
   pub long-number : 65536 < length b → tallyNumber b ≡ 1
@@ -55,13 +55,13 @@ pub counted-page : (b : List ℕ) {n : ℕ} {t : Counts} → tallyNumber b ≡ 0
 unfolding countsPage countsOf blocks bookPage tallyPage
 counted-page b z e u = rw (e, u, eq-eqb (tallyNumber b) 0 z)
 
--- ---- 64 bytes are enough
+-- ---- every page has room
 
-pub refused-fits : (n : ℕ) → n ≤ 2 → length (line refusedWord n) ≤ 64
+pub refused-fits : (n : ℕ) → n ≤ 2 → length (line refusedWord n) ≤ pageRoom
 refused-fits n h = omega (arith, line-fits refusedWord 0 n (omega arith))
 
--- 4,096 blocks have numbers of four digits, and references of seven
-pub counts-fit : (n : ℕ) (t : Counts) → n ≤ 4096 → Few 4096 t → length (countsPage n t) ≤ 64
+-- 4,096 blocks have numbers of four digits, and references of nine
+pub counts-fit : (n : ℕ) (t : Counts) → n ≤ 4096 → Few 4096 t → length (countsPage n t) ≤ pageRoom
 unfolding countsPage
 counts-fit n t h f =
     simp length-append
@@ -71,14 +71,14 @@ counts-fit n t h f =
       line-fits heldWord 3 (t .held) (omega arith),
       line-fits freeWord 3 (t .free) (omega arith),
       line-fits waitingWord 3 (t .waiting) (omega arith),
-      line-fits referencesWord 6 (t .references) (omega arith),
+      line-fits referencesWord 8 (t .references) (omega arith),
     ))
 
--- ---- what tally ensures, from what was stored at the front of 64 bytes
+-- ---- what tally ensures, from what was stored at the front
 
-pub written : {out section out′ wanted : List ℕ} {r : ℕ} → length out ≡ 64 → length section ≤ 64 → section ≡ wanted
+pub written : {out section out′ wanted : List ℕ} {r : ℕ} → length out ≡ pageRoom → length section ≤ pageRoom → section ≡ wanted
     → Stored out 0 section out′ r
-    → (take r out′ ≡ wanted) × ((r ≡ length wanted) × (r ≤ 64))
+    → (take r out′ ≡ wanted) × ((r ≡ length wanted) × (r ≤ pageRoom))
 written {out} {section} n h e s =
     (stored-front {out = out} (omega arith) s ∙ e, (omega (arith, s .place, ap length e), omega (arith, s .place)))
 

@@ -17,3 +17,7 @@ countLines n t =
 
 unfoldable pub countsPage : ℕ → Counts → List ℕ
 countsPage n t = joined (countLines n t)
+
+-- the bytes that a page has room in: the longest page of a book of at most 65,536 bytes has 65 (`longestPage` in proofs/Case.antt)
+abbrev pub pageRoom : ℕ
+pageRoom = 80

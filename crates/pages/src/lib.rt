@@ -6,7 +6,7 @@ ghost use Prim.Native.Nat.{_≤_};
 ghost use lib.ListN.{length, take};
 ghost use Rattle.words.specs.Laying.{Stored};
 ghost use Rattle.pages.specs.Tally.{tallyNumber, tallyPage};
-ghost use Rattle.pages.specs.Pages.{countsPage};
+ghost use Rattle.pages.specs.Pages.{countsPage, pageRoom};
 use counter::counts::Counts;
 use counter::counts::count_entries;
 use form::form_number;
@@ -14,6 +14,9 @@ use line::put_line;
 use words::refusals;
 
 const LONGEST: usize = 65536;
+
+// Bytes that have room for any page.
+pub const PAGE_ROOM: usize = 80;
 
 // The number that refuses the input, or 0.
 fn refusal(input: &[u8]) -> u32
@@ -38,10 +41,10 @@ fn put_counts(page: &mut [u8], n: u16, t: Counts) -> usize
 }
 
 // What the program tally prints of its input. It answers the page's length.
-pub fn tally(input: &[u8], page: &mut [u8; 64]) -> usize
+pub fn tally(input: &[u8], page: &mut [u8; PAGE_ROOM]) -> usize
     ensures { λ r. ⌜ take r (now (page .exit)) ≡ tallyPage (now (input .entry)) ⌝ }
     ensures { λ r. ⌜ r ≡ length (tallyPage (now (input .entry))) ⌝ }
-    ensures { λ r. ⌜ r ≤ 64 ⌝ }
+    ensures { λ r. ⌜ r ≤ pageRoom ⌝ }
 {
     let number = refusal(input);
     if number != 0 {

@@ -15,7 +15,6 @@ use words::PBN;
 use words::put_bytes;
 use words::put_three;
 use words::refusals;
-use words::wide;
 
 const ROW_SIZE: usize = 22;
 
@@ -30,7 +29,7 @@ fn put_block(book: &[u8], p: PBN, out: &mut [u8], at: usize) -> usize
         (now (out .exit)) r ⌝ }
 {
     let held = entry::is_held(book, p) as u16;
-    let count = wide(entry::count(book, p));
+    let count = entry::count(book, p);
     let expiry = entry::expiry(book, p);
     let print = entry::print_of(book, p);
     put_three(out, at, held, count, expiry);

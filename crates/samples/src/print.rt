@@ -24,7 +24,7 @@ pub fn total(text: &[u8], n: u32) {
 
 // The page of the program tally.
 pub fn page(book: &[u8]) {
-    let mut page = [0u8; 64];
+    let mut page = [0u8; pages::PAGE_ROOM];
     let len = pages::tally(book, &mut page);
     word(&page[..len]);
 }

@@ -11,7 +11,7 @@ use native.Mathlib.Omega.{arith}
 use Rattle.words.specs.Blocks.{printSize}
 use Rattle.words.proofs.ChoiceLaws.{and-true}
 use Rattle.words.proofs.Each.{zeros-each}
-use Rattle.words.specs.Lists.{allZero}
+use Rattle.words.specs.Lists.{each, allZero}
 use Rattle.words.specs.Numbers.{num}
 use Rattle.words.specs.Sections.{tab}
 use Rattle.words.proofs.SectionLaws.{part-tab}
@@ -19,7 +19,8 @@ use Rattle.book.specs.Layout.{headerSize, countSize, bookSize, entryOffset, nOf
 use Rattle.book.specs.Layout.{uOffset, dayOffset, cursorOffset, zeroOffset, sizesOf, countIn, entryIn, recOf}
 use Rattle.book.specs.Form.{between, sizesAs, layoutAs, sizesOk, stateOk, entryOk, pbnOk, recOk}
 use Rattle.book.specs.Next.{newSizes}
-use Rattle.sections.specs.Checks.{zerosIn, headOk, restOk, HeadIn}
+use Rattle.book.proofs.Widths.{offset-same, entry-same}
+use Rattle.sections.specs.Checks.{zerosIn, headOk, restOk, entriesOk, HeadIn}
 
 pub head-facts : (b : List ℕ) → headOk b ≡ true → HeadIn b
 unfolding headOk
@@ -139,6 +140,15 @@ entry-tests g b p at e =
       print = tab printSize (λ k. getD b (three i + k) 0);
     }))
     ∙ ap (λ (o : ℕ). leb (getD b (o + c) 0) 1 && entryOk (entryIn g b o)) e
+
+-- entries of layouts with counts of the same width
+pub entries-same : (g h : ℕ) → countSize g ≡ countSize h → (b : List ℕ) (n : ℕ) → entriesOk g b n ≡ entriesOk h b n
+unfolding entriesOk stateOk
+entries-same g h e b n =
+    let entry : (p : ℕ) → entryIn g b (entryOffset g p) ≡ entryIn h b (entryOffset h p) =
+    λ p. ap (λ (at : ℕ). entryIn g b at) (offset-same g h e p) ∙ entry-same g h e b (entryOffset h p)
+    in
+    λ i. each (λ p. leb (getD b (offset-same g h e p i + e i) 0) 1 && entryOk (entry p i)) 0 n
 
 pub rec-tests : (b : List ℕ) (at : ℕ) {n l x y z : ℕ} {p : Bool} → n ≡ num b nOffset → l ≡ num b lOffset
     → x ≡ num b at → y ≡ num b (at + 2) → z ≡ num b (at + 4) → p ≡ pbnOk n y → (ltb x l && p && ltb z n) ≡ recOk (sizesOf b) (recOf b at)

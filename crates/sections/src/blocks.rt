@@ -9,6 +9,7 @@ use super::zeros::zeros;
 use fields::header::HEADER_SIZE;
 use fields::offsets::ENTRIES_FROM;
 use fields::offsets::ENTRY_SIZE;
+use fields::offsets::NARROW_ENTRY_SIZE;
 use fields::offsets::VOLUMES;
 use words::UNMAPPED;
 use words::limits::MAX_EXPIRY;
@@ -50,6 +51,7 @@ fn rest_ok(b: &[u8], count: u16, at: usize) -> bool
     zeros(b, at + 3, at + 19)
 }
 
+// n entries with counts of two bytes.
 pub fn entries_ok(b: &[u8], n: usize) -> bool
     requires { ⌜ currentOffset n ≤ length (now b) ⌝ }
     ensures { λ r. ⌜ r ≡ entriesOk current (now (b .entry)) n ⌝ }
@@ -57,6 +59,22 @@ pub fn entries_ok(b: &[u8], n: usize) -> bool
     let mut p = 0;
     while p < n {
         let at = ENTRIES_FROM + p * ENTRY_SIZE;
+        if !rest_ok(b, u16_at(b, at), at + 2) {
+            return false;
+        }
+        p += 1;
+    }
+    true
+}
+
+// n entries of layout 1, with counts of one byte.
+pub fn narrow_entries_ok(b: &[u8], n: usize) -> bool
+    requires { ⌜ entriesFrom + n * 20 ≤ length (now b) ⌝ }
+    ensures { λ r. ⌜ r ≡ entriesOk 1 (now (b .entry)) n ⌝ }
+{
+    let mut p = 0;
+    while p < n {
+        let at = ENTRIES_FROM + p * NARROW_ENTRY_SIZE;
         if !rest_ok(b, wide(b[at]), at + 1) {
             return false;
         }

@@ -1,9 +1,11 @@
 -- Laws of the words over lists, where one list stands behind another.
-use Prim.Native.Nat.{ℕ, suc, _+_}
-use mathlib.Core.Path.{_≡_, refl, ap}
+use Prim.Native.Nat.{ℕ, suc, _+_, _*_, _<_}
+use mathlib.Core.Path.{_≡_, refl, ap, _∙_}
 use mathlib.Core.Bool.{Bool, true, false, _&&_, _||_}
 use mathlib.Core.List.{List, [], _∷_, _++_, map, append-assoc}
+use native.Mathlib.Nat.{suc-mul}
 use native.Mathlib.Omega.{arith}
+use lib.ListN.{length, getD, length-append}
 use Rattle.words.specs.Choice.{if_then_else_}
 use Rattle.words.proofs.ChoiceLaws.{and-assoc, or-assoc}
 use Rattle.words.specs.Lists.{all, someOf, those, countOf, lastOf, joined, sum}
@@ -40,6 +42,14 @@ module _ {A : Type 0} where
   pub joined-append : (xss yss : List (List A)) → joined (xss ++ yss) ≡ joined xss ++ joined yss
   joined-append [] yss = refl
   joined-append (xs ∷ xss) yss = rw (joined-append xss yss, append-assoc)
+
+  -- rows of l elements each
+  pub length-rows : (l : ℕ) (xss : List (List A)) → ((i : ℕ) → i < length xss → length (getD xss i []) ≡ l)
+      → length (joined xss) ≡ length xss * l
+  length-rows l [] h = omega arith
+  length-rows l (xs ∷ xss) h =
+      length-append xs (joined xss)
+      ∙ omega (arith, h 0 (omega arith), length-rows l xss (λ i k. h (suc i) (omega arith)), suc-mul (length xss) l)
 
   pub lastOf-append : (d : A) (xs ys : List A) → lastOf d (xs ++ ys) ≡ lastOf (lastOf d xs) ys
   lastOf-append d [] ys = refl

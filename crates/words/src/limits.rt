@@ -18,7 +18,8 @@ pub const MAX_DAY: u16 = 60000;
 // An expiry is a slot's day plus a retention.
 pub const MAX_EXPIRY: u16 = MAX_DAY + MAX_RETENTION;
 
-pub const MAX_COUNT: u16 = 255;
+// Document 02, K3.
+pub const MAX_COUNT: u16 = 65535;
 
 // Volumes are 0 to LAST_VOLUME.
 pub const LAST_VOLUME: u16 = 7;

@@ -41,3 +41,6 @@ pub const SHORT_OUTPUT: u16 = 20;
 
 // Document 02, K2.
 pub const BAD_RUN: u16 = 21;
+
+// Document 02, K3.
+pub const COUNT_WIDE: u16 = 22;

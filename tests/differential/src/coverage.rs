@@ -5,7 +5,7 @@ use crate::seen::Seen;
 use crate::shapes::{listed_numbers, Shapes};
 
 /// 0 for accepted calls, and the numbers of refusal.
-const NUMBERS: usize = 22;
+const NUMBERS: usize = 23;
 
 /// The numbers that each call can give, in the order of the names.
 const GIVES: [&[usize]; NAMES.len()] = [
@@ -26,6 +26,8 @@ const GIVES: [&[usize]; NAMES.len()] = [
     &[0, 1, 2, 20],
     &[0, 19, 20],
     &[0, 19, 20],
+    &[0, 1, 2, 4],
+    &[0, 1, 2, 4, 22],
 ];
 
 /// The calls of lists among the names.
@@ -66,15 +68,15 @@ impl Table {
     fn print(&self, title: &str) {
         print!("{title:>9}");
         for name in self.names.iter().chain(&["all"]) {
-            print!("{name:>11}");
+            print!("{name:>12}");
         }
         println!();
         for number in 0..NUMBERS {
             print!("{number:>9}");
             for of_call in &self.numbers {
-                print!("{:>11}", of_call[number]);
+                print!("{:>12}", of_call[number]);
             }
-            println!("{:>11}", self.times(number));
+            println!("{:>12}", self.times(number));
         }
     }
 

@@ -2,9 +2,9 @@
 
 use reference_c::{
     reference_audit, reference_backup, reference_backups, reference_blocks, reference_cells,
-    reference_collect, reference_count, reference_enrol, reference_form, reference_format,
-    reference_play, reference_read, reference_restore, reference_sizes, reference_used,
-    reference_volume, reference_write_list,
+    reference_collect, reference_convert_1_2, reference_convert_2_1, reference_count,
+    reference_enrol, reference_form, reference_format, reference_play, reference_read,
+    reference_restore, reference_sizes, reference_used, reference_volume, reference_write_list,
 };
 
 type Format = unsafe extern "C" fn(*mut u8, usize, u16, u16, u16, u16) -> u16;
@@ -73,6 +73,7 @@ type WriteList = unsafe extern "C" fn(
     list_len: usize,
     written: *mut u32,
 ) -> u16;
+type Convert = unsafe extern "C" fn(*const u8, usize, *mut u8, usize) -> u16;
 
 pub struct Interface {
     pub format: Format,
@@ -92,6 +93,8 @@ pub struct Interface {
     pub blocks: Blocks,
     pub play: Play,
     pub write_list: WriteList,
+    pub convert_1_2: Convert,
+    pub convert_2_1: Convert,
 }
 
 mod archive {
@@ -209,6 +212,8 @@ mod archive {
             list_len: usize,
             written: *mut u32,
         ) -> u16;
+        pub fn aspen_convert_1_2(book: *const u8, len: usize, out: *mut u8, out_len: usize) -> u16;
+        pub fn aspen_convert_2_1(book: *const u8, len: usize, out: *mut u8, out_len: usize) -> u16;
     }
 }
 
@@ -230,6 +235,8 @@ pub const ARCHIVE: Interface = Interface {
     blocks: archive::aspen_blocks,
     play: archive::aspen_play,
     write_list: archive::aspen_write_list,
+    convert_1_2: archive::aspen_convert_1_2,
+    convert_2_1: archive::aspen_convert_2_1,
 };
 
 pub const REFERENCE: Interface = Interface {
@@ -250,4 +257,6 @@ pub const REFERENCE: Interface = Interface {
     blocks: reference_blocks,
     play: reference_play,
     write_list: reference_write_list,
+    convert_1_2: reference_convert_1_2,
+    convert_2_1: reference_convert_2_1,
 };

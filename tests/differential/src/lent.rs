@@ -3,7 +3,7 @@
 use reference::call::Call;
 use reference::layout::Sizes;
 use reference::prng::Prng;
-use reference::store::Run;
+use reference::store::{Run, Way};
 use reference::view::View;
 
 use crate::guarded::{Answered, Guarded};
@@ -169,6 +169,16 @@ impl Lent {
                 written,
             )
         }
+    }
+
+    pub fn convert(&mut self, side: &Interface, way: Way) -> u16 {
+        let [book, out] = std::array::from_fn(|index| self.part(index));
+        let convert = match way {
+            Way::OneToTwo => side.convert_1_2,
+            Way::TwoToOne => side.convert_2_1,
+        };
+        // SAFETY: the buffers are apart and as long as said.
+        unsafe { convert(book.0, book.1, out.0, out.1) }
     }
 
     /// What the caller sees; fails if a number beside an answer was written.

@@ -6,12 +6,12 @@ use reference::call::{Call, Stored};
 use reference::cases;
 use reference::play::encode;
 use reference::prng::Prng;
-use reference::store::Run;
+use reference::store::{Run, Way};
 use reference::view::View;
 
 use crate::coverage::Coverage;
 use crate::interface::{Interface, REFERENCE};
-use crate::request::{Playing, Request, Restoring, Viewed};
+use crate::request::{Converting, Playing, Request, Restoring, Viewed};
 use crate::seen;
 
 const REFUSED: Call = Call::Collect { day: 0 };
@@ -46,6 +46,16 @@ fn compared_run(archive: &Interface, room: usize) -> Result<(), String> {
         output: vec![7; room],
     };
     sent(archive, Request::Restore(restoring))
+}
+
+/// And of its book in layout 1 in an output of so many bytes.
+fn compared_book(archive: &Interface, room: usize) -> Result<(), String> {
+    let converting = &Converting {
+        book: &cases::after_d().book,
+        way: Way::TwoToOne,
+        output: vec![7; room],
+    };
+    sent(archive, Request::Convert(converting))
 }
 
 /// And of a list of an audit and a collection, with room for so many bytes of answers.
@@ -254,6 +264,49 @@ fn a_run_that_is_written_elsewhere_is_noticed() {
     assert!(compared_run(&more, 1_025).is_err());
 }
 
+/// Writes the layout number before it looks whether there is room for the rest.
+unsafe extern "C" fn converts_first(
+    book: *const u8,
+    length: usize,
+    out: *mut u8,
+    out_len: usize,
+) -> u16 {
+    *out = 1;
+    (REFERENCE.convert_2_1)(book, length, out, out_len)
+}
+
+/// Converts, and writes a byte after the book if there is one.
+unsafe extern "C" fn converts_more(
+    book: *const u8,
+    length: usize,
+    out: *mut u8,
+    out_len: usize,
+) -> u16 {
+    if out_len > 276 {
+        *out.add(276) ^= 1;
+    }
+    (REFERENCE.convert_2_1)(book, length, out, out_len)
+}
+
+#[test]
+fn a_book_that_is_written_elsewhere_is_noticed() {
+    for room in [275, 276, 277] {
+        assert_eq!(compared_book(&REFERENCE, room), Ok(()));
+    }
+    let first = Interface {
+        convert_2_1: converts_first,
+        ..REFERENCE
+    };
+    assert_eq!(compared_book(&first, 276), Ok(()));
+    assert!(compared_book(&first, 275).is_err());
+    let more = Interface {
+        convert_2_1: converts_more,
+        ..REFERENCE
+    };
+    assert_eq!(compared_book(&more, 276), Ok(()));
+    assert!(compared_book(&more, 277).is_err());
+}
+
 /// Collects, and then plays the list if there is room for it.
 unsafe extern "C" fn collects_first(
     book: *mut u8,
@@ -328,10 +381,11 @@ fn a_list_that_does_more_is_noticed() {
 #[test]
 fn what_never_came_is_missing() {
     let missing = Coverage::new().report();
-    for number in 0..=21 {
+    for number in 0..=22 {
         assert!(missing.contains(&format!("number {number}")));
     }
     assert!(missing.contains(&"audit 2".into()));
     assert!(missing.contains(&"audit 2 in a list".into()));
     assert!(missing.contains(&"restore 21 in a list".into()));
+    assert!(missing.contains(&"convert_2_1 22".into()));
 }

@@ -3,7 +3,7 @@
 use reference::call::{Call, Stored};
 use reference::layout::Sizes;
 use reference::prng::Prng;
-use reference::store::Run;
+use reference::store::{Run, Way};
 use reference::view::View;
 
 use crate::interface::Interface;
@@ -33,6 +33,13 @@ pub struct Restoring<'a> {
     pub output: Vec<u8>,
 }
 
+/// A book to convert, with the output that it goes to.
+pub struct Converting<'a> {
+    pub book: &'a [u8],
+    pub way: Way,
+    pub output: Vec<u8>,
+}
+
 /// A list of calls in bytes on a box, with room for its answers.
 pub struct Playing<'a> {
     pub stored: &'a Stored,
@@ -51,10 +58,11 @@ pub enum Request<'a> {
     Restore(&'a Restoring<'a>),
     Play(&'a Playing<'a>),
     WriteList(&'a WriteList),
+    Convert(&'a Converting<'a>),
 }
 
 /// The names of the calls, in the order of the coverage table.
-pub const NAMES: [&str; 17] = [
+pub const NAMES: [&str; 19] = [
     "format",
     "enrol",
     "backup",
@@ -72,6 +80,8 @@ pub const NAMES: [&str; 17] = [
     "blocks",
     "play",
     "write_list",
+    "convert_1_2",
+    "convert_2_1",
 ];
 
 pub fn call_name(call: &Call) -> &'static str {
@@ -118,6 +128,10 @@ impl<'a> Request<'a> {
             Request::Restore(_) => "restore",
             Request::Play(_) => "play",
             Request::WriteList(_) => "write_list",
+            Request::Convert(converting) => match converting.way {
+                Way::OneToTwo => "convert_1_2",
+                Way::TwoToOne => "convert_2_1",
+            },
         }
     }
 
@@ -153,6 +167,10 @@ impl<'a> Request<'a> {
                 ("the image", &input.image),
                 ("the output", &input.output),
             ],
+            Request::Convert(converting) => vec![
+                ("the book", converting.book),
+                ("the output", &converting.output),
+            ],
         }
     }
 
@@ -168,6 +186,7 @@ impl<'a> Request<'a> {
             Request::Restore(restoring) => lent.restore(side, restoring.run),
             Request::Play(_) => lent.play(side),
             Request::WriteList(input) => lent.write_list(side, input.lbns),
+            Request::Convert(converting) => lent.convert(side, converting.way),
         };
         lent.seen(number, self.answers())
     }

@@ -79,7 +79,8 @@ pub fn equal<T: PartialEq + std::fmt::Debug>(
     }
 }
 
-fn equal_bytes(what: &str, ours: &[u8], expected: &[u8]) -> Result<(), String> {
+/// The same of buffers, with the first byte that differs.
+pub fn equal_bytes(what: &str, ours: &[u8], expected: &[u8]) -> Result<(), String> {
     if ours == expected {
         return Ok(());
     }

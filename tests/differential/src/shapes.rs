@@ -3,6 +3,7 @@
 
 mod backup;
 mod buffers;
+mod convert;
 mod lists;
 mod others;
 mod play;
@@ -16,6 +17,7 @@ use std::collections::BTreeMap;
 
 use reference::call::Call;
 use reference::change_list::RUN_MAX;
+use reference::store::Way;
 use reference::view::View;
 
 use crate::request::{Playing, Request, Restoring, Viewed};
@@ -49,6 +51,14 @@ impl Shapes {
             Request::Restore(restoring) => self.note_restore(restoring, seen),
             Request::Play(playing) => self.note_play(playing, seen),
             Request::View(viewed) => self.note_view(request.name(), viewed, seen),
+            Request::Convert(converting) => {
+                let converted = convert::Converted::new(converting, seen.number);
+                self.count(request.name(), converted.shapes());
+                match converting.way {
+                    Way::OneToTwo => self.count("convert_1_2", converted.longer_shapes()),
+                    Way::TwoToOne => self.count("convert_2_1", converted.shorter_shapes()),
+                }
+            }
             Request::WriteList(input) => {
                 let written = writer::Written::new(input, seen);
                 self.count("write_list", written.shapes());
@@ -109,6 +119,7 @@ impl Shapes {
             Call::Backup { volume, day, list } => {
                 let backup = backup::Backup::new(book, (*volume, *day), list, seen);
                 self.count("backup", backup.change_shapes());
+                self.count("backup", backup.count_shapes());
                 self.count("backup", backup.accepted_shapes());
                 self.count("backup", backup.list_shapes());
                 self.count("backup", backup.refused_shapes(pool));

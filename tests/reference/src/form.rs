@@ -8,21 +8,26 @@ use crate::refusal::{require, Refusal};
 
 /// The book if it is in form, else refusal 1 or 2.
 pub fn check(bytes: &[u8]) -> Result<Book<&[u8]>, Refusal> {
-    require(fits_layout(bytes), Refusal::Layout)?;
+    check_in(LAYOUT, bytes)
+}
+
+/// The book if it is in form in this layout.
+pub fn check_in(layout: u16, bytes: &[u8]) -> Result<Book<&[u8]>, Refusal> {
+    require(fits_layout(layout, bytes), Refusal::Layout)?;
     let book = Book::over(bytes);
     require(in_form(&book), Refusal::Form)?;
     Ok(book)
 }
 
 /// Length, layout number and sizes keep to the layout.
-pub fn fits_layout(bytes: &[u8]) -> bool {
+fn fits_layout(layout: u16, bytes: &[u8]) -> bool {
     if bytes.len() < HEADER_BYTES {
         return false;
     }
     let book = Book::over(bytes);
-    book.header(Header::Layout) == LAYOUT
+    book.header(Header::Layout) == layout
         && book.sizes().in_range()
-        && book.sizes().book_bytes() == bytes.len()
+        && book.sizes().book_bytes_in(layout) == bytes.len()
 }
 
 fn in_form(book: &Book<&[u8]>) -> bool {

@@ -6,7 +6,8 @@ pub use book::Book;
 
 use std::ops::{Range, RangeInclusive};
 
-pub const LAYOUT: u16 = 1;
+/// The layout that `format` makes and that the calls take.
+pub const LAYOUT: u16 = 2;
 pub const VOLUMES: u8 = 8;
 pub const BLOCK_BYTES: usize = 512;
 pub const FINGERPRINT_BYTES: usize = 16;
@@ -21,7 +22,8 @@ pub const EXPIRY_MAX: u16 = 65_000;
 
 pub const HEADER_BYTES: usize = 20;
 const RETENTIONS_BYTES: usize = 2 * VOLUMES as usize;
-const ENTRY_BYTES: usize = 20;
+/// State, expiry and fingerprint of an entry.
+const PAST_COUNT_BYTES: usize = 1 + 2 + FINGERPRINT_BYTES;
 const CELL_BYTES: usize = 2;
 const SLOT_BYTES: usize = 8;
 const RECORD_BYTES: usize = 6;
@@ -77,7 +79,7 @@ pub const HELD: u8 = 1;
 
 #[derive(Clone, Copy, Debug, PartialEq, Eq)]
 pub struct Entry {
-    pub count: u8,
+    pub count: u16,
     pub state: u8,
     pub expiry: u16,
     pub fingerprint: Fingerprint,
@@ -147,20 +149,45 @@ impl Sizes {
     }
 
     pub fn book_bytes(self) -> usize {
-        self.record_at(usize::from(self.records))
+        self.book_bytes_in(LAYOUT)
+    }
+
+    pub fn book_bytes_in(self, layout: u16) -> usize {
+        let places = Places {
+            layout,
+            sizes: self,
+        };
+        places.record_at(usize::from(self.records))
     }
 
     pub fn pool_bytes(self) -> usize {
         BLOCK_BYTES * usize::from(self.blocks)
     }
+}
+
+/// Where a book of these sizes has its fields, by its layout number.
+#[derive(Clone, Copy)]
+struct Places {
+    layout: u16,
+    sizes: Sizes,
+}
+
+impl Places {
+    fn count_bytes(self) -> usize {
+        match self.layout {
+            1 => 1,
+            _ => 2,
+        }
+    }
 
     fn entry_at(self, pbn: usize) -> usize {
-        HEADER_BYTES + RETENTIONS_BYTES + ENTRY_BYTES * pbn
+        let entry_bytes = self.count_bytes() + PAST_COUNT_BYTES;
+        HEADER_BYTES + RETENTIONS_BYTES + entry_bytes * pbn
     }
 
     fn cell_at(self, volume: u8, lbn: usize) -> usize {
-        let cells = usize::from(volume) * usize::from(self.lbns) + lbn;
-        self.entry_at(usize::from(self.blocks)) + CELL_BYTES * cells
+        let cells = usize::from(volume) * usize::from(self.sizes.lbns) + lbn;
+        self.entry_at(usize::from(self.sizes.blocks)) + CELL_BYTES * cells
     }
 
     fn slot_at(self, slot: usize) -> usize {
@@ -168,7 +195,7 @@ impl Sizes {
     }
 
     fn record_at(self, record: usize) -> usize {
-        self.slot_at(usize::from(self.slots)) + RECORD_BYTES * record
+        self.slot_at(usize::from(self.sizes.slots)) + RECORD_BYTES * record
     }
 }
 
@@ -186,12 +213,17 @@ pub(crate) fn put_u16(bytes: &mut [u8], at: usize, value: u16) {
 
 /// Writes a fresh book: all zero but layout and sizes, maps unmapped. The length must fit.
 pub fn format(bytes: &mut [u8], sizes: Sizes) {
+    format_in(LAYOUT, bytes, sizes);
+}
+
+pub fn format_in(layout: u16, bytes: &mut [u8], sizes: Sizes) {
     bytes.fill(0);
-    put_u16(bytes, 2 * Header::Layout as usize, LAYOUT);
+    put_u16(bytes, 2 * Header::Layout as usize, layout);
     put_u16(bytes, 2 * Header::Blocks as usize, sizes.blocks);
     put_u16(bytes, 2 * Header::Lbns as usize, sizes.lbns);
     put_u16(bytes, 2 * Header::Slots as usize, sizes.slots);
     put_u16(bytes, 2 * Header::Records as usize, sizes.records);
-    let maps = sizes.cell_at(0, 0)..sizes.cell_at(VOLUMES, 0);
+    let places = Places { layout, sizes };
+    let maps = places.cell_at(0, 0)..places.cell_at(VOLUMES, 0);
     bytes[maps].fill(0xFF);
 }

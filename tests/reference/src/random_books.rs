@@ -1,8 +1,9 @@
 //! Books that no run of calls reaches: a book with a few of its fields changed. Most stay
-//! in form.
+//! in form. And such a book in layout 1.
 
 use crate::layout::{
-    Book, Entry, Header, Lbn, Pbn, Slot, EXPIRY_MAX, FREE, HELD, UNMAPPED, UNUSED_SLOT, VOLUMES,
+    Book, Entry, Header, Lbn, Pbn, Slot, EXPIRY_MAX, FREE, HEADER_BYTES, HELD, UNMAPPED,
+    UNUSED_SLOT, VOLUMES,
 };
 use crate::prng::Prng;
 
@@ -19,6 +20,31 @@ pub fn disturb(prng: &mut Prng, bytes: &mut [u8]) {
         let at = prng.index(bytes.len());
         bytes[at] ^= 1 << prng.below(8);
     }
+}
+
+/// A layout 2 book in layout 1, whether it is in form or not; of a count above 255 it has the low
+/// byte. Another layout number stays. None for bytes that aren't as long as their sizes ask.
+pub fn narrowed(bytes: &[u8]) -> Option<Vec<u8>> {
+    if bytes.len() < HEADER_BYTES {
+        return None;
+    }
+    let book = Book::over(bytes);
+    let (sizes, layout) = (book.sizes(), book.header(Header::Layout));
+    if sizes.book_bytes_in(2) != bytes.len() {
+        return None;
+    }
+    let (front, rest) = bytes.split_at(36);
+    let (entries, rest) = rest.split_at(21 * usize::from(sizes.blocks));
+    let mut narrow = front.to_vec();
+    for entry in entries.chunks_exact(21) {
+        narrow.push(entry[0]);
+        narrow.extend(&entry[2..]);
+    }
+    narrow.extend(rest);
+    if layout == 2 {
+        narrow[0] = 1;
+    }
+    Some(narrow)
 }
 
 fn disturb_field(prng: &mut Prng, book: &mut Book<&mut [u8]>) {
@@ -117,7 +143,7 @@ fn disturb_mapped(prng: &mut Prng, book: &mut Book<&mut [u8]>) {
     let pbn = prng.pick(&named);
     // An earlier change may have put a cell past the pool.
     if pbn.0 < book.sizes().blocks {
-        let count = prng.pick(&[0, u8::MAX]);
+        let count = prng.pick(&[0, u16::MAX]);
         book.edit_entry(pbn, |entry| entry.count = count);
     }
 }
@@ -128,7 +154,7 @@ fn disturb_entry(prng: &mut Prng, book: &mut Book<&mut [u8]>) {
     let fingerprint = book.entry(other).fingerprint;
     let day = book.header(Header::Day);
     book.edit_entry(pbn, |entry| match prng.below(6) {
-        0 => entry.count = prng.pick(&[0, 1, 254, 255]),
+        0 => entry.count = prng.pick(&[0, 1, 255, 256, 65_534, 65_535]),
         1 => entry.state = prng.pick(&[FREE, HELD, 2]),
         2 => entry.expiry = prng.pick(&[0, 1, EXPIRY_MAX, EXPIRY_MAX + 1]),
         3 => entry.expiry = prng.pick(&[day, entry.expiry.wrapping_add(1)]),

@@ -1,6 +1,6 @@
 //! The numbers of refusal, in checking order.
 
-/// Why a call was refused; `number` gives document 01's number.
+/// Why a call was refused; `number` gives the number of documents 01 and 02.
 #[derive(Clone, Copy, Debug, PartialEq, Eq, PartialOrd, Ord)]
 pub enum Refusal {
     Layout = 1,
@@ -24,6 +24,7 @@ pub enum Refusal {
     Input = 19,
     ShortOutput = 20,
     Run = 21,
+    CountWide = 22,
 }
 
 impl Refusal {

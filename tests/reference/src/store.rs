@@ -3,18 +3,20 @@
 
 mod audit;
 mod backup;
+mod convert;
 mod restore;
 mod views;
 
 pub use audit::Fault;
 pub use backup::backup;
+pub use convert::{convert, Way};
 pub use restore::{restore, Run};
 pub use views::{backups, blocks, cells, sizes, used, volume, Used, VolumeFacts, NO_END};
 
 use crate::form;
 use crate::layout::{
-    self, Book, Entry, Header, Lbn, Pbn, Sizes, Slot, DAY_MAX, HELD, RETENTION_RANGE, UNMAPPED,
-    VOLUMES,
+    self, Book, Entry, Header, Lbn, Pbn, Sizes, Slot, DAY_MAX, HELD, LAYOUT, RETENTION_RANGE,
+    UNMAPPED, VOLUMES,
 };
 use crate::refusal::{require, Refusal};
 
@@ -132,7 +134,12 @@ pub fn audit(book: &[u8]) -> Result<bool, Refusal> {
 
 /// All that audit finds wrong.
 pub fn faults(book: &[u8]) -> Result<Vec<Fault>, Refusal> {
-    let book = form::check(book)?;
+    faults_in(LAYOUT, book)
+}
+
+/// All that audit would find wrong with a book in this layout.
+pub fn faults_in(layout: u16, book: &[u8]) -> Result<Vec<Fault>, Refusal> {
+    let book = form::check_in(layout, book)?;
     let faults = Fault::ALL.into_iter();
     Ok(faults.filter(|fault| fault.is_in(&book)).collect())
 }

@@ -25,7 +25,7 @@ impl Run {
             plain: Plain::new(SIZES),
             history: History::new(SIZES.lbns),
         };
-        assert_eq!(run.stored.book.len(), 276);
+        assert_eq!(run.stored.book.len(), 280);
         for (volume, retention) in [(0, 10), (1, 3)] {
             run.answers(Call::Enrol { volume, retention }, Answer::Enrolled);
         }
@@ -88,7 +88,7 @@ impl Run {
         form::check(&self.stored.book).unwrap()
     }
 
-    fn entry_is(&self, pbn: u16, count: u8, state: u8, expiry: u16, letter: char) {
+    fn entry_is(&self, pbn: u16, count: u16, state: u8, expiry: u16, letter: char) {
         let entry = Entry {
             count,
             state,
@@ -155,7 +155,7 @@ fn cases_a_to_j() {
 fn header_and_records_after_d() {
     let stored = after_d();
     let book = form::check(&stored.book).unwrap();
-    let fields = [1, 4, 4, 6, 8, 4, 5, 9, 3, 0];
+    let fields = [2, 4, 4, 6, 8, 4, 5, 9, 3, 0];
     let header: Vec<u16> = stored.book[..20]
         .chunks(2)
         .map(|pair| u16::from_le_bytes([pair[0], pair[1]]))

@@ -6,7 +6,7 @@ use reference::agreement;
 use reference::call::{Answer, Call, Stored};
 use reference::change_list::list_bytes;
 use reference::history::History;
-use reference::layout::VOLUMES;
+use reference::layout::{Book, VOLUMES};
 use reference::plain::Plain;
 use reference::prng::Prng;
 use reference::random_calls::{RandomCalls, Shape};
@@ -29,6 +29,8 @@ struct Seen {
     restored: u64,
     /// Backups of more changes than fit in one run.
     in_pieces: u64,
+    /// Runs that end with a count above 255.
+    wide_counts: u64,
 }
 
 impl Seen {
@@ -109,6 +111,9 @@ fn run(label: &str, mut calls: RandomCalls, number: usize, seen: &mut Seen) {
         calls.learn(&call, &answer);
     }
     reads_agree(&stored, &plain, &history, sizes.lbns);
+    let book = Book::over(&stored.book[..]);
+    let wide = book.pbns().any(|pbn| book.entry(pbn).count > 255);
+    seen.wide_counts += u64::from(wide);
 }
 
 #[test]
@@ -118,9 +123,10 @@ fn box_plain_store_and_history_agree() {
         let calls = RandomCalls::seeded(seed);
         run(&format!("seed {seed}"), calls, CALLS, &mut seen);
     }
-    let reachable = (5..=18).filter(|&number| number != 13);
-    let reachable: BTreeSet<u16> = reachable.chain([21]).collect();
+    // 13 and 14 come of damage alone.
+    let reachable: BTreeSet<u16> = (5..=12).chain(15..=18).chain([21]).collect();
     assert_eq!(seen.refusals, reachable);
+    assert!(seen.wide_counts > 10, "{}", seen.wide_counts);
     let counts = [
         seen.freed,
         seen.taken,

@@ -33,9 +33,11 @@ fn backup(stored: &mut Stored, volume: u16, day: u16, list: &[u8]) -> Result<Bac
 }
 
 #[test]
-fn lengths_run_from_86_to_204_836() {
-    assert_eq!(SMALLEST.book_bytes(), 86);
-    assert_eq!(LARGEST.book_bytes(), 204_836);
+fn lengths_run_from_87_to_208_932() {
+    assert_eq!(SMALLEST.book_bytes(), 87);
+    assert_eq!(LARGEST.book_bytes(), 208_932);
+    assert_eq!(SMALLEST.book_bytes_in(1), 86);
+    assert_eq!(LARGEST.book_bytes_in(1), 204_836);
     for sizes in [SMALLEST, LARGEST] {
         let mut book = vec![0xA5; sizes.book_bytes()];
         assert_eq!(store::format(&mut book, sizes), Ok(()));
@@ -46,11 +48,11 @@ fn lengths_run_from_86_to_204_836() {
 
 #[test]
 fn format_leaves_all_zero_but_layout_sizes_and_maps() {
-    let mut book = vec![0xA5; 276];
+    let mut book = vec![0xA5; 280];
     store::format(&mut book, SIZES).unwrap();
-    let mut expected = vec![0; 276];
-    expected[..10].copy_from_slice(&[1, 0, 4, 0, 4, 0, 6, 0, 8, 0]);
-    expected[116..180].fill(0xFF);
+    let mut expected = vec![0; 280];
+    expected[..10].copy_from_slice(&[2, 0, 4, 0, 4, 0, 6, 0, 8, 0]);
+    expected[120..184].fill(0xFF);
     assert_eq!(book, expected);
 }
 
@@ -272,31 +274,62 @@ fn slots_and_journal_fill_up_to_the_last() {
     assert_eq!(store::audit(&stored.book), Ok(true));
 }
 
+/// A list of so many equal blocks, from LBN 0 on.
+fn equal_blocks(length: u16) -> Vec<u8> {
+    let starts = (0..length).step_by(64);
+    let pairs: Vec<_> = starts.map(|lbn| (lbn, (length - lbn).min(64))).collect();
+    list_of_pairs(&pairs)
+}
+
+fn count_of(stored: &Stored, pbn: u16) -> u16 {
+    form::check(&stored.book).unwrap().entry(Pbn(pbn)).count
+}
+
 #[test]
-fn a_block_is_named_255_times_at_most() {
+fn a_count_passes_255() {
     let sizes = Sizes {
         blocks: 2,
         lbns: 300,
         slots: 9,
-        records: 600,
+        records: 900,
     };
     let mut stored = fresh(sizes);
     store::enrol(&mut stored.book, 3, 1).unwrap();
-    let many = |length: u16| {
-        let starts = (0..length).step_by(64);
-        let pairs: Vec<_> = starts.map(|lbn| (lbn, (length - lbn).min(64))).collect();
-        list_of_pairs(&pairs)
-    };
-    let result = backup(&mut stored, 3, 1, &many(256));
-    assert_eq!(result, Err(Refusal::CountFull));
-    assert!(backup(&mut stored, 3, 1, &many(255)).is_ok());
-    let again = backup(&mut stored, 3, 2, &many(255)).unwrap();
-    assert_eq!((again.taken, again.touched), (0, 510));
-    let result = backup(&mut stored, 3, 3, &list(&[(255, "A")]));
-    assert_eq!(result, Err(Refusal::CountFull));
-    // Lowering one cell first makes room for another.
-    assert!(backup(&mut stored, 3, 3, &list(&[(0, "B"), (255, "A")])).is_ok());
+    for (day, length) in [(1, 255), (2, 256), (3, 300)] {
+        let answer = backup(&mut stored, 3, day, &equal_blocks(length)).unwrap();
+        assert_eq!(answer.taken, u16::from(day == 1));
+        assert_eq!(count_of(&stored, 0), length);
+        assert_eq!(store::audit(&stored.book), Ok(true));
+    }
+    backup(&mut stored, 3, 4, &list(&[(0, "B"), (255, "A")])).unwrap();
+    assert_eq!(count_of(&stored, 0), 299);
     assert_eq!(store::audit(&stored.book), Ok(true));
+}
+
+/// Eight maps of 1,024 cells: no list from a fresh book brings a count further.
+#[test]
+fn a_block_in_every_cell_has_count_8_192() {
+    let mut stored = fresh(LARGEST);
+    let mut plain = Plain::new(LARGEST);
+    for volume in 0..8 {
+        let enrol = Call::Enrol {
+            volume,
+            retention: 1,
+        };
+        let backup = Call::Backup {
+            volume,
+            day: 1,
+            list: equal_blocks(1_024),
+        };
+        for call in [enrol, backup] {
+            assert_eq!(plain.call(&call), stored.call(&call));
+        }
+        assert_eq!(count_of(&stored, 0), 1_024 * (volume + 1));
+    }
+    assert_eq!(store::audit(&stored.book), Ok(true));
+    let again = backup(&mut stored, 7, 2, &equal_blocks(1_024)).unwrap();
+    assert_eq!((again.taken, again.touched), (0, 2_048));
+    assert_eq!(count_of(&stored, 0), 8_192);
 }
 
 #[test]

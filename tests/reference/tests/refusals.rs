@@ -132,7 +132,7 @@ fn calls_on_the_book_alone_check_in_order() {
 
 #[test]
 fn format_refuses_a_wrong_length() {
-    for length in [0, 1, 20, 275, 277] {
+    for length in [0, 1, 20, 276, 279, 281] {
         let mut book = vec![7; length];
         assert_eq!(refused(store::format(&mut book, SIZES)), 1);
         assert_eq!(book, vec![7; length]);
@@ -190,16 +190,20 @@ fn before_uncounted() {
 
 #[test]
 fn count_full() {
-    let full = || with_entry(2, |entry| entry.count = 255);
+    let full = || with_entry(2, |entry| entry.count = 65_535);
     assert_eq!(refused(backup(&mut full(), &[(1, "C")])), 14);
     assert_eq!(refused(backup(&mut full(), &[(2, "C")])), 14);
     // The same block again: lowered before it is raised.
     let mut stored = full();
     assert_eq!(backup(&mut stored, &[(0, "C")]).unwrap().touched, 2);
     let entry = Book::over(&stored.book[..]).entry(Pbn(2));
-    assert_eq!((entry.count, entry.expiry), (255, 20));
-    let mut stored = with_entry(2, |entry| entry.count = 254);
-    assert!(backup(&mut stored, &[(1, "C")]).is_ok());
+    assert_eq!((entry.count, entry.expiry), (65_535, 20));
+    for count in [255, 256, 511, 65_534] {
+        let mut stored = with_entry(2, |entry| entry.count = count);
+        assert!(backup(&mut stored, &[(1, "C")]).is_ok());
+        let entry = Book::over(&stored.book[..]).entry(Pbn(2));
+        assert_eq!(entry.count, count + 1);
+    }
 }
 
 #[test]
@@ -216,13 +220,13 @@ fn checks_at_one_change_in_order() {
     assert_eq!(refused(result), 12);
     // An uncounted before ahead of a full count.
     let mut stored = with_entry(1, |entry| entry.count = 0);
-    Book::over(&mut stored.book[..]).edit_entry(Pbn(2), |entry| entry.count = 255);
+    Book::over(&mut stored.book[..]).edit_entry(Pbn(2), |entry| entry.count = 65_535);
     assert_eq!(refused(backup(&mut stored, &[(1, "C")])), 13);
 }
 
 #[test]
 fn the_first_change_that_is_stopped_decides() {
-    let mut stored = with_entry(2, |entry| entry.count = 255);
+    let mut stored = with_entry(2, |entry| entry.count = 65_535);
     stored.pool[512] ^= 1;
     assert_eq!(refused(backup(&mut stored, &[(2, "CB")])), 14);
     assert_eq!(refused(backup(&mut stored, &[(2, "BC")])), 11);

@@ -2,16 +2,17 @@
 
 use reference::call::Stored;
 use reference::cases::after_d;
-use reference::layout::{Book, Header, Sizes};
+use reference::layout::{Book, Header, Pbn, Sizes, HELD};
+use reference::store::{convert, Way};
 use reference::tally::{counts, page};
 
 /// A fresh book of 65,536 bytes.
 fn longest() -> Vec<u8> {
     let sizes = Sizes {
-        blocks: 1_325,
+        blocks: 1_324,
         lbns: 1_000,
-        slots: 1_000,
-        records: 2_500,
+        slots: 999,
+        records: 2_284,
     };
     let stored = Stored::new(sizes, Vec::new()).unwrap();
     assert_eq!(stored.book.len(), 65_536);
@@ -26,8 +27,30 @@ fn totals_after_d() {
 
 #[test]
 fn totals_of_the_longest_input() {
-    let totals = "blocks 1325\nheld 0\nfree 1325\nwaiting 0\nreferences 0\n";
+    let totals = "blocks 1324\nheld 0\nfree 1324\nwaiting 0\nreferences 0\n";
     assert_eq!(page(&longest()), totals.as_bytes());
+}
+
+/// The longest page, of a damaged book.
+#[test]
+fn references_of_eight_digits() {
+    let sizes = Sizes {
+        blocks: 3_117,
+        lbns: 1,
+        slots: 1,
+        records: 1,
+    };
+    let mut bytes = Stored::new(sizes, Vec::new()).unwrap().book;
+    let mut book = Book::over(&mut bytes[..]);
+    for pbn in (0..2_117).map(Pbn) {
+        book.edit_entry(pbn, |entry| {
+            entry.state = HELD;
+            entry.count = if pbn.0 < 1_000 { 0 } else { 65_535 };
+        });
+    }
+    let totals = "blocks 3117\nheld 2117\nfree 1000\nwaiting 1000\nreferences 73202595\n";
+    assert_eq!(totals.len(), 65);
+    assert_eq!(page(&bytes), totals.as_bytes());
 }
 
 #[test]
@@ -56,7 +79,10 @@ fn a_longer_book_is_counted() {
 #[test]
 fn a_broken_layout_is_refused_1() {
     assert_eq!(page(b""), b"refused 1\n");
-    assert_eq!(page(&after_d().book[..275]), b"refused 1\n");
+    assert_eq!(page(&after_d().book[..279]), b"refused 1\n");
+    let mut other = vec![0; 276];
+    convert(Way::TwoToOne, &after_d().book, &mut other).unwrap();
+    assert_eq!(page(&other), b"refused 1\n");
 }
 
 #[test]

@@ -5,9 +5,11 @@
 //! As the header says: pointers aren't null, buffers are as long as said and don't overlap.
 #![allow(clippy::missing_safety_doc, clippy::too_many_arguments)]
 
+mod convert;
 mod make;
 mod views;
 
+pub use convert::{reference_convert_1_2, reference_convert_2_1};
 pub use make::{reference_make, Made};
 pub use views::{
     reference_backups, reference_blocks, reference_cells, reference_sizes, reference_used,

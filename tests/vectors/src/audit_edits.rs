@@ -68,7 +68,9 @@ fn counts() -> Vec<Faulty> {
         ("above", 2, 2),
         ("below", 1, 1),
         ("of-waiting", 0, 1),
-        ("255", 1, 255),
+        ("above-by-256", 1, 258),
+        ("256-of-waiting", 0, 256),
+        ("65535", 1, 65_535),
     ];
     let edit = |(name, pbn, count)| {
         let name = format!("count-{name}");

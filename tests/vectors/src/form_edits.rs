@@ -166,9 +166,12 @@ fn entry_states() -> Vec<Edit> {
     };
     vec![
         edited("free-with-count-1", Refused2, 3, 1, FREE, 0),
-        edited("free-with-count-255", Refused2, 3, 255, FREE, 0),
+        edited("free-with-count-256", Refused2, 3, 256, FREE, 0),
+        edited("free-with-count-65535", Refused2, 3, 65_535, FREE, 0),
         edited("free-with-fingerprint", Refused2, 0, 0, FREE, b'A'),
         edited("held-with-count-255", Totals, 0, 255, HELD, b'A'),
+        edited("held-with-count-256", Totals, 0, 256, HELD, b'A'),
+        edited("held-with-count-65535", Totals, 0, 65_535, HELD, b'A'),
         edited("held-with-zero-fingerprint", Totals, 1, 2, HELD, 0),
         edited("held-last-with-zero-fingerprint", Totals, 3, 0, HELD, 0),
         edited("held-with-full-fingerprint", Totals, 3, 1, HELD, 255),

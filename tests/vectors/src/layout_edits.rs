@@ -2,6 +2,7 @@
 
 use reference::cases;
 use reference::layout::{self, Book, Header, Sizes};
+use reference::store::{convert, Way};
 
 use crate::vector::{Edit, Meant, Vector};
 
@@ -23,6 +24,7 @@ pub fn vectors() -> Vec<Vector> {
         vectors.extend(values.map(|value| size_in_place(name, field, value).vector()));
     }
     vectors.push(wrapped_length());
+    vectors.extend(other_layouts());
     vectors
 }
 
@@ -67,7 +69,20 @@ fn layout_numbers() -> Vec<Edit> {
             book.set_header(Header::Layout, layout);
         })
     };
-    [0, 2, 256, 257, 65_535].into_iter().map(edit).collect()
+    [0, 1, 3, 256, 258, 65_535].into_iter().map(edit).collect()
+}
+
+/// The book after case d in layout 1, and with the number of the one over the bytes of the other.
+fn other_layouts() -> [Vector; 2] {
+    let book = cases::after_d().book;
+    let mut narrow = vec![0; cases::SIZES.book_bytes_in(1)];
+    convert(Way::TwoToOne, &book, &mut narrow).expect("small counts");
+    let mut said_2 = narrow.clone();
+    Book::over(&mut said_2[..]).set_header(Header::Layout, 2);
+    [
+        refused("after-d-in-layout-1", narrow),
+        refused("layout-1-said-to-be-2", said_2),
+    ]
 }
 
 /// A fresh book of the wrong size, its length that of the sizes it names.

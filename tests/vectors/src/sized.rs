@@ -18,10 +18,10 @@ const fn sizes(blocks: u16, lbns: u16, slots: u16, records: u16) -> Sizes {
 
 const SMALLEST: Sizes = sizes(1, 1, 1, 1);
 const LARGEST: Sizes = sizes(4_096, 1_024, 1_024, 16_384);
-/// Books of 65,534, 65,536 and 65,538 bytes.
-const UNDER: Sizes = sizes(1_325, 1_000, 999, 2_501);
-const LONGEST: Sizes = sizes(1_325, 1_000, 1_000, 2_500);
-const OVER: Sizes = sizes(1_325, 1_000, 1_001, 2_499);
+/// Books of 65,535, 65,536 and 65,537 bytes.
+const UNDER: Sizes = sizes(1_325, 1_000, 1_000, 2_279);
+const LONGEST: Sizes = sizes(1_324, 1_000, 999, 2_284);
+const OVER: Sizes = sizes(1_325, 1_000, 1_001, 2_278);
 /// The last block at the last LBN of the largest book, in the place of itself.
 const LAST: Record = Record {
     lbn: Lbn(1_023),
@@ -29,7 +29,7 @@ const LAST: Record = Record {
     after: Pbn(4_095),
 };
 /// As many blocks as a book of at most 65,536 bytes has room for.
-const MOST_BLOCKS: Sizes = sizes(3_273, 1, 1, 1);
+const MOST_BLOCKS: Sizes = sizes(3_117, 1, 1, 1);
 
 pub fn vectors() -> Vec<Vector> {
     let mut vectors = books();
@@ -48,7 +48,7 @@ fn book_of(sizes: Sizes) -> Vec<u8> {
     for pbn in (0..sizes.blocks).step_by(3) {
         book.edit_entry(Pbn(pbn), |entry| {
             entry.state = HELD;
-            entry.count = if pbn % 5 == 0 { 0 } else { pbn as u8 };
+            entry.count = if pbn % 5 == 0 { 0 } else { pbn };
             entry.fingerprint[..2].copy_from_slice(&pbn.to_le_bytes());
         });
     }
@@ -62,7 +62,7 @@ fn fresh(sizes: Sizes) -> Vec<u8> {
 }
 
 /// All blocks held with this count.
-fn all_held(sizes: Sizes, count: u8) -> Vec<u8> {
+fn all_held(sizes: Sizes, count: u16) -> Vec<u8> {
     let mut bytes = fresh(sizes);
     let mut book = Book::over(&mut bytes[..]);
     for pbn in book.pbns() {
@@ -77,9 +77,24 @@ fn all_held(sizes: Sizes, count: u8) -> Vec<u8> {
     bytes
 }
 
+/// The longest page that tally prints: 65 bytes.
+fn longest_page() -> Vec<u8> {
+    let mut bytes = all_held(MOST_BLOCKS, 65_535);
+    let mut book = Book::over(&mut bytes[..]);
+    for pbn in (0..2_000).map(Pbn) {
+        book.edit_entry(pbn, |entry| {
+            entry.count = 0;
+            if pbn.0 < 1_000 {
+                entry.set_free();
+            }
+        });
+    }
+    bytes
+}
+
 /// The largest book with all slots and records used, its numbers at the ends of their ranges.
 fn largest_used(last: Record) -> Vec<u8> {
-    let mut bytes = all_held(LARGEST, 255);
+    let mut bytes = all_held(LARGEST, 65_535);
     let mut book = Book::over(&mut bytes[..]);
     book.set_header(Header::SlotsUsed, 1_024);
     book.set_header(Header::RecordsUsed, 16_384);
@@ -104,19 +119,21 @@ fn largest_used(last: Record) -> Vec<u8> {
 }
 
 fn books() -> Vec<Vector> {
-    assert_eq!(SMALLEST.book_bytes(), 86);
+    assert_eq!(SMALLEST.book_bytes(), 87);
+    assert_eq!(UNDER.book_bytes(), INPUT_MAX - 1);
     assert_eq!(LONGEST.book_bytes(), INPUT_MAX);
     let mut last_wrong = book_of(LONGEST);
     *last_wrong.last_mut().expect("not empty") = 1;
     vec![
         Vector::new("smallest", fresh(SMALLEST), Totals),
         Vector::new("smallest-held", all_held(SMALLEST, 1), Totals),
-        Vector::new("bytes-65534", book_of(UNDER), Totals),
+        Vector::new("bytes-65535", book_of(UNDER), Totals),
         Vector::new("bytes-65536", book_of(LONGEST), Totals),
         Vector::new("bytes-65536-last-byte-wrong", last_wrong, Refused2),
         Vector::new("most-blocks", book_of(MOST_BLOCKS), Totals),
         Vector::new("most-blocks-free", fresh(MOST_BLOCKS), Totals),
-        Vector::new("most-references", all_held(MOST_BLOCKS, 255), Totals),
+        Vector::new("most-references", all_held(MOST_BLOCKS, 65_535), Totals),
+        Vector::new("longest-page", longest_page(), Totals),
         Vector::new("most-waiting", all_held(MOST_BLOCKS, 0), Totals),
         Vector::new("most-lbns", book_of(sizes(2, 1_024, 1, 1)), Totals),
         Vector::new("most-slots", book_of(sizes(2, 1, 1_024, 1)), Totals),
@@ -125,16 +142,21 @@ fn books() -> Vec<Vector> {
 }
 
 fn long_inputs() -> Vec<Vector> {
+    assert_eq!(OVER.book_bytes(), INPUT_MAX + 1);
     let after_d = reference::cases::after_d().book;
     let padded = |mut book: Vec<u8>, length: usize| {
         book.resize(length, 0);
         book
     };
     vec![
-        Vector::new("bytes-65537", padded(book_of(LONGEST), 65_537), Refused1),
-        Vector::new("bytes-65538", book_of(OVER), Refused1),
+        Vector::new(
+            "bytes-65536-and-one",
+            padded(book_of(LONGEST), 65_537),
+            Refused1,
+        ),
+        Vector::new("bytes-65537", book_of(OVER), Refused1),
         Vector::new("bytes-131072", padded(book_of(LONGEST), 131_072), Refused1),
-        Vector::new("bytes-65812", padded(after_d, 65_536 + 276), Refused1),
+        Vector::new("bytes-65816", padded(after_d, 65_536 + 280), Refused1),
     ]
 }
 
@@ -169,7 +191,7 @@ fn long_books() -> Vec<(&'static str, Vec<u8>, Result<(), Refusal>)> {
 fn inputs_of_one_byte() -> Vec<Vector> {
     let mut vectors = Vec::new();
     for byte in [0, 1, 255] {
-        for length in [86, 276, INPUT_MAX] {
+        for length in [87, 280, INPUT_MAX] {
             let name = format!("only-{byte}-{length}");
             vectors.push(Vector::new(name, vec![byte; length], Refused1));
         }

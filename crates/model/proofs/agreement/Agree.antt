@@ -28,9 +28,13 @@ imagesOf m (b ∷ bs) =
     record { day = b .day; cells = applied m (b .records); changed = length (b .records) }
     ∷ imagesOf (applied m (b .records)) bs
 
--- how many cells of the current maps name block p
+-- the maps whose cells the counts count
+abbrev pub countedMaps : Book → List (List ℕ)
+countedMaps x = x .maps
+
+-- how many of their cells name block p
 unfoldable pub named : Book → ℕ → ℕ
-named x p = countOf (eqb p) (joined (x .maps))
+named x p = countOf (eqb p) (joined (countedMaps x))
 
 -- some backup that reaches day D has a record with before p
 unfoldable pub reaches : Book → ℕ → ℕ → Bool

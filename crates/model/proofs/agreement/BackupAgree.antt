@@ -1,5 +1,5 @@
--- A backup on both sides, from where they agree: refused by the same number, which is never 1 to 4 or 13, or accepted with the same
--- answer, and then both agree again. Entries that the changes don't name stay.
+-- A backup on both sides, from where they agree: refused by the same number, which is never 1 to 4, 13 or 14, or accepted with the
+-- same answer, and then both agree again. Entries that the changes don't name stay.
 use Prim.Native.Nat.{ℕ, zero, suc, _+_, _<_}
 use mathlib.Core.Path.{_≡_, refl, sym, ap, subst, _∙_}
 use mathlib.Core.Bool.{false, _&&_}
@@ -11,7 +11,7 @@ use Rattle.runs.specs.Changes.{changes, changeCount, lbns}
 use Rattle.book.specs.Book.{volumes, Book, entryAt, retentionOf}
 use Rattle.book.proofs.SizesIn.{sizes-facts}
 use Rattle.model.specs.Backup.{Work, Backed, begun, closed, runChanges, backupNumber, backup}
-use Rattle.model.specs.Plain.{Plain, currentMaps}
+use Rattle.model.specs.Plain.{Plain}
 use Rattle.model.specs.PlainBackup
 use Rattle.model.specs.PlainBackup.{PlainWork, PlainBacked}
 use Rattle.model.specs.Calls.{isBacked}
@@ -59,7 +59,7 @@ module _ {x : Book} {pool : List ℕ} {q : Plain} (g : Agree x pool q) (v t : �
 
   run-agree : Allowed x v t list → BothBacked x q v list
       (andThen (runChanges v (t + retentionOf x v) (changes list) (begun x pool)) (λ w. accepted (closed x v t (changeCount list) w)))
-      (andThen (PlainBackup.runChanges (currentMaps q) v (changes list) (PlainBackup.begun q v))
+      (andThen (PlainBackup.runChanges (changes list) (PlainBackup.begun q v))
       (λ u. accepted (PlainBackup.closed q v t (changeCount list) u)))
   run-agree ok =
       let inside = volume-inside x v (ok .volume) in
@@ -76,7 +76,7 @@ module _ {x : Book} {pool : List ℕ} {q : Plain} (g : Agree x pool q) (v t : �
 
       theirs : Outcome PlainBacked
       theirs =
-          andThen (PlainBackup.runChanges (currentMaps q) v (changes list) (PlainBackup.begun q v))
+          andThen (PlainBackup.runChanges (changes list) (PlainBackup.begun q v))
           (λ u. accepted (PlainBackup.closed q v t (changeCount list) u))
 
       go : (k : ℕ) → backupNumber x v t list ≡ k → BothBacked x q v list (unless k ours) (unless k theirs)
@@ -98,7 +98,7 @@ module _ {x : Book} {pool : List ℕ} {q : Plain} (g : Agree x pool q) (v t : �
       go o o′ (backed d′ e′ a) f m =
           subst (λ (b : Backed). entryAt (b .book .entries) p ≡ entryAt (x .entries) p) (accepted-same d′ d f) (a .touching p h m)
 
-  -- never 1 to 4 and never 13
+  -- never 1 to 4, never 13 and never 14
   pub backup-undamaged : (k : ℕ) → backup x pool v t list ≡ refused k → isDamage k ≡ false
   backup-undamaged k e = go (backup x pool v t list) (PlainBackup.backup q v t list) backup-agree e
     where

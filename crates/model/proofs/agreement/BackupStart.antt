@@ -18,13 +18,12 @@ use Rattle.runs.specs.Changes.{Change}
 use Rattle.book.specs.Book.{volumes, Book}
 use Rattle.book.specs.Form.{pbnOk}
 use Rattle.book.proofs.Clauses.{book-parts}
-use Rattle.book.proofs.SizesIn.{sizes-facts}
 use Rattle.model.specs.Backup.{begun, runChanges}
-use Rattle.model.specs.Plain.{Plain, volumeAt, current, currentMaps}
+use Rattle.model.specs.Plain.{Plain, volumeAt, current}
 use Rattle.model.specs.PlainBackup
 use Rattle.model.proofs.kept.Sound.{Sound}
 use Rattle.model.proofs.agreement.Agree.{Agree, named}
-use Rattle.model.proofs.agreement.AgreeLaws.{current-agree, maps-agree}
+use Rattle.model.proofs.agreement.AgreeLaws.{current-agree}
 use Rattle.model.proofs.form.ChangesFit.{changeFit}
 use Rattle.model.proofs.agreement.Level.{Level, namesIn}
 use Rattle.model.proofs.agreement.Trail.{Trail}
@@ -97,9 +96,6 @@ module _ {x : Book} {pool : List ℕ} {q : Plain} (g : Agree x pool q) (v : ℕ)
 
   -- all changes of a list, from where both sides agree
   pub changes-both : (until : ℕ) (cs : List Change) → all (changeFit (x .sizes .l)) cs ≡ true
-      → BothMoved x v until cs (runChanges v until cs (begun x pool)) (PlainBackup.runChanges (currentMaps q) v cs (PlainBackup.begun q v))
+      → BothMoved x v until cs (runChanges v until cs (begun x pool)) (PlainBackup.runChanges cs (PlainBackup.begun q v))
   changes-both until cs f =
-      let small = sizes-facts (x .sizes) (g .fit .sizes) in
-      rw (maps-agree g)
-      (run-both x v until (omega (arith, g .fit .sized .maps)) (omega arith) [] cs f (begun x pool)
-      (PlainBackup.begun q v) start-level (start-trail until))
+      run-both x v until (g .fit) h [] cs f (begun x pool) (PlainBackup.begun q v) start-level (start-trail until)

@@ -1,6 +1,6 @@
 -- Where both sides stand alike between two changes of a backup: the same blocks, the copy is our map, counts are cells. Placing keeps it,
--- and so do steps 3 and 4, which are refused by the same number.
-use Prim.Native.Nat.{ℕ, _+_, _<_}
+-- and so do steps 3 and 4, which nothing refuses: a count is at most the number of cells.
+use Prim.Native.Nat.{ℕ, _+_, _*_, _≤_, _<_}
 use mathlib.Core.Path.{_≡_, refl, sym, ap, subst, _∙_}
 use mathlib.Core.Logic.{_≢_}
 use mathlib.Core.Bool.{Bool, true, false, not, _&&_}
@@ -13,13 +13,16 @@ use borrow.Author.Tests.{eqb-true, eqb-false, eq-eqb, ne-eqb}
 use Rattle.words.specs.Blocks.{unmapped}
 use Rattle.words.specs.Choice.{if_then_else_}
 use Rattle.words.specs.Lists.{bit}
-use Rattle.words.proofs.Counting.{count-set, count-joined}
+use Rattle.words.proofs.Appends.{length-rows}
+use Rattle.words.proofs.Counting.{count-most, count-set, count-joined}
 use Rattle.words.specs.Lists.{countOf, joined}
-use Rattle.book.specs.Book.{Book, entryAt, cellAt}
+use Rattle.book.specs.Book.{volumes, Book, entryAt, cellAt, Sized}
 use Rattle.book.specs.Next.{withEntries, withMaps, withRecord, cellsWith}
+use Rattle.book.proofs.SizesIn.{sizes-facts}
 use Rattle.model.specs.Backup.{Work, lower, nameBlock, moveNumber, moved}
 use Rattle.model.specs.PlainBackup
 use Rattle.model.specs.PlainBackup.{PlainWork}
+use Rattle.model.proofs.agreement.Agree.{Fit}
 use Rattle.model.proofs.agreement.Placing.{Alike, PlacedAt}
 use Rattle.model.proofs.agreement.Moving.{length-moved, moved-blocks, lower-count, moved-count}
 
@@ -32,6 +35,19 @@ pub names-set : (ms : List (List ℕ)) (v : ℕ) (m : List ℕ) (i b q : ℕ) �
     → namesIn ms v (set m i b) q + bit (eqb q (getD m i unmapped)) ≡ namesIn ms v m q + bit (eqb q b)
 names-set ms v m i b q h k =
     omega (arith, count-joined (eqb q) ms v (set m i b) h, count-joined (eqb q) ms v m h, count-set (eqb q) m i b unmapped k)
+
+-- "Eight maps of 1,024 cells can't pass 8,192" (document 02, K3), whichever map of L cells volume v has
+pub named-bound : (x : Book) → Sized x → (v : ℕ) (m : List ℕ) (q : ℕ) → v < volumes → length m ≡ x .sizes .l
+    → namesIn (x .maps) v m q ≤ volumes * x .sizes .l
+named-bound x s v m q h e =
+    let rows : length (set (x .maps) v m) ≡ volumes = length-set (x .maps) v m ∙ s .maps in
+    let cells : length (joined (set (x .maps) v m)) ≡ volumes * x .sizes .l =
+    length-rows (x .sizes .l) (set (x .maps) v m) (λ r k. row r (eqb r v) refl (omega arith)) ∙ ap (λ n. n * x .sizes .l) rows in
+    omega (arith, count-most (eqb q) (joined (set (x .maps) v m)))
+  where
+    row : (r : ℕ) (t : Bool) → eqb r v ≡ t → r < volumes → length (getD (set (x .maps) v m) r []) ≡ x .sizes .l
+    row r true f k = rw (eqb-true r v f, getD-set-same (x .maps) v m [] (rw (s .maps) h)) e
+    row r false f k = rw (getD-set-other (x .maps) v r m [] (eqb-false r v f)) (s .cells r k)
 
 -- x is the book at the backup's start
 pub record Level (x : Book) (v : ℕ) (w : Work) (u : PlainWork) : Type 0 where
@@ -84,25 +100,32 @@ module _ (x : Book) (v : ℕ) (inside : v < length (x .maps)) (small : x .sizes 
         lower-count until before p (w .book .entries) q (omega arith) (before-inside x v lbn w u a)
         ∙ omega (arith, a .counts q k, out q k)
 
-    some-left : before ≢ unmapped → eqb (entryAt (w .book .entries) before .count) 0 ≡ false
-    some-left z =
-        let k : before < x .sizes .n = a .cells lbn z in
+    some-left : (t : Bool) → eqb before unmapped ≡ t → (not t && eqb (entryAt (w .book .entries) before .count) 0) ≡ false
+    some-left true e = refl
+    some-left false e =
+        let k : before < x .sizes .n = a .cells lbn (eqb-false before unmapped e) in
         ne-eqb (entryAt (w .book .entries) before .count) 0 (λ (e : entryAt (w .book .entries) before .count ≡ 0).
         omega (arith, a .counts before k, out before k, ap bit (eq-eqb before before refl)))
 
-    -- never 13
-    pub number-same : moveNumber until before p (w .book .entries)
-        ≡ (if eqb (namesIn (x .maps) v (set (u .copy) lbn unmapped) p) 255 then 14 else 0)
+    -- the found block, this cell's before taken out
+    few-cells : Fit x → entryAt (lower until before (w .book .entries)) p .count ≤ 8192
+    few-cells fit =
+        omega (
+          arith,
+          lowered-is p h,
+          named-bound x (fit .sized) v (set (u .copy) lbn unmapped) p (omega (arith, fit .sized .maps))
+              (length-set (u .copy) lbn unmapped ∙ a .width),
+          sizes-facts (x .sizes) (fit .sizes) .l,
+        )
+
+    -- never 13, and never 14
+    pub never-refused : Fit x → moveNumber until before p (w .book .entries) ≡ 0
     unfolding moveNumber
-    number-same = go (eqb before unmapped) refl
-      where
-        go : (t : Bool) → eqb before unmapped ≡ t →
-            _≡_ {A = ℕ}
-            (if not t && eqb (entryAt (w .book .entries) before .count) 0 then 13 else
-            if eqb (entryAt (lower until before (w .book .entries)) p .count) 255 then 14 else 0)
-            (if eqb (namesIn (x .maps) v (set (u .copy) lbn unmapped) p) 255 then 14 else 0)
-        go true e = rw (lowered-is p h)
-        go false e = rw (some-left (eqb-false before unmapped e), lowered-is p h)
+    never-refused fit =
+        rw (
+          some-left (eqb before unmapped) refl,
+          ne-eqb (entryAt (lower until before (w .book .entries)) p .count) 65535 (λ e. omega (arith, few-cells fit)),
+        )
 
     cell-in : (j : ℕ) (t : Bool) → eqb j lbn ≡ t → getD (set (u .copy) lbn p) j unmapped ≢ unmapped
         → getD (set (u .copy) lbn p) j unmapped < x .sizes .n

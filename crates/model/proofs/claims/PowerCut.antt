@@ -27,8 +27,8 @@ use Rattle.model.specs.Claims.{Fresh, plainAnswers, plainEnd}
 use Rattle.model.specs.History.{historyOf, dayOf}
 use Rattle.model.specs.OnBytes.{CollectedBytes, backedBytes, enrolBytes, collectBytes}
 use Rattle.model.proofs.form.OnBytesFit.{backup-on-bytes}
-use Rattle.model.specs.Plain.{Block, free, held, Plain, start, currentMaps, atDay, withBlocks, withVolume}
-use Rattle.model.specs.PlainBackup.{PlainWork, place, moveNumber, moved, moveTo, changeStep, runChanges, begun, closed, backupNumber}
+use Rattle.model.specs.Plain.{Block, free, held, Plain, start, atDay, withBlocks, withVolume}
+use Rattle.model.specs.PlainBackup.{PlainWork, place, moved, changeStep, runChanges, begun, closed, backupNumber}
 use Rattle.model.specs.PlainBackup.{PlainBacked}
 use Rattle.model.specs.PlainBackup
 use Rattle.model.proofs.plain.PlainPlacing.{Grown, grown-self, grown-then, place-placed}
@@ -89,31 +89,28 @@ stand-serves pool′ (stand x pool q g e) s =
 
 -- ---- a backup of the plain store leaves its held blocks
 
-change-grown : (maps : List (List ℕ)) (v : ℕ) (c : Change) (w w′ : PlainWork) → changeStep maps v c w ≡ accepted w′
-    → Grown (w .blocks) (w′ .blocks)
-unfolding changeStep moveTo moved
-change-grown maps v c w w′ e =
-    let p = then-accepted (place c w) (moveTo maps v (c .lbn)) w′ e in
-    let m = unless-accepted (moveNumber maps v (c .lbn) (p .0)) (accepted (moved (c .lbn) (p .0))) w′ (p .2) in
-    let same = accepted-same (moved (c .lbn) (p .0)) w′ (m .1) in
+change-grown : (c : Change) (w w′ : PlainWork) → changeStep c w ≡ accepted w′ → Grown (w .blocks) (w′ .blocks)
+unfolding changeStep moved
+change-grown c w w′ e =
+    let p = then-accepted (place c w) (λ d. accepted (moved (c .lbn) d)) w′ e in
+    let same = accepted-same (moved (c .lbn) (p .0)) w′ (p .2) in
     rw (← (ap (λ (w : PlainWork). w .blocks) same)) (place-placed c w (p .0) (p .1) .grown)
 
-run-grown : (maps : List (List ℕ)) (v : ℕ) (cs : List Change) (w w′ : PlainWork) → runChanges maps v cs w ≡ accepted w′
-    → Grown (w .blocks) (w′ .blocks)
-run-grown maps v [] w w′ e = rw (← (accepted-same w w′ e)) (grown-self (w .blocks))
-run-grown maps v (c ∷ cs) w w′ e =
-    let p = then-accepted (changeStep maps v c w) (λ u. runChanges maps v cs u) w′ e in
-    grown-then (change-grown maps v c w (p .0) (p .1)) (run-grown maps v cs (p .0) w′ (p .2))
+run-grown : (cs : List Change) (w w′ : PlainWork) → runChanges cs w ≡ accepted w′ → Grown (w .blocks) (w′ .blocks)
+run-grown [] w w′ e = rw (← (accepted-same w w′ e)) (grown-self (w .blocks))
+run-grown (c ∷ cs) w w′ e =
+    let p = then-accepted (changeStep c w) (λ u. runChanges cs u) w′ e in
+    grown-then (change-grown c w (p .0) (p .1)) (run-grown cs (p .0) w′ (p .2))
 
 backup-grown : (q : Plain) (v t : ℕ) (list : List ℕ) (d : PlainBacked) → PlainBackup.backup q v t list ≡ accepted d
     → Grown (q .blocks) (d .store .blocks)
 unfolding PlainBackup.backup begun closed atDay withBlocks withVolume
 backup-grown q v t list d e =
-    let o = runChanges (currentMaps q) v (changes list) (begun q v) in
+    let o = runChanges (changes list) (begun q v) in
     let f = unless-accepted (backupNumber q v t list) (andThen o (λ w. accepted (closed q v t (changeCount list) w))) d e in
     let p = then-accepted o (λ w. accepted (closed q v t (changeCount list) w)) d (f .1) in
     let same = accepted-same (closed q v t (changeCount list) (p .0)) d (p .2) in
-    rw (← (ap (λ (b : PlainBacked). b .store .blocks) same)) (run-grown (currentMaps q) v (changes list) (begun q v) (p .0) (p .1))
+    rw (← (ap (λ (b : PlainBacked). b .store .blocks) same)) (run-grown (changes list) (begun q v) (p .0) (p .1))
 
 -- ---- so does a backup on our side
 

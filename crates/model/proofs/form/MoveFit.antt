@@ -32,7 +32,7 @@ use Rattle.model.proofs.form.WorkFit.{WorkFit, PlacedFit}
 move-passed : (until before p : ℕ) (es : List Entry) → moveNumber until before p es ≡ 0 → before ≢ unmapped → entryAt es before .count ≢ 0
 unfolding moveNumber
 move-passed until before p es e mapped =
-    go (eqb before unmapped) (eqb (entryAt es before .count) 0) (eqb (entryAt (lower until before es) p .count) 255) refl refl e
+    go (eqb before unmapped) (eqb (entryAt es before .count) 0) (eqb (entryAt (lower until before es) p .count) 65535) refl refl e
   where
     go : (a b c : Bool) → eqb before unmapped ≡ a → eqb (entryAt es before .count) 0 ≡ b
         → _≡_ {A = ℕ} (if not a && b then 13 else if c then 14 else 0) 0 → entryAt es before .count ≢ 0

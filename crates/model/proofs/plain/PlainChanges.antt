@@ -8,12 +8,12 @@ use lib.Dec.{eqb}
 use lib.ListN.{length, length-set}
 use Rattle.words.specs.Blocks.{unmapped}
 use Rattle.words.specs.Choice.{if_then_else_}
-use Rattle.words.specs.Lists.{orElse, same}
+use Rattle.words.specs.Lists.{orElse}
 use Rattle.words.specs.Outcome.{accepted}
-use Rattle.words.proofs.Accepted.{unless-accepted, then-accepted}
+use Rattle.words.proofs.Accepted.{then-accepted, accepted-same}
 use Rattle.runs.specs.Changes.{Change}
 use Rattle.model.specs.Plain.{Block}
-use Rattle.model.specs.PlainBackup.{PlainWork, PlainPlaced, place, moveNumber, moved, moveTo, changeStep, runChanges}
+use Rattle.model.specs.PlainBackup.{PlainWork, PlainPlaced, place, moved, changeStep, runChanges}
 use Rattle.model.specs.History.{lastBlock}
 use Rattle.model.proofs.plain.HistoryLaws.{or-else-else}
 use Rattle.model.proofs.plain.PlainShows.{Maps, Carries, changed, maps-same, carries-same, carries-over, maps-set, carries-set}
@@ -56,22 +56,20 @@ module _ (l : ℕ) (bs : List Block) (room : length bs ≤ unmapped) where
     carries = carries-same l (w .copy) (w .copy) s s′ refl f (w .blocks) (a .carries);
   }
 
-  step-copies : (maps : List (List ℕ)) (v : ℕ) (s : ℕ → Option (List ℕ)) (c : Change) (w w′ : PlainWork) → Copies l bs s w
-      → changeStep maps v c w ≡ accepted w′ → Copies l bs (changed (c .lbn) (c .block) s) w′
-  unfolding changeStep moveTo
-  step-copies maps v s c w w′ a e =
-      let p = then-accepted (place c w) (moveTo maps v (c .lbn)) w′ e in
-      let m = unless-accepted (moveNumber maps v (c .lbn) (p .0)) (accepted (moved (c .lbn) (p .0))) w′ (p .2) in
-      let same : moved (c .lbn) (p .0) ≡ w′ = let z = m .1 in cc in
-      subst (λ (x : PlainWork). Copies l bs (changed (c .lbn) (c .block) s) x) same
+  step-copies : (s : ℕ → Option (List ℕ)) (c : Change) (w w′ : PlainWork) → Copies l bs s w → changeStep c w ≡ accepted w′
+      → Copies l bs (changed (c .lbn) (c .block) s) w′
+  unfolding changeStep
+  step-copies s c w w′ a e =
+      let p = then-accepted (place c w) (λ d. accepted (moved (c .lbn) d)) w′ e in
+      subst (λ (x : PlainWork). Copies l bs (changed (c .lbn) (c .block) s) x) (accepted-same (moved (c .lbn) (p .0)) w′ (p .2))
       (move-copies s c w (p .0) a (place-placed c w (p .0) (p .1)))
 
   -- the copy shows what the changes sent last, or else what it showed
-  pub run-copies : (maps : List (List ℕ)) (v : ℕ) (cs : List Change) (s : ℕ → Option (List ℕ)) (w w′ : PlainWork) → Copies l bs s w
-      → runChanges maps v cs w ≡ accepted w′ → Copies l bs (sentOver cs s) w′
-  run-copies maps v [] s w w′ a e = subst (λ (x : PlainWork). Copies l bs s x) (cc) a
-  run-copies maps v (c ∷ cs) s w w′ a e =
-      let r = then-accepted (changeStep maps v c w) (λ x. runChanges maps v cs x) w′ e in
-      let ih = run-copies maps v cs (changed (c .lbn) (c .block) s) (r .0) w′ (step-copies maps v s c w (r .0) a (r .1)) (r .2) in
+  pub run-copies : (cs : List Change) (s : ℕ → Option (List ℕ)) (w w′ : PlainWork) → Copies l bs s w → runChanges cs w ≡ accepted w′
+      → Copies l bs (sentOver cs s) w′
+  run-copies [] s w w′ a e = subst (λ (x : PlainWork). Copies l bs s x) (cc) a
+  run-copies (c ∷ cs) s w w′ a e =
+      let r = then-accepted (changeStep c w) (λ x. runChanges cs x) w′ e in
+      let ih = run-copies cs (changed (c .lbn) (c .block) s) (r .0) w′ (step-copies s c w (r .0) a (r .1)) (r .2) in
       copies-same (sentOver cs (changed (c .lbn) (c .block) s)) (sentOver (c ∷ cs) s) w′
       (λ lbn. or-else-else (lastBlock lbn cs) (if eqb (c .lbn) lbn then some (c .block) else none) (s lbn)) ih

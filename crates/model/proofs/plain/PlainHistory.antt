@@ -15,7 +15,7 @@ use Rattle.book.specs.Book.{volumes}
 use Rattle.model.specs.Days.{badDay, notAfter, badRetention}
 use Rattle.model.proofs.kept.DayLaws.{good-day}
 use Rattle.model.specs.Plain
-use Rattle.model.specs.Plain.{Plain, withVolume, volumeAt, isEnrolled, daysOf, currentMaps, collected, enrolNumber, collectNumber}
+use Rattle.model.specs.Plain.{Plain, withVolume, volumeAt, isEnrolled, daysOf, collected, enrolNumber, collectNumber}
 use Rattle.model.specs.PlainBackup
 use Rattle.model.specs.PlainBackup.{PlainWork, PlainBacked, backupNumber, runChanges, begun, closed}
 use Rattle.model.specs.Calls.{Call, enrol, backup, collect, read, audit}
@@ -107,7 +107,7 @@ module _ {l d : ℕ} {q : Plain} {h : ℕ → History} (a : AllRecall l d q h) w
     unfolding plainBacked
     refused-step k = not-noted v (λ w. withSent (record { day = t; changes = changes list }) (h w)) false refl
 
-    run-step : backupNumber q v t list ≡ 0 → (o : Outcome PlainWork) → runChanges (currentMaps q) v (changes list) (begun q v) ≡ o
+    run-step : backupNumber q v t list ≡ 0 → (o : Outcome PlainWork) → runChanges (changes list) (begun q v) ≡ o
         → Backs (andThen o (λ w. accepted (closed q v t (changeCount list) w)))
     unfolding plainBacked
     run-step e (refused k) f = refused-step k
@@ -116,7 +116,7 @@ module _ {l d : ℕ} {q : Plain} {h : ℕ → History} (a : AllRecall l d q h) w
         backup-recalls a v t (changeCount list) (changes list) w (rw (← (a .day)) (b .2)) (b .0) (b .1) f
 
     abbrev ran : Outcome PlainWork
-    ran = runChanges (currentMaps q) v (changes list) (begun q v)
+    ran = runChanges (changes list) (begun q v)
 
     backup-step : Backs (PlainBackup.backup q v t list)
     unfolding PlainBackup.backup

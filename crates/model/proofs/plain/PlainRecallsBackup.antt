@@ -18,7 +18,7 @@ use Rattle.words.specs.Outcome.{accepted}
 use Rattle.runs.specs.Changes.{Change}
 use Rattle.book.specs.Book.{volumes}
 use Rattle.model.specs.Days.{kept}
-use Rattle.model.specs.Plain.{Block, Image, Volume, Plain, atDay, withBlocks, withVolume, volumeAt, daysOf, current, currentMaps}
+use Rattle.model.specs.Plain.{Block, Image, Volume, Plain, atDay, withBlocks, withVolume, volumeAt, daysOf, current}
 use Rattle.model.specs.PlainBackup.{PlainWork, runChanges, begun, withImage, closed}
 use Rattle.model.specs.History.{Sent, History, withSent, sentBlock}
 use Rattle.model.proofs.kept.DayLaws.{kept-newest}
@@ -153,7 +153,7 @@ module _ {l d : ℕ} {q : Plain} {h : ℕ → History} (a : AllRecall l d q h) (
         }
 
   pub backup-recalls : (t n : ℕ) (cs : List Change) (w : PlainWork) → d ≤ t → v < volumes → (volumeAt q v .retention ≡ 0 → ⊥)
-      → runChanges (currentMaps q) v cs (begun q v) ≡ accepted w
+      → runChanges cs (begun q v) ≡ accepted w
       → AllRecall l t (closed q v t n w .store) (λ x. if eqb v x && true then withSent (record { day = t; changes = cs }) (h x) else h x)
   backup-recalls t n cs w later inside used e =
-      closed-recalls t n cs w later (run-copies l (q .blocks) (a .room) (currentMaps q) v cs was (begun q v) w begun-copies e) inside used
+      closed-recalls t n cs w later (run-copies l (q .blocks) (a .room) cs was (begun q v) w begun-copies e) inside used

@@ -1,4 +1,4 @@
--- `tally`: a book in form holds its book, and 64 bytes are enough for its page.
+-- `tally`: a book in form holds its book, and its page has room.
 use Prim.Native.Nat.{_≤_}
 use mathlib.Core.Path.{sym, _∙_}
 use native.Mathlib.Nat.{zero-add}
@@ -6,7 +6,7 @@ use native.Mathlib.Omega.{arith}
 use lib.ListN.{length}
 use borrow.Author.Needs.{needs}
 use Rattle.book.specs.Layout.{Holds}
-use Rattle.pages.specs.Pages.{countsPage}
+use Rattle.pages.specs.Pages.{countsPage, pageRoom}
 use Rattle.pages.proofs.PageLaws.{number-small, refused-page, counted-page, refused-fits, counts-fit, written}
 use Rattle.pages.proofs.PageLaws.{accepted-holds}
 use Rattle.pages.proofs.tally.Statement.{statement}
@@ -40,7 +40,7 @@ count-entries-requires c κs = holds (c .before .before)
 
 -- the page of the counts has room, and is the book's
 fits : (c : tie.After-count-entries)
-    → length (countsPage (c .before .before .blocks2 .result) (c .count-entries .result)) ≤ 64
+    → length (countsPage (c .before .before .blocks2 .result) (c .count-entries .result)) ≤ pageRoom
 fits c =
     let k = c .before .before in
     counts-fit _ _ (omega (arith, k .blocks2 .ensures, holds (k .before) .n)) (c .count-entries .ensures .1)

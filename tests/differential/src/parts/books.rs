@@ -10,7 +10,7 @@ use reference::prng::Prng;
 use reference::store::Run;
 use vectors::{edited, Edit, Vector};
 
-use super::{play, restores, views, Job};
+use super::{converts, play, restores, views, Job};
 use crate::outcome::Outcome;
 use crate::request::Request;
 
@@ -30,6 +30,7 @@ pub fn vectors() -> Vec<Job> {
                 let label = || format!("vector {}", vector.name);
                 send_all(outcome, &label, &vector.book);
                 views::send_all(outcome, &label, &vector.book, &[0, 1, 7]);
+                converts::send_all(outcome, &label, &vector.book);
             }
         })
     };
@@ -51,6 +52,7 @@ pub fn pairs() -> Vec<Job> {
                     let book = edited(&[first, second]);
                     send_all(outcome, &label, &book);
                     views::send_all(outcome, &label, &book, &[0]);
+                    converts::send_exact(outcome, &label, &book);
                 }
             }
         })

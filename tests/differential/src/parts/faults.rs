@@ -5,10 +5,11 @@ use reference::cases;
 use reference::layout::{Book, Header, Pbn};
 use reference::play::encode;
 use reference::prng::Prng;
-use reference::store::{self, Run};
+use reference::random_books::narrowed;
+use reference::store::{self, Run, Way};
 use reference::view::View;
 
-use super::{play, restores, views, Job};
+use super::{converts, play, restores, views, Job};
 use crate::outcome::Outcome;
 use crate::request::Request;
 use crate::seen::{equal, Seen};
@@ -25,6 +26,8 @@ const VOLUME: &[u16] = &[1, 2, 5];
 const VOLUME_ROWS: &[u16] = &[1, 2, 5, 20];
 const BLOCK_ROWS: &[u16] = &[1, 2, 20];
 const PLAY: &[u16] = &[19, 20];
+const CONVERT_1_2: &[u16] = &[1, 2, 4];
+const CONVERT_2_1: &[u16] = &[1, 2, 4, 22];
 
 const PART: &str = "sets of faults";
 
@@ -44,6 +47,7 @@ pub fn jobs() -> Vec<Job> {
     jobs.push(Job::new(PART, send_books));
     jobs.push(Job::new(PART, send_views));
     jobs.push(Job::new(PART, send_lists));
+    jobs.push(Job::new(PART, send_converts));
     jobs
 }
 
@@ -124,6 +128,25 @@ fn send_lists(outcome: &mut Outcome) {
     }
 }
 
+/// Converters, with an output that is a byte short for 4, and with every kind of 1.
+fn send_converts(outcome: &mut Outcome) {
+    let mut prng = Prng::seeded(0);
+    for way in Way::ALL {
+        let numbers = match way {
+            Way::OneToTwo => CONVERT_1_2,
+            Way::TwoToOne => CONVERT_2_1,
+        };
+        for faults in sets(numbers) {
+            for book in faults.books(way) {
+                let room = cases::SIZES.book_bytes_in(way.to()) - usize::from(faults.has(4));
+                let sent = (&book[..], way);
+                let seen = converts::send(outcome, &mut prng, &faults.label(), sent, room);
+                check_first(outcome, &faults, seen);
+            }
+        }
+    }
+}
+
 fn send(outcome: &mut Outcome, prng: &mut Prng, faults: &Faults, request: Request) {
     let seen = outcome.compare(prng, &faults.label(), request);
     check_first(outcome, faults, seen);
@@ -170,7 +193,10 @@ impl Faults {
             book.edit_entry(Pbn(1), |entry| entry.count = 0);
         }
         if self.has(14) {
-            book.edit_entry(Pbn(2), |entry| entry.count = 255);
+            book.edit_entry(Pbn(2), |entry| entry.count = 65_535);
+        }
+        if self.has(22) {
+            book.edit_entry(Pbn(2), |entry| entry.count = 256);
         }
         if self.has(16) {
             book.set_header(Header::Day, 13);
@@ -238,6 +264,35 @@ impl Faults {
             restores.push((none, 0));
         }
         restores
+    }
+
+    /// The book in the layout that the converter takes, broken for 1 in each way.
+    fn books(&self, way: Way) -> Vec<Vec<u8>> {
+        let without_1 = Faults(self.0.iter().copied().filter(|&n| n != 1).collect());
+        let wide = without_1.stored().book;
+        let book = match way {
+            Way::OneToTwo => narrowed(&wide).expect("a book of layout 2"),
+            Way::TwoToOne => wide,
+        };
+        if !self.has(1) {
+            return vec![book];
+        }
+        let numbered = |layout| {
+            let mut book = book.clone();
+            Book::over(&mut book[..]).set_header(Header::Layout, layout);
+            book
+        };
+        let mut longer = book.clone();
+        longer.push(0);
+        let shorter = book[..book.len() - 1].to_vec();
+        vec![
+            numbered(0),
+            numbered(way.to()),
+            numbered(3),
+            numbered(256 + way.from()),
+            longer,
+            shorter,
+        ]
     }
 
     fn enrol(&self) -> Call {

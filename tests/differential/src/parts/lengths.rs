@@ -4,10 +4,11 @@ use reference::call::{Call, Stored};
 use reference::cases;
 use reference::play::encode;
 use reference::prng::Prng;
-use reference::store::Run;
+use reference::random_books::narrowed;
+use reference::store::{Run, Way};
 use reference::view::View;
 
-use super::{play, restores, views, Job};
+use super::{converts, play, restores, views, Job};
 use crate::outcome::Outcome;
 use crate::request::{Request, WriteList};
 
@@ -25,6 +26,7 @@ pub fn jobs() -> Vec<Job> {
     let writer_jobs = (0..4).map(|buffer| Job::new(PART, move |o| send_writer(o, buffer)));
     let mut jobs: Vec<Job> = box_jobs.chain(writer_jobs).collect();
     jobs.push(Job::new(PART, send_outputs));
+    jobs.push(Job::new(PART, send_converts));
     jobs
 }
 
@@ -126,6 +128,25 @@ fn send_outputs(outcome: &mut Outcome) {
     let label = || "lengths, a restore of 65,535 blocks".to_string();
     let sent = (sent.0, longest);
     restores::send(outcome, &mut prng, &label, sent, longest.bytes());
+}
+
+/// The converters on the book after case d, with book and output resized.
+fn send_converts(outcome: &mut Outcome) {
+    let mut prng = Prng::seeded(0);
+    let wide = cases::after_d().book;
+    let narrow = narrowed(&wide).expect("a book of layout 2");
+    for (way, book) in [(Way::OneToTwo, &narrow), (Way::TwoToOne, &wide)] {
+        let exact = way.output_bytes(book);
+        for room in lengths(exact).into_iter().chain([book.len(), exact - 4]) {
+            let label = || format!("lengths, a converter's output of {room} bytes");
+            converts::send(outcome, &mut prng, &label, (book, way), room);
+        }
+        for length in lengths(book.len()).into_iter().chain([2, 10, exact]) {
+            let book = &resized(book, length);
+            let label = || format!("lengths, a book of {length} bytes to convert");
+            converts::send(outcome, &mut prng, &label, (book, way), exact);
+        }
+    }
 }
 
 /// The aid's writer with marks, fingerprints, image or output resized.

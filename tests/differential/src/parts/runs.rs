@@ -15,13 +15,16 @@ use reference::store::Run;
 use reference::view::View;
 
 use super::tested::Tested;
-use super::{restores, views, Job};
+use super::{converts, restores, views, Job};
 use crate::outcome::Outcome;
 use crate::request::Request;
 use crate::seen::{equal, Seen};
 
 /// All volumes, and one that there isn't.
 const ALL_VOLUMES: &[u16] = &[0, 1, 2, 3, 4, 5, 6, 7, 8];
+
+/// The numbers that no call gives on a book that calls have made.
+const DAMAGE: [u16; 4] = [1, 2, 13, 14];
 
 pub fn jobs(shape: Shape, seeds: Range<u64>) -> Vec<Job> {
     let part = match shape {
@@ -30,7 +33,7 @@ pub fn jobs(shape: Shape, seeds: Range<u64>) -> Vec<Job> {
         Shape::TinyPool => "runs, tiny pools",
         Shape::FewSlots => "runs, few slots",
         Shape::ShortJournal => "runs, short journals",
-        Shape::FullCounts => "runs, counts up to 255",
+        Shape::WideCounts => "runs, counts above 255",
         Shape::Pieces => "runs, rows in several runs of a list",
         Shape::AnySizes => "runs, any sizes",
         Shape::LongLists => "runs, long lists",
@@ -49,8 +52,8 @@ fn run(outcome: &mut Outcome, shape: Shape, seed: u64) {
     let Some(mut tested) = tested else { return };
     let mut plain = Plain::new(sizes);
     let mut history = History::new(sizes.lbns);
-    // Restores have a generator of their own, and the calls go on as they would.
-    let mut drawn = Prng::seeded(!seed);
+    // Restores and converters have generators of their own, and the calls go on as they would.
+    let [mut drawn, mut converted] = [!seed, seed ^ 0xC0].map(Prng::seeded);
     for index in 0..shape.calls() {
         let label = || format!("run {shape:?} {seed}, call {index}");
         let call = calls.next_call();
@@ -58,6 +61,7 @@ fn run(outcome: &mut Outcome, shape: Shape, seed: u64) {
         let run = calls.restore(&mut drawn);
         views::send_any(outcome, &mut prng, &label, &tested.0.book, view);
         restores::send_past(outcome, &mut drawn, &label, (&tested.0, run), &history);
+        converts::send_any(outcome, &mut converted, &label, &tested.0.book);
         if prng.once_in(2) {
             send_disturbed(outcome, &mut prng, &label, &tested.0, (&call, view));
             send_run_disturbed(outcome, &mut drawn, &label, (&tested.0, run));
@@ -73,15 +77,14 @@ fn run(outcome: &mut Outcome, shape: Shape, seed: u64) {
             Answer::Freed(_) => &[prng.pick(ALL_VOLUMES)],
             _ => &[],
         };
-        if !volumes.is_empty() {
-            send_plain(outcome, &mut prng, &label, (&tested.0, &plain), volumes);
-        }
+        send_plain(outcome, &mut prng, &label, (&tested.0, &plain), volumes);
         calls.learn(&call, &answer);
         history.note(&call, &answer);
     }
 }
 
-/// The box has what the plain store has, and so it is counted and shown, with these volumes.
+/// The box has what the plain store has, and so it is counted and shown, with these volumes. Without
+/// volumes nothing is looked at.
 fn send_plain(
     outcome: &mut Outcome,
     prng: &mut Prng,
@@ -89,6 +92,9 @@ fn send_plain(
     (stored, plain): (&Stored, &Plain),
     volumes: &[u16],
 ) {
+    if volumes.is_empty() {
+        return;
+    }
     let Stored { book, pool, .. } = stored;
     outcome.check(label, agreement::check(book, pool, plain));
     send_count(outcome, prng, label, book, plain);
@@ -115,13 +121,15 @@ fn send_count(
     }
 }
 
-/// The archive answered as the plain store did.
-fn answers_agree(answer: &Answer, seen: &Seen, pool: &[u8]) -> Result<(), String> {
+/// The archive answered as the plain store did, and by no number of damage.
+pub fn answers_agree(answer: &Answer, seen: &Seen, pool: &[u8]) -> Result<(), String> {
     let number = match answer {
         Answer::Refused(refusal) => refusal.number(),
         _ => 0,
     };
     equal("the number", seen.number, number)?;
+    let damaged = DAMAGE.contains(&seen.number);
+    equal("a number of damage", damaged, false)?;
     let expected = match answer {
         Answer::Refused(_) | Answer::Enrolled => return Ok(()),
         Answer::BackedUp(b) => vec![b.number, b.taken, b.touched],

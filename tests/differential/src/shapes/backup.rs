@@ -50,18 +50,49 @@ impl<'a> Backup<'a> {
     }
 
     /// Of the blocks and cells of an accepted backup.
-    pub fn change_shapes(&self) -> [Shape; 9] {
-        let full_again = self.again_when_full();
+    pub fn change_shapes(&self) -> [Shape; 8] {
         [
             ("1,024 changes", self.added.len() == 1_024),
             ("a block that another volume has too", self.shares()),
             ("a cell's own block again", self.added.iter().any(again)),
-            ("a cell's own block again at count 255", full_again),
-            ("a count comes to 255", self.fills_a_count()),
             ("an expiry stays, being the larger", self.leaves_an_expiry()),
             ("the cursor goes round", self.goes_round()),
             ("a freed block is taken again", self.takes_again()),
             ("the last free block is taken", self.fills_the_pool()),
+            ("300 equal cells", self.equal_cells() >= 300),
+        ]
+    }
+
+    /// Of the counts that an accepted backup changes.
+    pub fn count_shapes(&self) -> [Shape; 6] {
+        let moved = |from: fn(u16) -> bool, to: fn(u16) -> bool| {
+            let mut named = self.added.iter().flat_map(|r| [r.before, r.after]);
+            named.any(|pbn| {
+                let count = |book: &View| book.entry(pbn).count;
+                pbn != UNMAPPED && from(count(&self.before)) && to(count(&self.after))
+            })
+        };
+        let full = |record: &Record| self.before.entry(record.after).count == u16::MAX;
+        let mut again_when_full = self.added.iter().filter(|record| again(record));
+        [
+            ("a count above 255", moved(|_| true, |to| to > 255)),
+            (
+                "a count passes 255",
+                moved(|from| from <= 255, |to| to > 255),
+            ),
+            (
+                "a count falls to 255",
+                moved(|from| from > 255, |to| to <= 255),
+            ),
+            ("a count of 8,192", moved(|_| true, |to| to == 8_192)),
+            (
+                "a count comes to 65,535",
+                moved(|from| from < u16::MAX, |to| to == u16::MAX),
+            ),
+            (
+                "a cell's own block again at count 65,535",
+                again_when_full.any(full),
+            ),
         ]
     }
 
@@ -124,16 +155,12 @@ impl<'a> Backup<'a> {
         others.any(|volume| self.after.map(volume).contains(&record.after))
     }
 
-    fn again_when_full(&self) -> bool {
-        let full = |record: &Record| self.before.entry(record.after).count == u8::MAX;
-        let mut added = self.added.iter();
-        added.any(|record| again(record) && full(record))
-    }
-
-    fn fills_a_count(&self) -> bool {
-        let full = |book: &View, record: &Record| book.entry(record.after).count == u8::MAX;
-        let mut added = self.added.iter();
-        added.any(|record| !full(&self.before, record) && full(&self.after, record))
+    /// How many changes bring the block that most of them bring.
+    fn equal_cells(&self) -> usize {
+        let mut blocks: Vec<u16> = self.added.iter().map(|record| record.after.0).collect();
+        blocks.sort_unstable();
+        let equal = blocks.chunk_by(|one, other| one == other);
+        equal.map(<[u16]>::len).max().unwrap_or(0)
     }
 
     fn leaves_an_expiry(&self) -> bool {

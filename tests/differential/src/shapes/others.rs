@@ -130,7 +130,7 @@ pub fn audit(book: &[u8]) -> [Shape; 7] {
 }
 
 /// Of an accepted count.
-pub fn count(seen: &Seen) -> [Shape; 8] {
+pub fn count(seen: &Seen) -> [Shape; 9] {
     let [blocks, held, waiting, references] = std::array::from_fn(|index| seen.answer(index));
     [
         ("4,096 blocks", blocks == 4_096),
@@ -141,6 +141,7 @@ pub fn count(seen: &Seen) -> [Shape; 8] {
         ("some wait and some don't", 0 < waiting && waiting < held),
         ("all that are held wait", held > 0 && waiting == held),
         ("references above 65,535", references > 65_535),
+        ("references of four bytes", references > 0xFF_FFFF),
     ]
 }
 
@@ -155,7 +156,7 @@ pub fn format(sizes: Sizes) -> [Shape; 10] {
         ("1,024 slots", sizes.slots == 1_024),
         ("1 record", sizes.records == 1),
         ("16,384 records", sizes.records == 16_384),
-        ("all of them smallest", bytes == 86),
-        ("all of them largest", bytes == 204_836),
+        ("all of them smallest", bytes == 87),
+        ("all of them largest", bytes == 208_932),
     ]
 }

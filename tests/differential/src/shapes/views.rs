@@ -123,7 +123,7 @@ fn cells(rows: &[u8]) -> [Shape; 4] {
     ]
 }
 
-fn blocks(rows: &[u8]) -> [Shape; 8] {
+fn blocks(rows: &[u8]) -> [Shape; 9] {
     let rows: Vec<(Vec<u16>, &[u8])> = rows
         .chunks_exact(22)
         .map(|row| (numbers(&row[..6]), &row[6..]))
@@ -141,7 +141,8 @@ fn blocks(rows: &[u8]) -> [Shape; 8] {
             any(|held, count, _| held == 1 && count == 0),
         ),
         ("a block in use", any(|_, count, _| count > 0)),
-        ("a count of 255", any(|_, count, _| count == 255)),
+        ("a count above 255", any(|_, count, _| count > 255)),
+        ("a count of 65,535", any(|_, count, _| count == 65_535)),
         ("an expiry of 65,000", any(|_, _, expiry| expiry == 65_000)),
         (
             "a held block with a zero fingerprint",

@@ -3,31 +3,33 @@
 use std::ops::{Deref, DerefMut};
 
 use super::{
-    get_u16, put_u16, retention_at, Entry, Header, Lbn, Pbn, Record, Sizes, Slot, ENTRY_BYTES,
-    FINGERPRINT_BYTES,
+    get_u16, put_u16, retention_at, Entry, Header, Lbn, Pbn, Places, Record, Sizes, Slot,
+    FINGERPRINT_BYTES, PAST_COUNT_BYTES,
 };
 
-/// A view of a book whose length fits the sizes in its header.
+/// A view of a book whose length fits the layout and the sizes in its header.
 pub struct Book<B> {
     bytes: B,
-    sizes: Sizes,
+    places: Places,
 }
 
 impl<B: Deref<Target = [u8]>> Book<B> {
     /// The bytes must reach to the end of the header.
     pub fn over(bytes: B) -> Self {
         let field = |field: Header| get_u16(&bytes, 2 * field as usize);
+        let layout = field(Header::Layout);
         let sizes = Sizes {
             blocks: field(Header::Blocks),
             lbns: field(Header::Lbns),
             slots: field(Header::Slots),
             records: field(Header::Records),
         };
-        Book { bytes, sizes }
+        let places = Places { layout, sizes };
+        Book { bytes, places }
     }
 
     pub fn sizes(&self) -> Sizes {
-        self.sizes
+        self.places.sizes
     }
 
     pub fn bytes(&self) -> &[u8] {
@@ -43,13 +45,18 @@ impl<B: Deref<Target = [u8]>> Book<B> {
     }
 
     pub fn entry(&self, pbn: Pbn) -> Entry {
-        let at = self.sizes.entry_at(pbn.index());
+        let at = self.places.entry_at(pbn.index());
+        let count = match self.places.count_bytes() {
+            1 => self.bytes[at].into(),
+            _ => get_u16(&self.bytes, at),
+        };
+        let past = at + self.places.count_bytes();
         let mut fingerprint = [0; FINGERPRINT_BYTES];
-        fingerprint.copy_from_slice(&self.bytes[at + 4..at + ENTRY_BYTES]);
+        fingerprint.copy_from_slice(&self.bytes[past + 3..past + PAST_COUNT_BYTES]);
         Entry {
-            count: self.bytes[at],
-            state: self.bytes[at + 1],
-            expiry: get_u16(&self.bytes, at + 2),
+            count,
+            state: self.bytes[past],
+            expiry: get_u16(&self.bytes, past + 1),
             fingerprint,
         }
     }
@@ -57,12 +64,12 @@ impl<B: Deref<Target = [u8]>> Book<B> {
     pub fn cell(&self, volume: u8, lbn: Lbn) -> Pbn {
         Pbn(get_u16(
             &self.bytes,
-            self.sizes.cell_at(volume, lbn.index()),
+            self.places.cell_at(volume, lbn.index()),
         ))
     }
 
     pub fn slot(&self, slot: usize) -> Slot {
-        let at = self.sizes.slot_at(slot);
+        let at = self.places.slot_at(slot);
         Slot {
             volume: self.bytes[at],
             zero: self.bytes[at + 1],
@@ -73,7 +80,7 @@ impl<B: Deref<Target = [u8]>> Book<B> {
     }
 
     pub fn record(&self, record: usize) -> Record {
-        let at = self.sizes.record_at(record);
+        let at = self.places.record_at(record);
         Record {
             lbn: Lbn(get_u16(&self.bytes, at)),
             before: Pbn(get_u16(&self.bytes, at + 2)),
@@ -82,11 +89,11 @@ impl<B: Deref<Target = [u8]>> Book<B> {
     }
 
     pub fn pbns(&self) -> impl Iterator<Item = Pbn> {
-        (0..self.sizes.blocks).map(Pbn)
+        (0..self.sizes().blocks).map(Pbn)
     }
 
     pub fn lbns(&self) -> impl Iterator<Item = Lbn> {
-        (0..self.sizes.lbns).map(Lbn)
+        (0..self.sizes().lbns).map(Lbn)
     }
 
     pub fn used_slots(&self) -> impl Iterator<Item = Slot> + '_ {
@@ -113,21 +120,24 @@ impl<B: DerefMut<Target = [u8]>> Book<B> {
         put_u16(&mut self.bytes, retention_at(volume), days);
     }
 
+    /// Of a count above 255 a layout with one byte for it has the low byte only.
     pub fn set_entry(&mut self, pbn: Pbn, entry: Entry) {
-        let at = self.sizes.entry_at(pbn.index());
-        self.bytes[at] = entry.count;
-        self.bytes[at + 1] = entry.state;
-        put_u16(&mut self.bytes, at + 2, entry.expiry);
-        self.bytes[at + 4..at + ENTRY_BYTES].copy_from_slice(&entry.fingerprint);
+        let at = self.places.entry_at(pbn.index());
+        let past = at + self.places.count_bytes();
+        let count = entry.count.to_le_bytes();
+        self.bytes[at..past].copy_from_slice(&count[..past - at]);
+        self.bytes[past] = entry.state;
+        put_u16(&mut self.bytes, past + 1, entry.expiry);
+        self.bytes[past + 3..past + PAST_COUNT_BYTES].copy_from_slice(&entry.fingerprint);
     }
 
     pub fn set_cell(&mut self, volume: u8, lbn: Lbn, pbn: Pbn) {
-        let at = self.sizes.cell_at(volume, lbn.index());
+        let at = self.places.cell_at(volume, lbn.index());
         put_u16(&mut self.bytes, at, pbn.0);
     }
 
     pub fn set_slot(&mut self, slot: usize, value: Slot) {
-        let at = self.sizes.slot_at(slot);
+        let at = self.places.slot_at(slot);
         self.bytes[at] = value.volume;
         self.bytes[at + 1] = value.zero;
         put_u16(&mut self.bytes, at + 2, value.day);
@@ -136,7 +146,7 @@ impl<B: DerefMut<Target = [u8]>> Book<B> {
     }
 
     pub fn set_record(&mut self, record: usize, value: Record) {
-        let at = self.sizes.record_at(record);
+        let at = self.places.record_at(record);
         put_u16(&mut self.bytes, at, value.lbn.0);
         put_u16(&mut self.bytes, at + 2, value.before.0);
         put_u16(&mut self.bytes, at + 4, value.after.0);

@@ -7,9 +7,6 @@ use crate::change_list::{Change, ChangeList};
 use crate::layout::{Fingerprint, Pbn, UNMAPPED};
 use crate::refusal::{require, Refusal};
 
-/// How many cells may name one block.
-const CELLS_MAX: usize = 255;
-
 /// What a backup makes of the store's blocks and of the volume's map.
 pub(super) struct Made {
     pub blocks: Blocks,
@@ -29,20 +26,14 @@ pub(super) fn make(store: &Plain, volume: u16, list: &ChangeList) -> Result<Made
         taken: 0,
         befores: 0,
     };
-    let others = store.volumes.iter().enumerate();
-    let others: Vec<&Map> = others
-        .filter(|(number, _)| *number != usize::from(volume))
-        .filter_map(|(_, volume)| Some(&volume.as_ref()?.backups.last()?.1))
-        .collect();
     for change in list.changes() {
-        made.apply(change, &others)?;
+        made.apply(change)?;
     }
     Ok(made)
 }
 
 impl Made {
-    /// One change; `others` are the other volumes' current maps.
-    fn apply(&mut self, change: Change, others: &[&Map]) -> Result<(), Refusal> {
+    fn apply(&mut self, change: Change) -> Result<(), Refusal> {
         let pbn = match self.held_with(change.fingerprint) {
             Some((pbn, content)) => {
                 require(content.bytes == *change.block, Refusal::OtherBytes)?;
@@ -54,10 +45,6 @@ impl Made {
         if self.map[lbn] != UNMAPPED {
             self.befores += 1;
         }
-        self.map[lbn] = UNMAPPED;
-        let current = others.iter().copied().chain([&self.map]).flatten();
-        let naming = current.filter(|&&cell| cell == pbn).count();
-        require(naming < CELLS_MAX, Refusal::CountFull)?;
         self.map[lbn] = pbn;
         Ok(())
     }

@@ -14,8 +14,8 @@ pub enum Shape {
     TinyPool,
     FewSlots,
     ShortJournal,
-    /// One block in so many cells that its count reaches 255.
-    FullCounts,
+    /// One block in so many cells that its count passes 255.
+    WideCounts,
     /// Rows of changed blocks that a list has in several runs.
     Pieces,
     /// Each size from 1 to its largest, small and large ones alike.
@@ -30,7 +30,7 @@ impl Shape {
     pub const QUICK: [Shape; 6] = [
         Shape::Small,
         Shape::Sharing,
-        Shape::FullCounts,
+        Shape::WideCounts,
         Shape::TinyPool,
         Shape::FewSlots,
         Shape::ShortJournal,
@@ -55,7 +55,7 @@ impl Shape {
             Shape::TinyPool => [(1, 3), (1, 4), (30, 120), (100, 500)],
             Shape::FewSlots => [(4, 24), (4, 8), (1, 6), (40, 250)],
             Shape::ShortJournal => [(4, 24), (4, 8), (10, 60), (1, 16)],
-            Shape::FullCounts => [(2, 24), (48, 128), (60, 200), (4_000, 9_000)],
+            Shape::WideCounts => [(2, 24), (48, 128), (60, 200), (4_000, 9_000)],
             Shape::Pieces => [(60, 200), (65, 200), (20, 60), (1_000, 3_000)],
             Shape::AnySizes => [(1, 4_096), (1, 1_024), (1, 1_024), (1, 16_384)],
             Shape::LongLists => [(600, 1_400), (1_024, 1_024), (10, 40), (8_000, 16_384)],
@@ -81,7 +81,7 @@ impl Shape {
 
     pub(super) fn volumes(self, prng: &mut Prng) -> u16 {
         match self {
-            Shape::Sharing | Shape::FullCounts => prng.between(6, 8),
+            Shape::Sharing | Shape::WideCounts => prng.between(6, 8),
             Shape::TinyPool => prng.between(1, 2),
             Shape::Largest => 8,
             _ => prng.between(1, 8),
@@ -91,12 +91,12 @@ impl Shape {
     pub(super) fn lists(self, prng: &mut Prng, sizes: Sizes) -> RandomLists {
         let letters = match self {
             Shape::TinyPool => sizes.blocks + 2,
-            Shape::FullCounts => prng.between(1, 3),
+            Shape::WideCounts => prng.between(1, 3),
             Shape::Largest => 3_000,
             _ => prng.between(1, 1 + sizes.blocks / 2),
         };
         let (row_max, zeros_once_in, whole_once_in) = match self {
-            Shape::FullCounts => (64, 2, 4),
+            Shape::WideCounts => (64, 2, 4),
             Shape::Pieces => (150, 4, 12),
             Shape::LongLists => (200, 12, 3),
             Shape::Largest | Shape::AnySizes => (400, 4, 12),

@@ -135,7 +135,7 @@ impl<'s, 'l> Run<'s, 'l> {
 
     fn raise(&mut self, after: Pbn) -> Result<(), Refusal> {
         let count = self.book.entry(after).count;
-        require(count != u8::MAX, Refusal::CountFull)?;
+        require(count != u16::MAX, Refusal::CountFull)?;
         self.book.edit_entry(after, |entry| entry.count += 1);
         Ok(())
     }

@@ -80,7 +80,7 @@ pub fn blocks(book: &[u8], output: &mut [u8]) -> Result<(), Refusal> {
     let mut rows = Vec::new();
     for entry in book.pbns().map(|pbn| book.entry(pbn)) {
         let held = entry.state == HELD;
-        push(&mut rows, &[held.into(), entry.count.into(), entry.expiry]);
+        push(&mut rows, &[held.into(), entry.count, entry.expiry]);
         rows.extend(entry.fingerprint);
     }
     write(&rows, output)

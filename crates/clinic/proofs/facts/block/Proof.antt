@@ -15,10 +15,10 @@ count-requires : tie.Need-count-requires
 count-requires c κs = (holds (c .before .before), omega (arith, c .before .blocks2 .ensures))
 
 expiry-requires : tie.Need-expiry-requires
-expiry-requires c κs = (holds (c .before .before .before .before), omega (arith, c .before .before .before .blocks2 .ensures))
+expiry-requires c κs = (holds (c .before .before .before), omega (arith, c .before .before .blocks2 .ensures))
 
 pub block-spec : {M : Type 1} → statement M
 block-spec =
     tie.close (tie.spec (λ c κs. search needs) (λ c. search needs) blocks-requires (λ c. search needs) count-requires
-    (λ c κs. search needs) expiry-requires (λ c. search needs) (λ c κs. search needs) (λ c. search needs)
+    expiry-requires (λ c. search needs) (λ c κs. search needs) (λ c. search needs)
     (λ c κs. search needs) (λ c. search needs) (λ c κs. search needs) (λ c. search needs))

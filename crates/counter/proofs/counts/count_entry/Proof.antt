@@ -7,25 +7,22 @@ use Rattle.counter.proofs.counts.count_entry.Tie as tie
 
 returns : tie.Need-returns
 returns c =
-    let a = c .before .before .before .before .args in
-    let free = not-true (a .held) (c .before .if1 .taken) in
-    counted-free (a .t) (a .held) (c .before .before .before .wide .ensures .0) free
+    let a = c .before .before .before .args in
+    counted-free (a .t) (a .held) (a .count) (not-true (a .held) (c .before .if1 .taken))
 
 returns-2 : tie.Need-returns-2
 returns-2 c =
     let e = c .before .before .before in
-    let a = e .before .before .before .args in
-    let held = not-false (a .held) (e .if1 .left) in
-    counted-waiting (a .t) (a .held) (e .before .before .wide .ensures .0) held (c .before .before .if2 .taken)
+    let a = e .before .before .args in
+    counted-waiting (a .t) (a .held) (a .count) (not-false (a .held) (e .if1 .left)) (c .before .before .if2 .taken)
 
 returns-3 : tie.Need-returns-3
 returns-3 c =
     let e = c .before .before in
-    let a = e .before .before .before .args in
-    let held = not-false (a .held) (e .if1 .left) in
-    counted-named (a .t) (a .held) (e .before .before .wide .ensures .0) held (c .before .if2 .left)
+    let a = e .before .before .args in
+    counted-named (a .t) (a .held) (a .count) (not-false (a .held) (e .if1 .left)) (c .before .if2 .left)
 
 pub count-entry-spec : {M : Type 1} → statement M
 count-entry-spec =
-    tie.close (tie.spec (λ c κs. search needs) (λ c. search needs) (λ c. search needs) (λ c. search needs) returns
-    (λ c. search needs) (λ c. search needs) returns-2 (λ c. search needs) returns-3)
+    tie.close (tie.spec (λ c. search needs) (λ c. search needs) returns (λ c. search needs) (λ c. search needs) returns-2
+    (λ c. search needs) returns-3)

@@ -13,7 +13,7 @@ returns : tie.Need-returns
 returns c =
     let s = c .before .before .before in
     let at = c .before .entry-offset in
-    let from = at .result + 4 in
+    let from = at .result + 5 in
     ap (λ (k : ℕ). take k (drop from (s .args .book .now))) (add-sub-cancel-left from printSize)
     ∙ print-at (s .args .book .now) (s .args .p .0) (at .result) (s .pre .0) (s .pre .1) (at .ensures)
 

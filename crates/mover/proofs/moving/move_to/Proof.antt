@@ -65,7 +65,7 @@ low c =
       book = i .book ∙ ap (λ (k : ℕ). withEntries (lower u k (book o .entries)) (book o)) (read o .cell .ensures);
     }
 
--- the count that is compared with 255
+-- the count that is compared with 65,535
 counted : (c : tie.After-count) →
     let o = lowered (c .before .before) in
     c .count .result ≡ entryAt (entries o) (start (read o) .args .p .0) .count

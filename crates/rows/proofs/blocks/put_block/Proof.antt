@@ -1,5 +1,5 @@
 -- `put_block`: three numbers and the fingerprint, one after the other.
-use mathlib.Core.Path.{_≡_, ap, _∙_}
+use mathlib.Core.Path.{_≡_, ap}
 use native.Mathlib.Omega.{arith}
 use lib.ListN.{length}
 use borrow.Author.Needs.{needs}
@@ -12,7 +12,7 @@ use Rattle.rows.proofs.blocks.put_block.Statement.{statement}
 use Rattle.rows.proofs.blocks.put_block.Tie as tie
 
 abbrev counted : tie.After-print-of → tie.After-count
-counted c = c .before .before .before
+counted c = c .before .before
 
 abbrev start : tie.After-print-of → tie.Start
 start c = counted c .before .before .before .before
@@ -39,11 +39,11 @@ returns c =
     let s = start r in
     row-stored {out = s .args .out .now} {at = s .args .at}
     (entryAt (bookOf (s .args .book .now) .entries) (s .args .p .0)) (print-length s)
-    (ap bit (k .before .is-held .ensures)) (d .before .wide .ensures .0 ∙ k .count .ensures) (d .expiry .ensures)
+    (ap bit (k .before .is-held .ensures)) (k .count .ensures) (d .expiry .ensures)
     (r .print-of .ensures) (w .put-three .ensures) (b .put-bytes .ensures)
 
 pub put-block-spec : {M : Type 1} → statement M
 put-block-spec =
     tie.close (tie.spec (λ c κs. search needs) (λ c. search needs) (λ c κs. search needs) (λ c κs. search needs)
-    (λ c κs. search needs) (λ c κs. search needs) (λ c κs. search needs) (λ c. search needs) put-bytes-requires
+    (λ c κs. search needs) (λ c κs. search needs) (λ c. search needs) put-bytes-requires
     (λ c. search needs) (λ c. search needs) returns)

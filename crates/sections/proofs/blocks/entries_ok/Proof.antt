@@ -9,7 +9,7 @@ use denote.Ref.{now}
 use Rattle.words.proofs.ChoiceLaws.{failed, passed}
 use Rattle.words.specs.Lists.{each}
 use Rattle.words.proofs.Each.{each-none, each-more, each-stop}
-use Rattle.book.specs.Layout.{current, entryOffset, currentOffset, entryIn}
+use Rattle.book.specs.Layout.{current, countSize, entryOffset, currentOffset, entryIn}
 use Rattle.book.specs.Form.{stateOk, entryOk}
 use Rattle.book.proofs.Widths.{offset-now}
 use Rattle.sections.specs.Checks.{restOk, entriesOk}
@@ -30,7 +30,7 @@ unfolding entriesOk
 loop-holds c = (omega arith, refl)
 
 abbrev turn : tie.After-rest-ok Inv-loop μ-loop → tie.At-loop Inv-loop μ-loop
-turn c = c .before .before .before .before
+turn c = c .before .before .before
 
 abbrev book : tie.After-rest-ok Inv-loop μ-loop → List ℕ
 book c = now (turn c .before .before .args .b)
@@ -41,7 +41,7 @@ tested : (c : tie.After-rest-ok Inv-loop μ-loop)
     && entryOk (entryIn current (book c) (entryOffset current (turn c .loop .p))))
 tested c =
     c .rest-ok .ensures
-    ∙ ap (λ (count : ℕ). restOk (book c) count (currentOffset (turn c .loop .p) + 1)) (c .before .wide .ensures .0)
+    ∙ ap (λ (count : ℕ). restOk (book c) count (currentOffset (turn c .loop .p) + countSize current)) (c .before .u16-at .ensures)
     ∙ entry-tests current (book c) (turn c .loop .p) (currentOffset (turn c .loop .p)) (offset-now (turn c .loop .p))
 
 returns : tie.Need-returns Inv-loop μ-loop
@@ -59,6 +59,5 @@ returns-2 c = sym (c .before .loop .inv .1 ∙ each-none _ _ _ (omega arith))
 
 pub entries-ok-spec : {M : Type 1} → statement M
 entries-ok-spec =
-    tie.close (tie.spec Inv-loop μ-loop loop-holds (λ c. search needs) (λ c. search needs) (λ c. search needs)
-    (λ c κs. search needs) (λ c. search needs) (λ c κs. omega arith) returns (λ c. omega arith) (λ c. omega arith)
-    loop-again returns-2)
+    tie.close (tie.spec Inv-loop μ-loop loop-holds (λ c. search needs) (λ c. search needs) (λ c κs. search needs)
+    (λ c. search needs) (λ c κs. omega arith) returns (λ c. omega arith) (λ c. omega arith) loop-again returns-2)
