@@ -1,4 +1,4 @@
-/* The commands that change the book alone: format, enrol, collect. */
+/* The commands that change the book alone: format, enrol, collect, upgrade. */
 #include "commands.h"
 #include "dates.h"
 #include "days.h"
@@ -116,6 +116,36 @@ int run_collect(const struct request *request)
         refuse(number, &asked);
     store_replace_book(&store);
     show_collect(&store, asked.day, freed);
+    store_close(&store);
+    return STATUS_DONE;
+}
+
+static void show_upgrade(const char *folder, uint16_t from)
+{
+    if (messages_json()) {
+        json_start();
+        json_string("store", folder);
+        json_number("from", from);
+        json_number("to", ASPEN_LAYOUT);
+        notes_to_json();
+        json_send();
+    } else if (from == ASPEN_LAYOUT) {
+        say("%s has layout %d already", folder, ASPEN_LAYOUT);
+    } else {
+        say("upgraded %s from layout %u to layout %d", folder, from, ASPEN_LAYOUT);
+    }
+}
+
+int run_upgrade(const struct request *request)
+{
+    struct store store;
+
+    open_to_upgrade(&store, request);
+    if (store.layout != ASPEN_LAYOUT)
+        store_upgrade_book(&store);
+    else if (store_drop_old(&store))
+        note("removed the old book that an upgrade which was cut off had left");
+    show_upgrade(store.folder, store.layout);
     store_close(&store);
     return STATUS_DONE;
 }

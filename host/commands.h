@@ -19,5 +19,6 @@ int run_tally(const struct request *request);
 int run_scrub(const struct request *request);
 int run_status(const struct request *request);
 int run_book(const struct request *request);
+int run_upgrade(const struct request *request);
 
 #endif

@@ -171,6 +171,11 @@ bool file_empty(int fd, const char *path)
     return result == 0 || failed("empty", path);
 }
 
+bool file_remove(const char *path)
+{
+    return unlink(path) == 0 || failed("remove", path);
+}
+
 bool file_sync(int fd, const char *path)
 {
     int result;

@@ -30,6 +30,7 @@ bool file_load_foreign(const char *path, size_t limit, struct bytes *into);
 bool file_write(int fd, const char *path, const uint8_t *from, size_t length);
 bool file_write_at(int fd, const char *path, const uint8_t *from, size_t length, size_t offset);
 bool file_empty(int fd, const char *path);
+bool file_remove(const char *path);
 
 bool file_sync(int fd, const char *path);
 /* Syncs only the bytes and what is needed to read them. */

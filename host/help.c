@@ -84,7 +84,8 @@ void show_help(const struct command *command)
         "  --json     answer, or tell what went wrong, as one JSON object on standard output\n"
         "  --no-wait  end with 6 if another aspenbox uses the store, and don't wait for it\n"
         "\nIt ends with 0 done, 1 damaged or a warning, 2 can't be used as given,\n"
-        "3 refused by the box, 4 file system failed, 5 no store or a damaged one, 6 busy.\n");
+        "3 refused by the box, 4 file system failed, 5 no store, a damaged one or one of another\n"
+        "layout, 6 busy.\n");
     show("help");
 }
 

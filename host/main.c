@@ -58,6 +58,10 @@ const struct command commands[] = {
      run_scrub},
     {"book", "DIR", 1, 1, 0, 0,
      "Writes to standard output the book alone, for the program tally and others.", run_book},
+    {"upgrade", "DIR", 1, 1, 0, 0,
+     "Brings a store that an earlier aspenbox made to the layout of this one. Its backups, days\n"
+     "and blocks stay as they are. Earlier versions of aspenbox refuse the store from then on.",
+     run_upgrade},
     {0},
 };
 

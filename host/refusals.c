@@ -6,15 +6,40 @@
 
 #include <aspen.h>
 
+/* Whether the book has a layout of later versions. Only a seal tells that from damage; books
+ * without one have layout 1. */
+static bool is_later(const struct store *store)
+{
+    return store->layout > ASPEN_LAYOUT && store->sealed && store->fault == NULL;
+}
+
+void refuse_layout(const struct store *store)
+{
+    if (store->fault != NULL)
+        fail(STATUS_STORE,
+             "%s is damaged: %s; nothing was written; put back a copy of the store; its layout is "
+             "%u, and an aspenbox for that still restores what it can",
+             store->book_path, store->fault, store->layout);
+    fail_refused(STATUS_STORE, ASPEN_BAD_LAYOUT,
+                 "%s has layout %u and this aspenbox takes layout %d; nothing was written; run "
+                 "aspenbox upgrade %s first",
+                 store->book_path, store->layout, ASPEN_LAYOUT, store->folder);
+}
+
 void refuse_store(const struct store *store, uint16_t number)
 {
     const char *folder = store->folder;
 
     switch (number) {
     case ASPEN_BAD_LAYOUT:
+        if (is_later(store))
+            fail_refused(STATUS_STORE, number,
+                         "%s/book has layout %u and this aspenbox takes none above %d; nothing was "
+                         "written; use the newer aspenbox that made it",
+                         folder, store->layout, ASPEN_LAYOUT);
         fail_refused(STATUS_STORE, number,
-                     "%s/book is no book: its length or sizes are wrong; nothing was written; put "
-                     "back a copy of the store",
+                     "%s/book is no book: its layout number, length or sizes are wrong; nothing "
+                     "was written; put back a copy of the store",
                      folder);
     case ASPEN_BAD_POOL:
         fail_refused(STATUS_STORE, number,

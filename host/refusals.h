@@ -13,6 +13,8 @@ struct asked {
 
 /* 1, 2, 3: the store itself is at fault. */
 _Noreturn void refuse_store(const struct store *store, uint16_t number);
+/* A book of an older layout, which only an upgrade takes. */
+_Noreturn void refuse_layout(const struct store *store);
 /* 1 of format. */
 _Noreturn void refuse_sizes(void);
 /* 5, 6 of enrol. */

@@ -2,6 +2,7 @@
 
 #include "dates.h"
 #include "files.h"
+#include "layouts.h"
 #include "messages.h"
 #include "seal.h"
 #include "view.h"
@@ -34,7 +35,16 @@ static void name_files(struct store *store, const char *folder)
     store->book = bytes_new(0);
     store->pool = bytes_new(0);
     store->lengths = (struct lengths){NULL, 0};
+    store->layout = ASPEN_LAYOUT;
+    store->sealed = true;
     store->fault = NULL;
+}
+
+/* How much is read of the file `book`. A book of a later layout may be longer than today's, and has
+ * to be read whole to be told from a damaged one. */
+static size_t file_limit(void)
+{
+    return 2 * (size_t)BOOK_LIMIT + seal_limit() + 1;
 }
 
 static void read_book(struct store *store, enum lock_use use)
@@ -46,13 +56,15 @@ static void read_book(struct store *store, enum lock_use use)
         fail(STATUS_STORE, "%s is no store: it has no book; put back a copy of it, or format",
              store->folder);
     or_fail(fd >= 0);
-    or_fail(file_read(fd, store->book_path, BOOK_LIMIT + seal_limit() + 1, &file));
+    or_fail(file_read(fd, store->book_path, file_limit(), &file));
     /* The writer before may have ended between its rename and its sync. */
     if (use == LOCK_TO_WRITE)
         or_fail(file_sync(fd, store->book_path) && folder_sync(store->folder));
     close(fd);
     bytes_free(&store->book);
     store->fault = seal_open(file, &store->lock, &store->book, &store->lengths);
+    store->layout = aspen_layout(store->book.at, store->book.length);
+    store->sealed = store->book.length < file.length;
     bytes_free(&file);
 }
 
@@ -63,20 +75,26 @@ static bool is_sound(struct bytes book)
     return aspen_audit(book.at, book.length, &sound) == ASPEN_OK && sound == 1;
 }
 
+/* Looks over the book that was read. The audit takes a book of today's layout alone: an older one
+ * is audited as the converters leave it, which is with every field as it was. */
+static uint16_t look_over(struct store *store)
+{
+    uint16_t number = layouts_renew(&store->book);
+
+    if (number == ASPEN_OK && store->fault == NULL && !is_sound(store->book))
+        store->fault = "maps, counts or days don't agree with the journal";
+    return number;
+}
+
 uint16_t store_open(struct store *store, const char *folder, enum lock_use use, bool wait)
 {
-    uint16_t number;
-
     name_files(store, folder);
     lock_take(&store->lock, folder, use, wait);
     read_book(store, use);
     if (!store->lock.whole)
         fail(STATUS_STORE, "%s is damaged or from another program; put back a copy of it",
              store->lock.path);
-    number = aspen_form(store->book.at, store->book.length);
-    if (number == ASPEN_OK && store->fault == NULL && !is_sound(store->book))
-        store->fault = "maps, counts or days don't agree with the journal";
-    return number;
+    return look_over(store);
 }
 
 void store_load_pool(struct store *store)
@@ -207,19 +225,113 @@ uint16_t store_write_blocks(const struct store *store, struct bytes marks)
     return written;
 }
 
-void store_replace_book(const struct store *store)
+/* Replaces a file of the store, by way of book.new. */
+static bool replace(const struct store *store, const char *path, mode_t mode, struct bytes file)
 {
     char *temporary = join_text(store->book_path, ".new", "");
-    struct replacement how = {.temporary = temporary, .mode = 0666, .keep = true};
-    struct bytes file = seal_make(store->book, &store->lengths, store->lock.id);
+    struct replacement how = {.temporary = temporary, .mode = mode, .keep = true};
+    bool good = file_replace(path, &how, file);
 
-    or_fail(file_replace(store->book_path, &how, file));
-    bytes_free(&file);
     free(temporary);
+    return good;
+}
+
+static bool put_book(const struct store *store)
+{
+    struct bytes file = seal_make(store->book, &store->lengths, store->lock.id);
+    bool good = replace(store, store->book_path, 0666, file);
+
+    bytes_free(&file);
+    return good;
+}
+
+static void make_last(const struct store *store)
+{
     if (!folder_sync(store->folder))
         fail(STATUS_FILES,
              "%s; the new book is in place, but a power failure now may bring back the old one",
              file_failure());
+}
+
+void store_replace_book(const struct store *store)
+{
+    or_fail(put_book(store));
+    make_last(store);
+}
+
+/* ---- the book of an older layout */
+
+/* The name under which it is kept. */
+static char *old_path(const struct store *store, unsigned layout)
+{
+    return text_of("%s.%u", store->book_path, layout);
+}
+
+/* Keeps the very file, for its owner alone. */
+static bool keep_old(const struct store *store, const char *path)
+{
+    struct bytes file;
+    bool good = file_load(store->book_path, file_limit(), &file);
+
+    if (!good)
+        return false;
+    good = replace(store, path, 0600, file) && folder_sync(store->folder);
+    bytes_free(&file);
+    return good;
+}
+
+/* Whether the next command will find this book. */
+static bool reads_back(const struct store *store)
+{
+    struct store found = {.folder = store->folder,
+                          .lock = store->lock,
+                          .book_path = store->book_path,
+                          .book = bytes_new(0)};
+    bool good;
+
+    read_book(&found, LOCK_TO_READ);
+    good = found.layout == ASPEN_LAYOUT && look_over(&found) == ASPEN_OK && found.fault == NULL &&
+           found.book.length == store->book.length &&
+           memcmp(found.book.at, store->book.at, store->book.length) == 0;
+    bytes_free(&found.book);
+    lengths_free(&found.lengths);
+    return good;
+}
+
+void store_upgrade_book(const struct store *store)
+{
+    char *old = old_path(store, store->layout);
+
+    if (!keep_old(store, old) || !put_book(store)) {
+        unlink(old); /* the book is the old one still */
+        or_fail(false);
+    }
+    make_last(store);
+    if (!reads_back(store))
+        fail(STATUS_FILES,
+             "%s doesn't read back as it was written; put %s in its place, which is the old one, "
+             "and look at the disk",
+             store->book_path, old);
+    free(old);
+    store_drop_old(store);
+}
+
+bool store_drop_old(const struct store *store)
+{
+    bool dropped = false;
+
+    for (unsigned layout = 1; layout < ASPEN_LAYOUT; layout++) {
+        char *path = old_path(store, layout);
+
+        if (file_remove(path))
+            dropped = true;
+        else if (!file_missing())
+            note("%s; nothing needs it any more", file_failure());
+        free(path);
+    }
+    if (dropped && !folder_sync(store->folder))
+        note("%s; a power failure may bring back the old book beside the new one", file_failure());
+    return dropped;
 }
 
 char *store_date(const struct store *store, long day, char *text)
@@ -231,6 +343,22 @@ char *store_date(const struct store *store, long day, char *text)
 static const char *const file_names[] = {"book", "pool", "lock", "book.new"};
 
 enum { LASTING_FILES = 3, ALL_FILES };
+
+/* Whether the name is one of these, or that of an old book that is kept. */
+static bool is_own_name(const char *name)
+{
+    bool is = false;
+
+    for (size_t i = 0; i < ALL_FILES; i++)
+        is = is || strcmp(name, file_names[i]) == 0;
+    for (unsigned layout = 1; layout < ASPEN_LAYOUT; layout++) {
+        char *kept = text_of("book.%u", layout);
+
+        is = is || strcmp(name, kept) == 0;
+        free(kept);
+    }
+    return is;
+}
 
 /* Whether the folder is a store, be it one with a damaged lock. */
 static bool is_store(const char *folder)
@@ -251,11 +379,8 @@ bool store_has_file(const char *path)
 {
     const char *slash = strrchr(path, '/');
     char *folder = folder_of(path);
-    bool named = false, has;
+    bool has = is_own_name(slash != NULL ? slash + 1 : path) && is_store(folder);
 
-    for (size_t i = 0; i < ALL_FILES; i++)
-        named = named || strcmp(slash != NULL ? slash + 1 : path, file_names[i]) == 0;
-    has = named && is_store(folder);
     free(folder);
     return has;
 }

@@ -14,14 +14,17 @@ struct store {
     const char *folder;
     struct lock lock;
     char *book_path, *pool_path;
-    struct bytes book, pool;
-    struct lengths lengths; /* of the images */
-    const char *fault;      /* what is wrong with a book that is in form; null if nothing is */
+    struct bytes book, pool; /* the book is in today's layout, whatever it has on disk */
+    struct lengths lengths;  /* of the images */
+    uint16_t layout;         /* of the book on disk, 0 if that is too short to have one */
+    bool sealed;             /* whether the file has a seal behind its book */
+    const char *fault;       /* what is wrong with a book that is in form; null if nothing is */
 };
 
-/* Opens the store in a folder and reads its book. Answers the number by which the library refuses
- * the book, or 0; then the book was audited too. A folder that is no store ends the program, and
- * so does, without `wait`, a store that is in use. */
+/* Opens the store in a folder and reads its book. One of an older layout is brought to today's, in
+ * memory alone. Answers the number by which the library refuses the book, or 0; then the book was
+ * audited too. A folder that is no store ends the program, and so does, without `wait`, a store
+ * that is in use. */
 uint16_t store_open(struct store *store, const char *folder, enum lock_use use, bool wait);
 /* Reads the pool. Its length is checked by the call that it is given to. */
 void store_load_pool(struct store *store);
@@ -39,6 +42,12 @@ struct bytes store_taken(const struct store *store, struct bytes old_book);
 uint16_t store_write_blocks(const struct store *store, struct bytes marks);
 /* Puts the book in memory, with the lengths, in the place of that on disk. */
 void store_replace_book(const struct store *store);
+
+/* The same where the book on disk has an older layout. The old book is kept beside it, as book.1 if
+ * its layout is 1, until the new one lasts and was read back. */
+void store_upgrade_book(const struct store *store);
+/* Removes an old book that is still kept; answers whether there was one. */
+bool store_drop_old(const struct store *store);
 
 /* The date of a day, into DATE_TEXT bytes; the result is `text`. */
 char *store_date(const struct store *store, long day, char *text);

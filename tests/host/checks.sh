@@ -15,6 +15,9 @@ host_program() {
     check "aspenbox builds with its calls counted" ../scripts/host "$scratch/aspenbox.counted" tests/host/counted.c \
         -Wl,--wrap=aspen_restore,--wrap=aspen_read
     host_run counted "$scratch/aspenbox.counted" calls
+    check "aspenbox builds for a disk that changes its book" ../scripts/host "$scratch/aspenbox.spoiled" tests/host/spoiled.c \
+        -Wl,--wrap=rename
+    host_run spoiled "$scratch/aspenbox.spoiled" spoiled
     # Statuses that aspenbox itself doesn't have.
     export ASAN_OPTIONS=exitcode=99 UBSAN_OPTIONS=exitcode=99
     check "aspenbox builds with sanitizers" ../scripts/host "$scratch/aspenbox.sanitized" -g \

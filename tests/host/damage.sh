@@ -17,13 +17,13 @@ all_say() {
         expect "$wanted" "$text" $command
     done
 }
-changing=("enrol box 2 --keep 3" "backup box 0 aid --day-number 9" "collect box --day-number 9" "scrub box --heal aid")
+changing=("enrol box 2 --keep 3" "backup box 0 aid --day-number 9" "collect box --day-number 9" "scrub box --heal aid" "upgrade box")
 book_only=("audit box" "tally box" "list box" "status box" "book box")
 with_pool=("read box 0 1 0" "restore box 0 1 out" "scrub box")
 
 fresh
 poke box/book 0 07
-all_say 5 "refused 1: box/book is no book: its length or sizes are wrong; nothing was written" \
+all_say 5 "refused 1: box/book is no book: its layout number, length or sizes are wrong; nothing was written" \
     "${changing[@]}" "${book_only[@]}" "${with_pool[@]}"
 fresh
 truncate -s -1 box/book

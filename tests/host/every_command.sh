@@ -53,3 +53,15 @@ expect 0 "restored" restore box 0 2 out --force
 expect 0 "enrolled" enrol box 2 --keep 3
 truncate -s -1 box/book
 expect 5 '"refused":1,' audit box --json
+# One of layout 1, damaged and whole.
+rm -r box
+cp -r "$here/layout1/box" box
+poke box/book 36 05
+expect 5 "don't fit their digest" upgrade box
+rm -r box
+cp -r "$here/layout1/box" box
+expect 5 "has layout 1" list box
+expect 0 "upgraded" upgrade box
+cp "$here/layout1/box/book" box/book.1
+expect 0 '"notes":' upgrade box --json
+expect 0 "restored" restore box 0 3 out --force

@@ -33,7 +33,8 @@ content() {
     [ ! -d "$store" ] || find "$store" -type f -exec sha256sum {} + | sort
 }
 
-# Makes a store one of the first version, whose book has no digest and no lengths, and whose lock has three lines: age STORE
+# Takes from a store what those of the first version lack: the seal behind the book, with digest and lengths, and the lock's
+# fourth line. Their books had layout 1, though; see upgrade.sh. age STORE
 age() {
     # shellcheck disable=SC2086
     $program book "$1" >"$work/bare" </dev/null
