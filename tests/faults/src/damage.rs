@@ -1,6 +1,8 @@
 //! Damaged stores: every command notices, names the number of what is out of form, and writes
 //! nothing.
 
+mod layouts;
+
 use std::fs;
 use std::os::unix::fs::MetadataExt;
 use std::path::Path;
@@ -55,11 +57,13 @@ struct Line {
     takes_pool: bool,
 }
 
-const WRITERS: [Line; 4] = [
+const UPGRADE: Line = line("upgrade box", true, false);
+const WRITERS: [Line; 5] = [
     line("enrol box 2 --keep 3", true, false),
     line("collect box --day-number 300 --ahead", true, false),
     line("backup box 0 aid0 --day-number 300 --ahead", true, true),
     line("scrub box --heal aid0", true, true),
+    UPGRADE,
 ];
 const AUDIT: Line = line("audit box", false, false);
 const RESTORE: Line = line("restore box 0 5 -", false, true);
@@ -103,6 +107,7 @@ pub fn cases(whole: &Tree, all: bool) -> Vec<Case> {
     });
     cases.add_books_of_other_lengths(whole);
     cases.add_books_of_others(whole);
+    cases.add_other_layouts(whole, all);
     cases.add_changed_locks(whole, all);
     cases.add_missing(whole);
     cases.add_pools(whole);

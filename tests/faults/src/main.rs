@@ -32,6 +32,7 @@ mod story;
 mod sweep;
 mod total;
 mod tree;
+mod upgrade;
 
 use std::env;
 use std::path::{Path, PathBuf};

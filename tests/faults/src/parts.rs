@@ -19,6 +19,7 @@ use crate::seen;
 use crate::soak;
 use crate::story::Story;
 use crate::sweep;
+use crate::upgrade;
 
 #[derive(Clone, Copy, PartialEq, Eq)]
 pub enum Part {
@@ -27,16 +28,18 @@ pub enum Part {
     Power,
     Heal,
     First,
+    Upgrade,
     Damage,
     Soak,
 }
 
-pub const ALL: [Part; 7] = [
+pub const ALL: [Part; 8] = [
     Part::Seen,
     Part::Sweep,
     Part::Power,
     Part::Heal,
     Part::First,
+    Part::Upgrade,
     Part::Damage,
     Part::Soak,
 ];
@@ -49,6 +52,7 @@ impl Part {
             "power" => Some(Part::Power),
             "heal" => Some(Part::Heal),
             "first" => Some(Part::First),
+            "upgrade" => Some(Part::Upgrade),
             "damage" => Some(Part::Damage),
             "soak" => Some(Part::Soak),
             _ => None,
@@ -83,6 +87,17 @@ impl Outcome {
             complaints: vec![why],
             words: words.into(),
             ..Outcome::default()
+        }
+    }
+
+    /// Faults and power cuts of the same commands together.
+    fn and(self, cuts: Outcome, words: String) -> Self {
+        Outcome {
+            passed: self.passed + cuts.passed,
+            complaints: [self.complaints, cuts.complaints].concat(),
+            words,
+            faults: self.faults,
+            states: cuts.states,
         }
     }
 }
@@ -141,6 +156,9 @@ impl Stage {
                 .heal(hunt)
                 .unwrap_or_else(|why| Outcome::failed("healing", why)),
             Part::First => self.first(hunt),
+            Part::Upgrade => self
+                .upgrade(hunt)
+                .unwrap_or_else(|why| Outcome::failed("upgrades", why)),
             Part::Damage => self.damage(hunt),
             Part::Soak => self.soak(hunt),
         }
@@ -184,6 +202,29 @@ impl Stage {
             complaints: report.finish(),
             ..Outcome::default()
         }
+    }
+
+    /// The same for what is cut off by the power, with what was tried of that.
+    fn share_cuts<I: Sync>(
+        &self,
+        what: &str,
+        hunt: Option<&Hunt>,
+        items: &[I],
+        label: impl Fn(&I) -> String + Sync,
+        work: impl Fn(&mut Bench, &I) -> Result<power::Counts, String> + Sync,
+    ) -> (Outcome, power::Counts) {
+        let total = Mutex::new(power::Counts::default());
+        let outcome = self.share(what, hunt, items, label, |bench, item| {
+            let counts = work(bench, item)?;
+            total.lock().expect("no worker panics").add(counts);
+            Ok(())
+        });
+        let total = total.into_inner().expect("no worker panics");
+        let outcome = Outcome {
+            states: total.cuts,
+            ..outcome
+        };
+        (outcome, total)
     }
 
     fn seen(&self, hunt: Option<&Hunt>) -> Outcome {
@@ -233,20 +274,13 @@ impl Stage {
 
     fn power(&self, hunt: Option<&Hunt>) -> Outcome {
         let chains = power::chains(&self.scenes, self.level.before_cuts);
-        let total = Mutex::new(power::Counts::default());
-        let label = |chain: &power::Chain| power::label(&self.scenes, chain);
-        let outcome = self.share(
+        let (outcome, total) = self.share_cuts(
             "commands with power cuts",
             hunt,
             &chains,
-            label,
-            |bench, chain| {
-                let counts = power::try_chain(bench, &self.scenes, chain, self.level.bounds)?;
-                total.lock().expect("no worker panics").add(counts);
-                Ok(())
-            },
+            |chain| power::label(&self.scenes, chain),
+            |bench, chain| power::try_chain(bench, &self.scenes, chain, self.level.bounds),
         );
-        let total = total.into_inner().expect("no worker panics");
         let words = format!(
             "power cuts: {} states of the disk, {} of them opened by aspenbox; {} of {} sequences of commands recovered; \
              after {} calls not all ways were tried",
@@ -256,11 +290,7 @@ impl Stage {
             chains.len(),
             total.partial
         );
-        Outcome {
-            words,
-            states: total.cuts,
-            ..outcome
-        }
+        Outcome { words, ..outcome }
     }
 
     fn heal(&self, hunt: Option<&Hunt>) -> Result<Outcome, String> {
@@ -268,51 +298,31 @@ impl Stage {
         let bench = Bench::new(&self.program, &self.story, first, Reading::One);
         let repairs = heal::repairs(&bench, &self.scenes)?;
         let tried: Vec<_> = repairs.into_iter().step_by(self.level.repairs).collect();
-        let faults = self.heal_with_faults(hunt, &tried);
-        let cuts = self.heal_with_cuts(hunt, &tried);
+        let cases = heal::faults(&tried);
+        let faults = Outcome {
+            faults: cases.len(),
+            ..self.share(
+                "repairs with faults",
+                hunt,
+                &cases,
+                heal::label,
+                heal::try_fault,
+            )
+        };
+        let (cuts, _) = self.share_cuts(
+            "repairs with power cuts",
+            hunt,
+            &heal::cut_off(&tried, self.level.before_cuts),
+            heal::label,
+            |bench, case| heal::try_cuts(bench, case, self.level.bounds),
+        );
         let words = format!(
             "rotted blocks: {} faults and {} states after power cuts in {} commands that heal",
             faults.faults,
             cuts.states,
             tried.len()
         );
-        Ok(Outcome {
-            passed: faults.passed + cuts.passed,
-            complaints: [faults.complaints, cuts.complaints].concat(),
-            words,
-            faults: faults.faults,
-            states: cuts.states,
-        })
-    }
-
-    fn heal_with_faults(&self, hunt: Option<&Hunt>, repairs: &[heal::Repair]) -> Outcome {
-        let cases = heal::faults(repairs);
-        let label = heal::label;
-        let outcome = self.share("repairs with faults", hunt, &cases, label, heal::try_fault);
-        Outcome {
-            faults: cases.len(),
-            ..outcome
-        }
-    }
-
-    fn heal_with_cuts(&self, hunt: Option<&Hunt>, repairs: &[heal::Repair]) -> Outcome {
-        let cases = heal::cut_off(repairs, self.level.before_cuts);
-        let total = Mutex::new(power::Counts::default());
-        let outcome = self.share(
-            "repairs with power cuts",
-            hunt,
-            &cases,
-            heal::label,
-            |bench, case| {
-                let counts = heal::try_cuts(bench, case, self.level.bounds)?;
-                total.lock().expect("no worker panics").add(counts);
-                Ok(())
-            },
-        );
-        Outcome {
-            states: total.into_inner().expect("no worker panics").cuts,
-            ..outcome
-        }
+        Ok(faults.and(cuts, words))
     }
 
     fn first(&self, hunt: Option<&Hunt>) -> Outcome {
@@ -332,6 +342,37 @@ impl Stage {
             faults,
             ..outcome
         }
+    }
+
+    fn upgrade(&self, hunt: Option<&Hunt>) -> Result<Outcome, String> {
+        let first = self.folder.join("first");
+        let bench = Bench::new(&self.program, &self.story, first, Reading::One);
+        let upgrades = upgrade::upgrades(&bench, &self.scenes, self.level.all)?;
+        let cases = upgrade::faults(&upgrades);
+        let faults = Outcome {
+            faults: cases.len(),
+            ..self.share(
+                "upgrades with faults",
+                hunt,
+                &cases,
+                upgrade::label,
+                upgrade::try_fault,
+            )
+        };
+        let (cuts, _) = self.share_cuts(
+            "upgrades with power cuts",
+            hunt,
+            &upgrade::cut_off(&upgrades, self.level.before_cuts),
+            upgrade::label,
+            |bench, case| upgrade::try_cuts(bench, case, self.level.bounds),
+        );
+        let words = format!(
+            "stores of layout 1: {} faults and {} states after power cuts in {} upgrades",
+            faults.faults,
+            cuts.states,
+            upgrades.len()
+        );
+        Ok(faults.and(cuts, words))
     }
 
     fn damage(&self, hunt: Option<&Hunt>) -> Outcome {
