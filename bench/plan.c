@@ -41,6 +41,8 @@ const struct row rows[ROWS] = {
     { "restore, 1,024 blocks, oldest backup", { RESTORE_OF(1024) } },
     { "audit", { .call = AUDIT, FULL } },
     { "audit, alike", { .call = AUDIT, .prints = ALIKE, FULL } },
+    { "convert_1_2", { .call = CONVERT_1_2, FULL } },
+    { "convert_2_1", { .call = CONVERT_2_1, FULL } },
     { "write_list, all of 1,024 blocks marked", { WRITE_OF(1024) } },
     { "write_list, 51 of 1,024 marked here and there", { WRITE_OF(51) } },
 };

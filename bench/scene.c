@@ -10,6 +10,14 @@ static uint8_t list[aspen_list_bound(CELLS)];
 /* The volume that write_list is given. */
 static uint8_t marks[CELLS], prints[ASPEN_PRINT_SIZE * CELLS], image[ASPEN_BLOCK_SIZE * CELLS];
 
+/* The box's book in layout 1, for the converter that takes it, and how long that is. */
+static uint8_t narrow[aspen_book_size_of(1, ASPEN_MAX_BLOCKS, CELLS, SLOTS, RECORDS)];
+
+static size_t narrow_len(const struct stage *stage)
+{
+    return aspen_book_size_of(1, stage->box.blocks, CELLS, SLOTS, RECORDS);
+}
+
 bool same_scene(const struct scene *a, const struct scene *b)
 {
     return a->call == b->call && a->prints == b->prints && a->fresh == b->fresh && a->left == b->left && a->finds == b->finds
@@ -60,6 +68,8 @@ void stage_set(struct stage *stage, const struct scene *scene)
         set_volume(stage);
     else if (scene->call == BACKUP)
         set_list(stage);
+    else if (scene->call == CONVERT_1_2)
+        aspen_convert_2_1(stage->box.book, stage->box.book_len, narrow, narrow_len(stage));
     stage->volume = scene->call == ENROL ? AIDS : 0;
     stage->day = (uint16_t)(stage->box.day + (scene->call == COLLECT ? RETENTION + 1 : 1));
     stage->number = scene->oldest ? 1 : stage->box.newest;
@@ -94,6 +104,10 @@ uint16_t stage_call(struct stage *stage, const struct side *side)
                              (uint16_t)stage->scene.changes, box->room, aspen_run_size(stage->scene.changes));
     case AUDIT:
         return side->audit(box->book, box->book_len, &answers[0]);
+    case CONVERT_1_2:
+        return side->convert_1_2(narrow, narrow_len(stage), box->room, box->book_len);
+    case CONVERT_2_1:
+        return side->convert_2_1(box->book, box->book_len, box->room, narrow_len(stage));
     case WRITE_LIST:
         return write_list(side, box->room, &stage->at);
     }
@@ -111,6 +125,8 @@ void stage_move(struct stage *stage)
     memcpy(box->spare, box->book, box->book_len);
     if (scene->call == RESTORE)
         memcpy(box->room, box->pool, aspen_run_size(scene->changes));
+    if (scene->call == CONVERT_1_2 || scene->call == CONVERT_2_1)
+        memcpy(box->room, box->spare, narrow_len(stage));
     if (scene->call != BACKUP)
         return;
     memcpy(box->book, box->spare, box->book_len);
@@ -120,7 +136,8 @@ void stage_move(struct stage *stage)
 
 static void fail(const struct stage *stage, const char *what, const struct side *side)
 {
-    static const char *const names[] = { "form", "format", "enrol", "backup", "collect", "read", "restore", "audit", "write_list" };
+    static const char *const names[] = { "form",    "format", "enrol",       "backup",      "collect",   "read",
+                                         "restore", "audit",  "convert_1_2", "convert_2_1", "write_list" };
     const struct scene *scene = &stage->scene;
     fprintf(stderr, "\nbench: %s with N = %u, U = %u, n = %u: %s %s\n", names[scene->call], scene->blocks, scene->records, scene->changes,
             side->name, what);

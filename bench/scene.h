@@ -5,7 +5,7 @@
 #include "box.h"
 #include "sides.h"
 
-enum call { FORM, FORMAT, ENROL, BACKUP, COLLECT, READ, RESTORE, AUDIT, WRITE_LIST };
+enum call { FORM, FORMAT, ENROL, BACKUP, COLLECT, READ, RESTORE, AUDIT, CONVERT_1_2, CONVERT_2_1, WRITE_LIST };
 
 /* Where a backup's blocks are found. */
 enum finds { FIRST_BLOCKS, LAST_BLOCKS, NOWHERE };
@@ -45,8 +45,8 @@ void stage_restore(struct stage *stage);
 /* Answers 0 or the number of the refusal. */
 uint16_t stage_call(struct stage *stage, const struct side *side);
 
-/* memcpy of what the call has to move: a backup the book into the spare and back, and its blocks; restore the book and its blocks; write_list as
- * many bytes as its list has; every other call, which goes through the whole book, that book. */
+/* memcpy of what the call has to move: a backup the book into the spare and back, and its blocks; restore the book and its blocks; a converter
+ * the book and the one that it writes; write_list as many bytes as its list has; every other call, which goes through the whole book, that book. */
 void stage_move(struct stage *stage);
 
 /* Calls each side once and compares answers, book, pool and the list or the blocks that were written. A refusal or a difference ends the program

@@ -18,6 +18,8 @@ struct side {
     uint16_t (*restore)(const uint8_t *book, size_t book_len, const uint8_t *pool, size_t pool_len, uint16_t volume, uint16_t number, uint16_t first,
                         uint16_t length, uint8_t *out, size_t out_len);
     uint16_t (*audit)(const uint8_t *book, size_t len, uint16_t *sound);
+    uint16_t (*convert_1_2)(const uint8_t *book, size_t book_len, uint8_t *out, size_t out_len);
+    uint16_t (*convert_2_1)(const uint8_t *book, size_t book_len, uint8_t *out, size_t out_len);
     uint16_t (*write_list)(uint16_t l, const uint8_t *marks, size_t marks_len, const uint8_t *prints, size_t prints_len, const uint8_t *image,
                            size_t image_len, uint8_t *list, size_t list_len, uint32_t *written);
 };

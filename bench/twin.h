@@ -8,6 +8,9 @@
 
 uint16_t twin_form(const uint8_t *book, size_t len);
 
+/* The same of a book in layout 1, for its converter. */
+uint16_t twin_form_narrow(const uint8_t *book, size_t len);
+
 uint16_t twin_format(uint8_t *book, size_t len, uint16_t n, uint16_t l, uint16_t s, uint16_t j);
 
 uint16_t twin_enrol(uint8_t *book, size_t len, uint16_t volume, uint16_t retention);
@@ -27,6 +30,9 @@ uint16_t twin_restore(const uint8_t *book, size_t book_len, const uint8_t *pool,
                       uint16_t length, uint8_t *out, size_t out_len);
 
 uint16_t twin_audit(const uint8_t *book, size_t len, uint16_t *sound);
+
+uint16_t twin_convert_1_2(const uint8_t *book, size_t book_len, uint8_t *out, size_t out_len);
+uint16_t twin_convert_2_1(const uint8_t *book, size_t book_len, uint8_t *out, size_t out_len);
 
 uint16_t twin_write_list(uint16_t l, const uint8_t *marks, size_t marks_len, const uint8_t *prints, size_t prints_len, const uint8_t *image,
                          size_t image_len, uint8_t *list, size_t list_len, uint32_t *written);

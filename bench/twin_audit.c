@@ -66,7 +66,7 @@ static int maps_sound(const uint8_t *book, const struct layout *a, const uint16_
 static int entries_sound(const uint8_t *e, size_t n, const uint16_t *counts, const uint16_t *expiries)
 {
     for (size_t p = 0; p < n; p++, e += ENTRY)
-        if (e[ENTRY_COUNT] != counts[p] || u16_at(e + ENTRY_EXPIRY) != expiries[p])
+        if (u16_at(e + ENTRY_COUNT) != counts[p] || u16_at(e + ENTRY_EXPIRY) != expiries[p])
             return 0;
     return 1;
 }

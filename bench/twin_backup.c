@@ -96,16 +96,18 @@ static uint16_t move(struct backup *b, unsigned lbn, unsigned p)
     unsigned before = u16_at(cell);
     if (before != UNMAPPED) {
         uint8_t *old = entry_of(b, before);
-        if (old[ENTRY_COUNT] == 0)
+        unsigned count = u16_at(old + ENTRY_COUNT);
+        if (count == 0)
             return 13;
-        old[ENTRY_COUNT]--;
+        put_u16(old + ENTRY_COUNT, count - 1);
         if (u16_at(old + ENTRY_EXPIRY) < b->until)
             put_u16(old + ENTRY_EXPIRY, b->until);
         b->befores++;
     }
-    if (e[ENTRY_COUNT] == 255)
+    unsigned count = u16_at(e + ENTRY_COUNT);
+    if (count == 65535)
         return 14;
-    e[ENTRY_COUNT]++;
+    put_u16(e + ENTRY_COUNT, count + 1);
     put_u16(cell, p);
     put_u16(b->record + RECORD_LBN, lbn);
     put_u16(b->record + RECORD_BEFORE, before);

@@ -13,7 +13,7 @@ uint16_t twin_collect(uint8_t *book, size_t len, uint16_t day, uint16_t *freed)
         return 7;
     uint8_t *e = book + ENTRIES, *end = e + ENTRY * u16_at(book + AT_N);
     for (; e < end; e += ENTRY) {
-        if (e[ENTRY_STATE] != 1 || e[ENTRY_COUNT] != 0 || u16_at(e + ENTRY_EXPIRY) >= day)
+        if (e[ENTRY_STATE] != 1 || u16_at(e + ENTRY_COUNT) != 0 || u16_at(e + ENTRY_EXPIRY) >= day)
             continue;
         e[ENTRY_STATE] = 0;
         memset(e + ENTRY_PRINT, 0, PRINT);

@@ -22,15 +22,28 @@ static int header_ok(const uint8_t *b, const struct layout *a)
     return 1;
 }
 
-static int entries_ok(const uint8_t *e, size_t n)
+/* Of an entry, from its state on; the count is that before it. */
+static inline int entry_ok(const uint8_t *e, unsigned count)
 {
     static const uint8_t no_print[PRINT];
-    for (size_t p = 0; p < n; p++, e += ENTRY) {
-        if (e[ENTRY_STATE] > 1 || u16_at(e + ENTRY_EXPIRY) > MAX_DAY + MAX_RETENTION)
+    if (e[0] > 1 || u16_at(e + ENTRY_EXPIRY - ENTRY_STATE) > MAX_DAY + MAX_RETENTION)
+        return 0;
+    return e[0] != 0 || (count == 0 && memcmp(e + ENTRY_PRINT - ENTRY_STATE, no_print, PRINT) == 0);
+}
+
+static int entries_ok(const uint8_t *e, size_t n)
+{
+    for (size_t p = 0; p < n; p++, e += ENTRY)
+        if (!entry_ok(e + COUNT, u16_at(e)))
             return 0;
-        if (e[ENTRY_STATE] == 0 && (e[ENTRY_COUNT] != 0 || memcmp(e + ENTRY_PRINT, no_print, PRINT) != 0))
+    return 1;
+}
+
+static int narrow_entries_ok(const uint8_t *e, size_t n)
+{
+    for (size_t p = 0; p < n; p++, e += NARROW_ENTRY)
+        if (!entry_ok(e + NARROW_COUNT, e[0]))
             return 0;
-    }
     return 1;
 }
 
@@ -77,12 +90,24 @@ static int records_ok(const uint8_t *book, const struct layout *a)
 
 uint16_t twin_form(const uint8_t *book, size_t len)
 {
-    if (len < HEADER || u16_at(book + AT_LAYOUT) != 1)
+    if (len < HEADER || u16_at(book + AT_LAYOUT) != LAYOUT)
         return 1;
     struct layout a = layout_in(book);
     if (!layout_ok(&a, len))
         return 1;
     if (!header_ok(book, &a) || !entries_ok(book + ENTRIES, a.n) || !maps_ok(book + a.maps, &a))
+        return 2;
+    return slots_ok(book, &a) && records_ok(book, &a) ? 0 : 2;
+}
+
+uint16_t twin_form_narrow(const uint8_t *book, size_t len)
+{
+    if (len < HEADER || u16_at(book + AT_LAYOUT) != NARROW)
+        return 1;
+    struct layout a = narrow_in(book);
+    if (!layout_ok(&a, len))
+        return 1;
+    if (!header_ok(book, &a) || !narrow_entries_ok(book + ENTRIES, a.n) || !maps_ok(book + a.maps, &a))
         return 2;
     return slots_ok(book, &a) && records_ok(book, &a) ? 0 : 2;
 }

@@ -1,4 +1,4 @@
-/* The book's layout, for the twin. */
+/* The book's layout, for the twin: 2, which the calls take, and what differs in 1. */
 #ifndef ASPEN_BENCH_TWIN_LAYOUT_H
 #define ASPEN_BENCH_TWIN_LAYOUT_H
 
@@ -9,13 +9,19 @@ enum { VOLUMES = 8, BLOCK = 512, PRINT = 16, UNMAPPED = 65535, MAX_DAY = 60000, 
 enum { MAX_BLOCKS = 4096, MAX_LBNS = 1024, MAX_SLOTS = 1024, MAX_RECORDS = 16384 };
 
 /* Bytes of each part. */
-enum { HEADER = 20, ENTRIES = HEADER + 2 * VOLUMES, ENTRY = 20, CELL = 2, SLOT = 8, RECORD = 6 };
+enum { HEADER = 20, ENTRIES = HEADER + 2 * VOLUMES, ENTRY = 21, CELL = 2, SLOT = 8, RECORD = 6 };
+
+/* The number of the layout. */
+enum { LAYOUT = 2, NARROW = 1 };
+
+/* In layout 1 the count has one byte, and the rest of an entry follows it as here. */
+enum { COUNT = 2, NARROW_COUNT = 1, NARROW_ENTRY = ENTRY - COUNT + NARROW_COUNT };
 
 /* Where the header's fields stand. */
 enum { AT_LAYOUT = 0, AT_N = 2, AT_L = 4, AT_S = 6, AT_J = 8, AT_SLOTS_USED = 10, AT_RECORDS_USED = 12, AT_DAY = 14, AT_CURSOR = 16, AT_ZERO = 18 };
 
 /* Where the fields of an entry, a slot and a record stand within it. */
-enum { ENTRY_COUNT = 0, ENTRY_STATE = 1, ENTRY_EXPIRY = 2, ENTRY_PRINT = 4 };
+enum { ENTRY_COUNT = 0, ENTRY_STATE = COUNT, ENTRY_EXPIRY = COUNT + 1, ENTRY_PRINT = COUNT + 3 };
 enum { SLOT_VOLUME = 0, SLOT_ZERO = 1, SLOT_DAY = 2, SLOT_FIRST = 4, SLOT_NUMBER = 6 };
 enum { RECORD_LBN = 0, RECORD_BEFORE = 2, RECORD_AFTER = 4 };
 
@@ -36,20 +42,32 @@ struct layout {
     size_t maps, slots, records, length;
 };
 
-static inline struct layout layout_of(size_t n, size_t l, size_t s, size_t j)
+/* Of entries with so many bytes. */
+static inline struct layout layout_with(size_t entry, size_t n, size_t l, size_t s, size_t j)
 {
     struct layout a = { .n = n, .l = l, .s = s, .j = j };
-    a.maps = ENTRIES + ENTRY * n;
+    a.maps = ENTRIES + entry * n;
     a.slots = a.maps + CELL * VOLUMES * l;
     a.records = a.slots + SLOT * s;
     a.length = a.records + RECORD * j;
     return a;
 }
 
+static inline struct layout layout_of(size_t n, size_t l, size_t s, size_t j)
+{
+    return layout_with(ENTRY, n, l, s, j);
+}
+
 /* Of a book at least as long as a header. */
 static inline struct layout layout_in(const uint8_t *book)
 {
     return layout_of(u16_at(book + AT_N), u16_at(book + AT_L), u16_at(book + AT_S), u16_at(book + AT_J));
+}
+
+/* The same with the entries of layout 1. */
+static inline struct layout narrow_in(const uint8_t *book)
+{
+    return layout_with(NARROW_ENTRY, u16_at(book + AT_N), u16_at(book + AT_L), u16_at(book + AT_S), u16_at(book + AT_J));
 }
 
 static inline int layout_ok(const struct layout *a, size_t length)

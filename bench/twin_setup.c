@@ -10,7 +10,7 @@ uint16_t twin_format(uint8_t *book, size_t len, uint16_t n, uint16_t l, uint16_t
     if (!layout_ok(&a, len))
         return 1;
     memset(book, 0, a.maps);
-    put_u16(book + AT_LAYOUT, 1);
+    put_u16(book + AT_LAYOUT, LAYOUT);
     put_u16(book + AT_N, n);
     put_u16(book + AT_L, l);
     put_u16(book + AT_S, s);
