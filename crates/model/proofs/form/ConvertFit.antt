@@ -1,17 +1,19 @@
--- What a converter writes: every field equal, in form, and there and back the very bytes (document 02, K3).
-use Prim.Native.Nat.{ℕ, _≤_, _<_}
+-- What a converter writes: every field equal, in form, audited alike, and there and back the very bytes (document 02, K3).
+use Prim.Native.Nat.{ℕ, _+_, _≤_, _<_, max}
 use mathlib.Core.Path.{_≡_, refl, sym, ap, _∙_}
-use mathlib.Core.Bool.{true}
-use mathlib.Core.List.{List}
+use mathlib.Core.Bool.{true, _&&_}
+use mathlib.Core.List.{List, [], _∷_}
 use native.Mathlib.Omega.{arith}
+use lib.Dec.{eqb}
 use lib.ListN.{length, getD}
 use borrow.Author.Tests.{le-leb, le-ltb}
 use Rattle.words.proofs.Accepted.{unless-accepted, accepted-same}
 use Rattle.words.proofs.Each.{tab-each, at-each}
-use Rattle.words.specs.Lists.{all}
+use Rattle.words.specs.Choice.{if_then_else_}
+use Rattle.words.specs.Lists.{all, upFrom}
 use Rattle.words.specs.Numbers.{num}
 use Rattle.words.specs.Outcome.{accepted, unless}
-use Rattle.book.specs.Book.{Sizes, Book, Sized}
+use Rattle.book.specs.Book.{Sizes, Book, Sized, entryAt, retentionOf}
 use Rattle.book.specs.Layout.{nOffset, bookSize, bytes, sizesOf, countIn, entryOffset, entryOf, bookOf}
 use Rattle.book.specs.Form.{sizesAs, slotOk, recOk, bookOk, formAs}
 use Rattle.book.specs.FormFacts.{FormFactsAs}
@@ -21,6 +23,10 @@ use Rattle.book.proofs.FormBytes.{book-as, bytes-as}
 use Rattle.book.proofs.FormFactLaws.{facts-as}
 use Rattle.book.proofs.Laws.{book-bytes}
 use Rattle.book.proofs.SizesIn.{sizes-as, sizes-in}
+use Rattle.model.specs.Audit.{mapsSound, noMaps, countSound, hasBefore, untilIn, expirySound, printsSound, cellSound}
+use Rattle.model.specs.Audit.{currentSound, backupSound, backupsSound, audit}
+use Rattle.model.specs.Journal.{Backup, journal, backups, days}
+use Rattle.model.specs.Read.{image}
 use Rattle.model.specs.Convert.{roomNumber, converted, isNarrow, narrowNumber, toTwo, toOne}
 
 -- ---- a book with another layout number
@@ -43,6 +49,24 @@ module _ (g : ℕ) (x : Book) where
   pub layout-ok : bookOk (withLayout g x) ≡ bookOk x
   unfolding withLayout bookOk slotOk recOk
   layout-ok = refl
+
+  until-same : (p : ℕ) (bs : List Backup) → untilIn (withLayout g x) p bs ≡ untilIn x p bs
+  unfolding withLayout
+  until-same p [] = refl
+  until-same p (b ∷ bs) = ap (max (if hasBefore p (b .records) then b .day + retentionOf x (b .volume) else 0)) (until-same p bs)
+
+  -- nor does audit
+  pub layout-audit : audit (withLayout g x) ≡ audit x
+  unfolding
+      withLayout audit mapsSound noMaps countSound expirySound printsSound cellSound currentSound backupSound backupsSound journal backups
+      days image
+  layout-audit = λ i.
+      mapsSound x
+      && all (countSound x) (upFrom 0 (x .sizes .n))
+      && all (λ p. eqb (entryAt (x .entries) p .expiry) (until-same p (journal x) i)) (upFrom 0 (x .sizes .n))
+      && printsSound x
+      && currentSound x
+      && backupsSound x
 
   -- and back
   pub layout-back : withLayout (x .sizes .layout) (withLayout g x) ≡ x
@@ -121,6 +145,10 @@ module _ (from to : ℕ) (there back : Book → ℕ) (b : List ℕ) (room : ℕ)
       ap (λ (y : Book). withLayout from y) (fields-equal from to there (λ x. x) b room c small e keeps-same)
       ∙ ap (λ (g : ℕ). withLayout g (withLayout to (bookOf b))) (sym (known .layout))
       ∙ layout-back to (bookOf b)
+
+  -- audit says of the book that was written what it says of the one that was given
+  pub same-audit : audit (bookOf c) ≡ audit (bookOf b)
+  same-audit = rw (fields-equal from to there (λ x. x) b room c small e keeps-same) (layout-audit to (bookOf b))
 
   same-size : bookSize (sizesIn from (sizesOf c)) ≡ length b
   unfolding bookOf withLayout
