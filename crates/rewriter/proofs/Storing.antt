@@ -9,7 +9,7 @@ use native.Mathlib.Omega.{arith}
 use lib.ListN.{length, getD, set, drop, drop-of-length-le}
 use lib.Seq.{sets, drop-cons, length-sets}
 use borrow.Author.Tests.{leb-true, eq-eqb, ne-eqb}
-use Rattle.words.proofs.Filling.{put-sets}
+use Rattle.words.proofs.Filling.{put-as}
 use Rattle.words.proofs.LayingLaws.{sets-next, Left, left-all, left-room, left-more, left-none}
 use Rattle.words.specs.Laying.{Stored}
 use Rattle.words.specs.Numbers.{two, put}
@@ -36,13 +36,13 @@ module _ {out out₁ out₂ : List ℕ} (rest : List ℕ) (layout at c : ℕ) (l
         place = omega (arith, long);
       })
 
-  pub wide-stored : (layout ≡ 1 → ⊥) → out₁ ≡ put out at c → out₂ ≡ sets out₁ (at + 2) rest
+  pub wide-stored : {v : ℕ} → (layout ≡ 1 → ⊥) → out₁ ≡ put out at v → v ≡ c → out₂ ≡ sets out₁ (at + 2) rest
       → Stored out at (countBytes layout c ++ rest) out₂ (at + 21)
-  wide-stored n e₁ e₂ =
+  wide-stored n e₁ ev e₂ =
       rw (ne-eqb layout 1 n)
       (record {
         list =
-            e₂ ∙ ap (λ (o : List ℕ). sets o (at + 2) rest) (e₁ ∙ put-sets out at c) ∙ sets-next (two c) rest out at (at + 2) (omega arith);
+            e₂ ∙ ap (λ (o : List ℕ). sets o (at + 2) rest) (put-as out at c e₁ ev) ∙ sets-next (two c) rest out at (at + 2) (omega arith);
         place = omega (arith, long);
       })
 

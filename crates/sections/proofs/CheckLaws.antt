@@ -124,14 +124,16 @@ module _ (b : List ℕ) (count at : ℕ) (fits : at + 19 ≤ length b) where
     free-entry k = sym (free-tests ∙ rw (eq-eqb count 0 k))
 
 -- entry p of layout g, by its count and what follows it
-pub entry-tests : (g : ℕ) (b : List ℕ) (p at : ℕ) → at ≡ entryOffset g p
-    → restOk b (countIn g b at) (at + countSize g) ≡ (stateOk g b p && entryOk (entryIn g b (entryOffset g p)))
+pub entry-tests : (g : ℕ) (b : List ℕ) (p at : ℕ) → at ≡ entryOffset g p → {r : Bool} {count rest : ℕ} → r ≡ restOk b count rest
+    → count ≡ countIn g b at → rest ≡ at + countSize g → r ≡ (stateOk g b p && entryOk (entryIn g b (entryOffset g p)))
 unfolding restOk stateOk
-entry-tests g b p at e =
+entry-tests g b p at e er ec eo =
     let c = countSize g in
     let one : at + c + 1 ≡ at + (c + 1) = omega arith in
     let three : at + c + 3 ≡ at + (c + 3) = omega arith in
-    (λ i. leb (getD b (at + c) 0) 1
+    er
+    ∙ (λ i. restOk b (ec i) (eo i))
+    ∙ (λ i. leb (getD b (at + c) 0) 1
     && entryOk
     (record {
       count = countIn g b at;

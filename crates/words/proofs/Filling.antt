@@ -16,6 +16,10 @@ use Rattle.words.proofs.LayingLaws.{sets-front}
 pub put-sets : (b : List ℕ) (at v : ℕ) → put b at v ≡ sets b at (two v)
 put-sets b at v = rw add-one
 
+-- where code wrote v, and that is c
+pub put-as : (b : List ℕ) (at c : ℕ) {b′ : List ℕ} {v : ℕ} → b′ ≡ put b at v → v ≡ c → b′ ≡ sets b at (two c)
+put-as b at c e f = e ∙ rw f (put-sets b at c)
+
 -- three numbers, one after the other
 pub puts-three : (b : List ℕ) (at x y z : ℕ) {b₁ b₂ b₃ : List ℕ} → b₁ ≡ put b at x → b₂ ≡ put b₁ (at + 2) y → b₃ ≡ put b₂ (at + 4) z
     → b₃ ≡ sets b at (flat two (x ∷ y ∷ z ∷ []))

@@ -2,12 +2,12 @@
 use Prim.Native.Nat.{ℕ, _-_, _≤_}
 use mathlib.Core.Path.{_≡_, sym, ap, _∙_}
 use native.Mathlib.Omega.{arith}
-use lib.Dec.{leb}
 use borrow.Author.Needs.{needs}
 use Rattle.words.proofs.Each.{each-none, each-grow}
 use Rattle.words.specs.Lists.{each}
-use Rattle.book.specs.Book.{entryAt}
+use Rattle.book.specs.Book.{freeEntry, entryAt}
 use Rattle.book.specs.Layout.{bookOf}
+use Rattle.book.specs.Next.{countAs}
 use Rattle.model.specs.Convert.{isNarrow}
 use Rattle.convert.proofs.Exits.{narrow-each}
 use Rattle.convert.proofs.all_narrow.Statement.{statement}
@@ -28,9 +28,10 @@ count-requires c κs =
     (l .before .before .before .pre, omega (arith, l .before .blocks2 .ensures))
 
 loop-again : tie.Need-loop-again Inv-loop μ-loop
+unfolding countAs
 loop-again c =
     let l = c .before .before .loop in
-    (omega arith, each-grow _ _ _ (omega arith) (l .inv .1) (ap (λ (k : ℕ). leb k 255) (c .count .ensures)))
+    (omega arith, each-grow _ _ _ (omega arith) (l .inv .1) (ap (λ (k : ℕ). isNarrow (countAs k freeEntry)) (c .count .ensures)))
 
 returns : tie.Need-returns Inv-loop μ-loop
 returns c =

@@ -69,7 +69,7 @@ returns-2 c =
     let w = k .before .before .before .before in
     let s = w .before .before .before .before .before in
     wide-stored (now (s .args .rest)) (s .args .layout) (s .args .at) (s .args .count) (s .pre .0 .1) (λ e. omega arith)
-    (w .put-u16 .ensures) (k .put-bytes2 .ensures)
+    (w .put-u16 .ensures) (omega arith) (k .put-bytes2 .ensures)
 
 pub put-entry-spec : {M : Type 1} → statement M
 put-entry-spec =

@@ -1,6 +1,6 @@
 -- `entries::entry::set_count`: what the store left, by `is-count`.
-use mathlib.Core.Path.{_∙_}
-use Rattle.words.proofs.Filling.{put-sets}
+use native.Mathlib.Omega.{arith}
+use Rattle.words.proofs.Filling.{put-as}
 use Rattle.book.proofs.Write.{is-count}
 use borrow.Author.Needs.{needs}
 use Rattle.entries.proofs.entry.set_count.Statement.{statement}
@@ -22,7 +22,7 @@ returns c =
     let s = start (found k) in
     let at = found k .entry-offset in
     is-count (s .pre .0) (s .args .p .0) (at .result) (s .pre .1) (at .ensures) (s .args .c)
-    (k .put-u16 .ensures ∙ put-sets (s .args .book .now) (at .result) (s .args .c))
+    (put-as (s .args .book .now) (at .result) (s .args .c) (k .put-u16 .ensures) (omega arith))
 
 pub set-count-spec : {M : Type 1} → statement M
 set-count-spec =

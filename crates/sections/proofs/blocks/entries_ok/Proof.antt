@@ -1,6 +1,6 @@
 -- `sections::blocks::entries_ok` meets its contract: what is left to test decides as the whole does.
-use Prim.Native.Nat.{ℕ, _+_, _≤_, _-_}
-use mathlib.Core.Path.{_≡_, refl, sym, ap, _∙_}
+use Prim.Native.Nat.{ℕ, _≤_, _-_}
+use mathlib.Core.Path.{_≡_, refl, sym, _∙_}
 use mathlib.Core.Bool.{_&&_}
 use mathlib.Core.List.{List}
 use native.Mathlib.Omega.{arith}
@@ -9,10 +9,10 @@ use denote.Ref.{now}
 use Rattle.words.proofs.ChoiceLaws.{failed, passed}
 use Rattle.words.specs.Lists.{each}
 use Rattle.words.proofs.Each.{each-none, each-more, each-stop}
-use Rattle.book.specs.Layout.{current, countSize, entryOffset, currentOffset, entryIn}
+use Rattle.book.specs.Layout.{current, entryOffset, currentOffset, entryIn}
 use Rattle.book.specs.Form.{stateOk, entryOk}
 use Rattle.book.proofs.Widths.{offset-now}
-use Rattle.sections.specs.Checks.{restOk, entriesOk}
+use Rattle.sections.specs.Checks.{entriesOk}
 use Rattle.sections.proofs.CheckLaws.{entry-tests}
 use Rattle.sections.proofs.blocks.entries_ok.Statement.{statement}
 use Rattle.sections.proofs.blocks.entries_ok.Tie as tie
@@ -40,9 +40,8 @@ tested : (c : tie.After-rest-ok Inv-loop μ-loop)
     → c .rest-ok .result ≡ (stateOk current (book c) (turn c .loop .p)
     && entryOk (entryIn current (book c) (entryOffset current (turn c .loop .p))))
 tested c =
-    c .rest-ok .ensures
-    ∙ ap (λ (count : ℕ). restOk (book c) count (currentOffset (turn c .loop .p) + countSize current)) (c .before .u16-at .ensures)
-    ∙ entry-tests current (book c) (turn c .loop .p) (currentOffset (turn c .loop .p)) (offset-now (turn c .loop .p))
+    let p = turn c .loop .p in
+    entry-tests current (book c) p (currentOffset p) (offset-now p) (c .rest-ok .ensures) (c .before .u16-at .ensures) (omega arith)
 
 returns : tie.Need-returns Inv-loop μ-loop
 returns c =

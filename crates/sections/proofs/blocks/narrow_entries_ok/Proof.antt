@@ -1,6 +1,6 @@
 -- `sections::blocks::narrow_entries_ok` meets its contract: what is left to test decides as the whole does.
 use Prim.Native.Nat.{ℕ, _+_, _*_, _≤_, _-_}
-use mathlib.Core.Path.{_≡_, refl, sym, ap, _∙_}
+use mathlib.Core.Path.{_≡_, refl, sym, _∙_}
 use mathlib.Core.Bool.{_&&_}
 use mathlib.Core.List.{List}
 use native.Mathlib.Omega.{arith}
@@ -9,10 +9,10 @@ use denote.Ref.{now}
 use Rattle.words.proofs.ChoiceLaws.{failed, passed}
 use Rattle.words.specs.Lists.{each}
 use Rattle.words.proofs.Each.{each-none, each-more, each-stop}
-use Rattle.book.specs.Layout.{countSize, entriesFrom, entryOffset, entryIn}
+use Rattle.book.specs.Layout.{entriesFrom, entryOffset, entryIn}
 use Rattle.book.specs.Form.{stateOk, entryOk}
 use Rattle.book.proofs.Widths.{narrow-offset}
-use Rattle.sections.specs.Checks.{restOk, entriesOk}
+use Rattle.sections.specs.Checks.{entriesOk}
 use Rattle.sections.proofs.CheckLaws.{entry-tests}
 use Rattle.sections.proofs.blocks.narrow_entries_ok.Statement.{statement}
 use Rattle.sections.proofs.blocks.narrow_entries_ok.Tie as tie
@@ -38,9 +38,8 @@ tested : (c : tie.After-rest-ok Inv-loop μ-loop)
     → c .rest-ok .result ≡ (stateOk 1 (book c) (turn c .loop .p)
     && entryOk (entryIn 1 (book c) (entryOffset 1 (turn c .loop .p))))
 tested c =
-    c .rest-ok .ensures
-    ∙ ap (λ (count : ℕ). restOk (book c) count (entriesFrom + turn c .loop .p * 20 + countSize 1)) (c .before .wide .ensures .0)
-    ∙ entry-tests 1 (book c) (turn c .loop .p) (entriesFrom + turn c .loop .p * 20) (narrow-offset (turn c .loop .p))
+    let p = turn c .loop .p in
+    entry-tests 1 (book c) p (entriesFrom + p * 20) (narrow-offset p) (c .rest-ok .ensures) (c .before .wide .ensures .0) (omega arith)
 
 returns : tie.Need-returns Inv-loop μ-loop
 returns c =
