@@ -3,16 +3,14 @@
 //! before the book that goes by it.
 
 use reference::layout::{Book, BLOCK_BYTES, HELD};
-use reference::prng::Prng;
 
 use crate::bench::Bench;
 use crate::calls::{Call, Logged, INTERRUPTED};
-use crate::cuts::{are_all, cuts};
+use crate::cutting::{cut_along, Bounds, Counts, Cutting};
 use crate::disk::Disk;
 use crate::fault::{Fault, How};
 use crate::judge::{BOOK, POOL};
 use crate::played::Scene;
-use crate::power::{Bounds, Counts};
 use crate::program::{status, Ended};
 use crate::sealed;
 use crate::story::{Standing, STORE};
@@ -246,10 +244,7 @@ struct Bound {
 struct Cutter<'b, 'a> {
     bench: &'b mut Bench<'a>,
     repair: &'b Repair,
-    bounds: Bounds,
-    prng: Prng,
-    counts: Counts,
-    chosen: Vec<(Tree, Standing, bool)>,
+    cutting: Cutting<(Tree, Standing, bool)>,
 }
 
 /// The power is cut after each call, of the command and of the same one after the fault.
@@ -259,10 +254,7 @@ pub fn try_cuts(bench: &mut Bench, case: &Case, bounds: Bounds) -> Result<Counts
     let mut cutter = Cutter {
         bench,
         repair,
-        bounds,
-        prng: Prng::seeded(case.fault.map_or(0, |fault| fault.at as u64)),
-        counts: Counts::default(),
-        chosen: Vec::new(),
+        cutting: Cutting::new(bounds, case.fault.map_or(0, |fault| fault.at)),
     };
     let mut disk = Disk::with(&repair.rotted);
     let mut bound = Bound {
@@ -276,14 +268,13 @@ pub fn try_cuts(bench: &mut Bench, case: &Case, bounds: Bounds) -> Result<Counts
     {
         bound = cutter.process(&mut disk, fault, bound)?;
     }
-    for (tree, standing, doubt) in std::mem::take(&mut cutter.chosen) {
-        cutter.bench.store(&tree)?;
+    let Cutter { bench, cutting, .. } = cutter;
+    cutting.open_chosen(|(tree, standing, doubt)| {
+        bench.store(&tree)?;
         repair
-            .ends_well(cutter.bench, standing, doubt)
-            .map_err(|why| format!("after a power cut that left {standing}: {why}"))?;
-        cutter.counts.opened += 1;
-    }
-    Ok(cutter.counts)
+            .ends_well(bench, standing, doubt)
+            .map_err(|why| format!("after a power cut that left {standing}: {why}"))
+    })
 }
 
 impl Cutter<'_, '_> {
@@ -292,37 +283,27 @@ impl Cutter<'_, '_> {
         &mut self,
         disk: &mut Disk,
         fault: Option<Fault>,
-        mut bound: Bound,
+        bound: Bound,
     ) -> Result<Bound, String> {
         let ended = self.bench.ask_with(&self.repair.line, fault)?;
         let seen = self.bench.load()?;
         let (reached, _) = self.repair.stands(self.bench, &seen)?;
-        disk.start_process();
-        for logged in &ended.calls {
-            bound.doubt |= is_failed_sync(logged);
-            if disk.play(logged) {
-                self.cut(disk, bound)
-                    .map_err(|why| format!("after call {}: {why}", logged.number))?;
-            }
-        }
-        if disk.seen() != seen {
-            return Err("the shim didn't see all that was written".into());
-        }
-        let bound = promised(&ended, bound, reached);
+        let after = |calls: &[Logged]| Bound {
+            doubt: bound.doubt || calls.iter().any(is_failed_sync),
+            ..bound
+        };
+        cut_along(disk, &ended.calls, &seen, |disk, calls| {
+            self.cut(disk, after(calls))
+        })?;
+        let bound = promised(&ended, after(&ended.calls), reached);
         self.cut(disk, bound)
             .map_err(|why| format!("after the command: {why}"))?;
         Ok(bound)
     }
 
     fn cut(&mut self, disk: &Disk, bound: Bound) -> Result<(), String> {
-        let choices = disk.choices();
-        if !are_all(&choices, self.bounds.cuts) {
-            self.counts.partial += 1;
-        }
-        for ways in cuts(&choices, self.bounds.cuts, &mut self.prng) {
-            let tree = disk.after_cut(&ways);
+        self.cutting.cut(disk, |cutting, tree| {
             let (standing, healed) = self.repair.stands(self.bench, &tree)?;
-            self.counts.cuts += 1;
             if !standing.reaches(bound.standing) {
                 return Err(format!("{standing}, and {} was promised", bound.standing));
             }
@@ -333,18 +314,10 @@ impl Cutter<'_, '_> {
             if goes_by_it && !healed && !bound.doubt {
                 return Err("the new book goes by a block that isn't healed".into());
             }
-            self.draw(tree, standing, bound.doubt);
-        }
-        Ok(())
-    }
-
-    fn draw(&mut self, tree: Tree, standing: Standing, doubt: bool) {
-        let chosen = (tree, standing, doubt);
-        if self.chosen.len() < self.bounds.opened {
-            self.chosen.push(chosen);
-        } else if let Some(place) = self.chosen.get_mut(self.prng.index(self.counts.cuts)) {
-            *place = chosen;
-        }
+            let state = (tree, standing, bound.doubt);
+            cutting.draw(state, cutting.counts.cuts, cutting.bounds.opened);
+            Ok(())
+        })
     }
 }
 

@@ -1,8 +1,8 @@
 //! How much is tried: in `make check`, and in `make faults`.
 
 use crate::bench::Reading;
+use crate::cutting::Bounds;
 use crate::fault::How;
-use crate::power::Bounds;
 
 #[derive(Clone, Copy)]
 pub struct Level {

@@ -11,6 +11,7 @@ mod broken;
 mod calls;
 mod change;
 mod cuts;
+mod cutting;
 mod damage;
 mod digest;
 mod disk;

@@ -7,6 +7,7 @@ use std::sync::Mutex;
 use std::thread;
 
 use crate::bench::{Bench, Reading};
+use crate::cutting;
 use crate::damage;
 use crate::first;
 use crate::heal;
@@ -211,9 +212,9 @@ impl Stage {
         hunt: Option<&Hunt>,
         items: &[I],
         label: impl Fn(&I) -> String + Sync,
-        work: impl Fn(&mut Bench, &I) -> Result<power::Counts, String> + Sync,
-    ) -> (Outcome, power::Counts) {
-        let total = Mutex::new(power::Counts::default());
+        work: impl Fn(&mut Bench, &I) -> Result<cutting::Counts, String> + Sync,
+    ) -> (Outcome, cutting::Counts) {
+        let total = Mutex::new(cutting::Counts::default());
         let outcome = self.share(what, hunt, items, label, |bench, item| {
             let counts = work(bench, item)?;
             total.lock().expect("no worker panics").add(counts);

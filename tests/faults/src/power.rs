@@ -6,11 +6,9 @@ use std::collections::hash_map::DefaultHasher;
 use std::collections::HashSet;
 use std::hash::{Hash, Hasher};
 
-use reference::prng::Prng;
-
 use crate::bench::Bench;
 use crate::calls::Logged;
-use crate::cuts::{are_all, cuts};
+use crate::cutting::{cut_along, Bounds, Counts, Cutting};
 use crate::disk::Disk;
 use crate::fault::{Fault, How};
 use crate::played::{bring_image, Scene};
@@ -23,33 +21,6 @@ use crate::tree::Tree;
 pub struct Chain {
     pub at: usize,
     pub fault: Option<Fault>,
-}
-
-/// How many power cuts are tried.
-#[derive(Clone, Copy)]
-pub struct Bounds {
-    /// At each call.
-    pub cuts: usize,
-    /// Of those, in each chain, opened by the program.
-    pub opened: usize,
-    /// The same of those without a book: whether a format can be run again only the program says.
-    pub formatted: usize,
-}
-
-#[derive(Clone, Copy, Default)]
-pub struct Counts {
-    pub cuts: usize,
-    pub opened: usize,
-    /// Calls after which there are more ways than are tried.
-    pub partial: usize,
-}
-
-impl Counts {
-    pub fn add(&mut self, other: Counts) {
-        self.cuts += other.cuts;
-        self.opened += other.opened;
-        self.partial += other.partial;
-    }
 }
 
 pub fn chains(scenes: &[Scene], ways: &[How]) -> Vec<Chain> {
@@ -100,11 +71,8 @@ pub fn try_chain(
 ) -> Result<Counts, String> {
     let mut cutter = Cutter {
         bench,
-        bounds,
-        prng: Prng::seeded(chain.at as u64),
-        counts: Counts::default(),
+        cutting: Cutting::new(bounds, chain.at),
         different: HashSet::new(),
-        chosen: Vec::new(),
     };
     let first = cutter.sequence(scenes, chain, Again::Always)?;
     // The next command may also meet a book that isn't there for good yet.
@@ -169,13 +137,9 @@ pub fn promised(command: &Command, ended: &Ended, bound: Standing, reached: Stan
 
 struct Cutter<'b, 'a> {
     bench: &'b mut Bench<'a>,
-    bounds: Bounds,
-    prng: Prng,
-    counts: Counts,
-    /// Trees seen in this chain.
+    cutting: Cutting<(Tree, Standing)>,
+    /// Trees seen in this chain, of which each is drawn once.
     different: HashSet<u64>,
-    /// Those that the program is to open, drawn so that each has the same chance.
-    chosen: Vec<(Tree, Standing)>,
 }
 
 impl Cutter<'_, '_> {
@@ -211,70 +175,47 @@ impl Cutter<'_, '_> {
         for process in processes {
             let command = &scenes[process.at].command;
             bring_image(&mut disk, command);
-            disk.start_process();
-            for logged in &process.calls {
-                if disk.play(logged) {
-                    let place = || format!("in the {command} after call {}", logged.number);
-                    self.cut(&disk, process.during)
-                        .map_err(|why| format!("{}: {why}", place()))?;
-                }
-            }
-            if disk.seen() != process.seen {
-                return Err("the shim didn't see all that was written".into());
-            }
+            cut_along(&mut disk, &process.calls, &process.seen, |disk, _| {
+                self.cut(disk, process.during)
+            })
+            .map_err(|why| format!("in the {command}: {why}"))?;
             self.cut(&disk, process.after)
                 .map_err(|why| format!("after the {command}: {why}"))?;
         }
         Ok(())
     }
 
-    /// Cuts the power now, in all ways or some.
     fn cut(&mut self, disk: &Disk, bound: Standing) -> Result<(), String> {
-        let choices = disk.choices();
-        if !are_all(&choices, self.bounds.cuts) {
-            self.counts.partial += 1;
-        }
-        for ways in cuts(&choices, self.bounds.cuts, &mut self.prng) {
-            let tree = disk.after_cut(&ways);
+        self.cutting.cut(disk, |cutting, tree| {
             let standing = self.bench.judge.stands(&tree)?;
-            self.counts.cuts += 1;
             if !standing.reaches(bound) {
                 return Err(format!("{standing}, and {bound} was promised"));
             }
-            self.draw(tree, standing);
-        }
-        Ok(())
-    }
-
-    fn draw(&mut self, tree: Tree, standing: Standing) {
-        let mut hasher = DefaultHasher::new();
-        tree.hash(&mut hasher);
-        if !self.different.insert(hasher.finish()) {
-            return;
-        }
-        let room = match standing.store {
-            0 => self.bounds.formatted,
-            _ => self.bounds.opened,
-        };
-        if self.chosen.len() < room {
-            self.chosen.push((tree, standing));
-            return;
-        }
-        let place = self.prng.index(self.different.len());
-        if let Some(chosen) = self.chosen.get_mut(place) {
-            *chosen = (tree, standing);
-        }
+            if self.different.insert(hash_of(&tree)) {
+                let room = match standing.store {
+                    0 => cutting.bounds.formatted,
+                    _ => cutting.bounds.opened,
+                };
+                cutting.draw((tree, standing), self.different.len(), room);
+            }
+            Ok(())
+        })
     }
 
     /// The program opens what the power cuts left, and goes on with the story.
-    fn open_chosen(mut self, upto: usize) -> Result<Counts, String> {
-        for (tree, standing) in std::mem::take(&mut self.chosen) {
-            self.bench.store(&tree)?;
-            self.bench
+    fn open_chosen(self, upto: usize) -> Result<Counts, String> {
+        let bench = self.bench;
+        self.cutting.open_chosen(|(tree, standing)| {
+            bench.store(&tree)?;
+            bench
                 .goes_on(standing, upto)
-                .map_err(|why| format!("after a power cut that left {standing}: {why}"))?;
-            self.counts.opened += 1;
-        }
-        Ok(self.counts)
+                .map_err(|why| format!("after a power cut that left {standing}: {why}"))
+        })
     }
+}
+
+fn hash_of(tree: &Tree) -> u64 {
+    let mut hasher = DefaultHasher::new();
+    tree.hash(&mut hasher);
+    hasher.finish()
 }

@@ -2,18 +2,16 @@
 //! the old one or the new one, bit for bit; the old one is there until the new one is so for good;
 //! and the same command, given again, ends well.
 
-use reference::prng::Prng;
 use reference::store::{convert, Way};
 
 use crate::bench::Bench;
 use crate::calls::Logged;
-use crate::cuts::{are_all, cuts};
+use crate::cutting::{cut_along, Bounds, Counts, Cutting};
 use crate::disk::Disk;
 use crate::fault::{Fault, How};
 use crate::first::made_first;
 use crate::judge::{BOOK, LOCK, POOL};
 use crate::played::Scene;
-use crate::power::{Bounds, Counts};
 use crate::program::{status, Ended};
 use crate::sealed;
 use crate::story::{Standing, STORE};
@@ -239,10 +237,7 @@ fn nothing_left(case: &Case, ended: &Ended, book: Book, tree: &Tree) -> Result<(
 struct Cutter<'b, 'a> {
     bench: &'b mut Bench<'a>,
     upgrade: &'b Upgrade,
-    bounds: Bounds,
-    prng: Prng,
-    counts: Counts,
-    chosen: Vec<(Tree, Book)>,
+    cutting: Cutting<(Tree, Book)>,
 }
 
 /// The power is cut after each call, of the command and of the same one after the fault.
@@ -252,24 +247,20 @@ pub fn try_cuts(bench: &mut Bench, case: &Case, bounds: Bounds) -> Result<Counts
     let mut cutter = Cutter {
         bench,
         upgrade,
-        bounds,
-        prng: Prng::seeded(case.fault.map_or(0, |fault| fault.at as u64)),
-        counts: Counts::default(),
-        chosen: Vec::new(),
+        cutting: Cutting::new(bounds, case.fault.map_or(0, |fault| fault.at)),
     };
     let mut disk = Disk::with(&upgrade.old);
     let mut done = false;
     for fault in case.fault.into_iter().map(Some).chain([None]) {
         done = cutter.process(&mut disk, fault, done)?;
     }
-    for (tree, book) in std::mem::take(&mut cutter.chosen) {
-        cutter.bench.store(&tree)?;
+    let Cutter { bench, cutting, .. } = cutter;
+    cutting.open_chosen(|(tree, book)| {
+        bench.store(&tree)?;
         upgrade
-            .ends_well(cutter.bench, book)
-            .map_err(|why| format!("after a power cut that left the {book:?} book: {why}"))?;
-        cutter.counts.opened += 1;
-    }
-    Ok(cutter.counts)
+            .ends_well(bench, book)
+            .map_err(|why| format!("after a power cut that left the {book:?} book: {why}"))
+    })
 }
 
 impl Cutter<'_, '_> {
@@ -283,16 +274,7 @@ impl Cutter<'_, '_> {
         let ended = self.bench.ask_with(LINE, fault)?;
         let seen = self.bench.load()?;
         self.upgrade.book(&seen)?;
-        disk.start_process();
-        for logged in &ended.calls {
-            if disk.play(logged) {
-                self.cut(disk, done)
-                    .map_err(|why| format!("after call {}: {why}", logged.number))?;
-            }
-        }
-        if disk.seen() != seen {
-            return Err("the shim didn't see all that was written".into());
-        }
+        cut_along(disk, &ended.calls, &seen, |disk, _| self.cut(disk, done))?;
         done |= ended.status == Some(status::DONE);
         self.cut(disk, done)
             .map_err(|why| format!("after the command: {why}"))?;
@@ -302,19 +284,14 @@ impl Cutter<'_, '_> {
     /// In each state the book is whole. Until it is the new one in all of them, the old one is
     /// there in each.
     fn cut(&mut self, disk: &Disk, done: bool) -> Result<(), String> {
-        let choices = disk.choices();
-        if !are_all(&choices, self.bounds.cuts) {
-            self.counts.partial += 1;
-        }
         let (mut sure, mut kept) = (true, true);
-        for ways in cuts(&choices, self.bounds.cuts, &mut self.prng) {
-            let tree = disk.after_cut(&ways);
+        self.cutting.cut(disk, |cutting, tree| {
             let book = self.upgrade.book(&tree)?;
-            self.counts.cuts += 1;
             sure &= book == Book::New;
             kept &= self.upgrade.has_old(&tree);
-            self.draw(tree, book);
-        }
+            cutting.draw((tree, book), cutting.counts.cuts, cutting.bounds.opened);
+            Ok(())
+        })?;
         if done && !sure {
             return Err("the old book is back, and the command was done".into());
         }
@@ -322,13 +299,5 @@ impl Cutter<'_, '_> {
             return Err("the old book is gone, and the new one isn't there for good".into());
         }
         Ok(())
-    }
-
-    fn draw(&mut self, tree: Tree, book: Book) {
-        if self.chosen.len() < self.bounds.opened {
-            self.chosen.push((tree, book));
-        } else if let Some(place) = self.chosen.get_mut(self.prng.index(self.counts.cuts)) {
-            *place = (tree, book);
-        }
     }
 }
