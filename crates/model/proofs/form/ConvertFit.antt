@@ -1,19 +1,18 @@
 -- What a converter writes: every field equal, in form, audited alike, and there and back the very bytes (document 02, K3).
-use Prim.Native.Nat.{ℕ, _+_, _≤_, _<_, max}
+use Prim.Native.Nat.{ℕ, _≤_, _<_}
 use mathlib.Core.Path.{_≡_, refl, sym, ap, _∙_}
 use mathlib.Core.Bool.{true, _&&_}
-use mathlib.Core.List.{List, [], _∷_}
+use mathlib.Core.List.{List}
 use native.Mathlib.Omega.{arith}
 use lib.Dec.{eqb}
 use lib.ListN.{length, getD}
 use borrow.Author.Tests.{le-leb, le-ltb}
 use Rattle.words.proofs.Accepted.{unless-accepted, accepted-same}
 use Rattle.words.proofs.Each.{tab-each, at-each}
-use Rattle.words.specs.Choice.{if_then_else_}
 use Rattle.words.specs.Lists.{all, upFrom}
 use Rattle.words.specs.Numbers.{num}
 use Rattle.words.specs.Outcome.{accepted, unless}
-use Rattle.book.specs.Book.{Sizes, Book, Sized, entryAt, retentionOf}
+use Rattle.book.specs.Book.{Sizes, Book, Sized, entryAt}
 use Rattle.book.specs.Layout.{nOffset, bookSize, bytes, sizesOf, countIn, entryOffset, entryOf, bookOf}
 use Rattle.book.specs.Form.{sizesAs, slotOk, recOk, bookOk, formAs}
 use Rattle.book.specs.FormFacts.{FormFactsAs}
@@ -23,10 +22,11 @@ use Rattle.book.proofs.FormBytes.{book-as, bytes-as}
 use Rattle.book.proofs.FormFactLaws.{facts-as}
 use Rattle.book.proofs.Laws.{book-bytes}
 use Rattle.book.proofs.SizesIn.{sizes-as, sizes-in}
-use Rattle.model.specs.Audit.{mapsSound, noMaps, countSound, hasBefore, untilIn, expirySound, printsSound, cellSound}
-use Rattle.model.specs.Audit.{currentSound, backupSound, backupsSound, audit}
-use Rattle.model.specs.Journal.{Backup, journal, backups, days}
+use Rattle.model.specs.Audit.{mapsSound, noMaps, countSound, expirySound, printsSound, cellSound, currentSound, backupSound}
+use Rattle.model.specs.Audit.{backupsSound, audit}
+use Rattle.model.specs.Journal.{journal, backups, days}
 use Rattle.model.specs.Read.{image}
+use Rattle.model.proofs.kept.JournalLaws.{untilIn-book}
 use Rattle.model.specs.Convert.{roomNumber, converted, isNarrow, narrowNumber, toTwo, toOne}
 
 -- ---- a book with another layout number
@@ -50,11 +50,6 @@ module _ (g : ℕ) (x : Book) where
   unfolding withLayout bookOk slotOk recOk
   layout-ok = refl
 
-  until-same : (p : ℕ) (bs : List Backup) → untilIn (withLayout g x) p bs ≡ untilIn x p bs
-  unfolding withLayout
-  until-same p [] = refl
-  until-same p (b ∷ bs) = ap (max (if hasBefore p (b .records) then b .day + retentionOf x (b .volume) else 0)) (until-same p bs)
-
   -- nor does audit
   pub layout-audit : audit (withLayout g x) ≡ audit x
   unfolding
@@ -63,7 +58,7 @@ module _ (g : ℕ) (x : Book) where
   layout-audit = λ i.
       mapsSound x
       && all (countSound x) (upFrom 0 (x .sizes .n))
-      && all (λ p. eqb (entryAt (x .entries) p .expiry) (until-same p (journal x) i)) (upFrom 0 (x .sizes .n))
+      && all (λ p. eqb (entryAt (x .entries) p .expiry) (untilIn-book x (withLayout g x) p (journal x) refl i)) (upFrom 0 (x .sizes .n))
       && printsSound x
       && currentSound x
       && backupsSound x
