@@ -73,17 +73,17 @@ befores-all z ms (b ∷ bs) n rows ok e =
 
 -- ---- days never fall, as form says
 
-days-slots : (rs : List Rec) (d e : ℕ) (ts : List Slot) → d ≤ e → all (λ t. leb d (t .day)) ts ≡ true → daysOk ts ≡ true
+days-slots : (gone : List Slot) (rs : List Rec) (d e : ℕ) (ts : List Slot) → d ≤ e → all (λ t. leb d (t .day)) ts ≡ true → daysOk ts ≡ true
     → all (λ t. leb (t .day) e) ts ≡ true
-    → Days d (journalOf ts rs) e
+    → Days d (journalOf gone ts rs) e
 unfolding Days laterOk
-days-slots rs d e [] h low ok high = h
-days-slots rs d e (t ∷ ts) h low ok high =
+days-slots gone rs d e [] h low ok high = h
+days-slots gone rs d e (t ∷ ts) h low ok high =
     let a = and-true (leb d (t .day)) (all (λ t. leb d (t .day)) ts) low in
     let b = and-true (all (laterOk t) ts) (daysOk ts) ok in
     let c = and-true (leb (t .day) e) (all (λ t. leb (t .day) e) ts) high in (
       leb-true d (t .day) (a .0),
-      days-slots (drop (t .number) rs) (t .day) e ts (leb-true (t .day) e (c .0))
+      days-slots (t ∷ gone) (drop (t .number) rs) (t .day) e ts (leb-true (t .day) e (c .0))
           (all-weaker (laterOk t) (λ u. leb (t .day) (u .day)) ts (λ u f. and-true (leb (t .day) (u .day)) _ f .0) (b .0))
           (b .1) (c .1),
     )
@@ -94,7 +94,7 @@ module _ (x : Book) (s : Sized x) (p : BookParts x) where
   days-journal : Days 0 (journal x) (x .day)
   unfolding slotOk journal
   days-journal =
-      days-slots (x .records) 0 (x .day) (x .slots) (omega arith)
+      days-slots [] (x .records) 0 (x .day) (x .slots) (omega arith)
       (all-weaker (slotOk x) (λ t. leb 0 (t .day)) (x .slots) (λ t f. le-leb 0 (t .day) (omega arith)) (p .slots))
       (p .days)
       (all-weaker (slotOk x) (λ t. leb (t .day) (x .day)) (x .slots)

@@ -52,9 +52,13 @@ countSound x p = eqb (entryAt (x .entries) p .count) (countOf (eqb p) (joined (x
 abbrev pub hasBefore : ℕ → List Rec → Bool
 hasBefore p rs = someOf (λ r. eqb (r .before) p) rs
 
+-- the last day for which backup b keeps what it replaced, where its volume keeps r days
+abbrev pub dueOf : ℕ → Backup → ℕ
+dueOf r b = b .day + r
+
 abbrev pub untilIn : Book → ℕ → List Backup → ℕ
 untilIn x p [] = 0
-untilIn x p (b ∷ bs) = max (if hasBefore p (b .records) then b .day + retentionOf x (b .volume) else 0) (untilIn x p bs)
+untilIn x p (b ∷ bs) = max (if hasBefore p (b .records) then dueOf (retentionOf x (b .volume)) b else 0) (untilIn x p bs)
 
 unfoldable pub expirySound : Book → ℕ → Bool
 expirySound x p = eqb (entryAt (x .entries) p .expiry) (untilIn x p (journal x))

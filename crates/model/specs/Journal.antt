@@ -2,8 +2,10 @@
 use Prim.Native.Nat.{ℕ}
 use mathlib.Core.Bool.{Bool, not, _||_}
 use mathlib.Core.List.{List, [], _∷_, map}
+use mathlib.Core.Option.{Option, none, some}
 use lib.ListN.{take, drop}
 use lib.Dec.{ltb, eqb}
+use Rattle.words.specs.Choice.{if_then_else_}
 use Rattle.words.specs.Lists.{those}
 use Rattle.book.specs.Book.{Slot, Rec, Book}
 use Rattle.book.specs.Form.{enrolled}
@@ -11,16 +13,24 @@ use Rattle.book.specs.Form.{enrolled}
 pub record Backup : Type 0 where
   pub volume : ℕ
   pub day : ℕ
+  -- the day of the volume's backup before it, if the book has one
+  pub prev : Option ℕ
   pub records : List Rec
 
--- "the first pair starts at 0, each next where the last ended"
-abbrev pub journalOf : List Slot → List Rec → List Backup
-journalOf [] rs = []
-journalOf (t ∷ ts) rs =
-    record { volume = t .volume; day = t .day; records = take (t .number) rs } ∷ journalOf ts (drop (t .number) rs)
+-- the day of the volume's last backup in these slots, the newest of them first
+abbrev pub lastDay : ℕ → List Slot → Option ℕ
+lastDay v [] = none
+lastDay v (t ∷ ts) = if eqb (t .volume) v then some (t .day) else lastDay v ts
+
+-- "the first pair starts at 0, each next where the last ended"; the slots `gone` came before, the newest of them first
+abbrev pub journalOf : List Slot → List Slot → List Rec → List Backup
+journalOf gone [] rs = []
+journalOf gone (t ∷ ts) rs =
+    record { volume = t .volume; day = t .day; prev = lastDay (t .volume) gone; records = take (t .number) rs }
+    ∷ journalOf (t ∷ gone) ts (drop (t .number) rs)
 
 unfoldable pub journal : Book → List Backup
-journal x = journalOf (x .slots) (x .records)
+journal x = journalOf [] (x .slots) (x .records)
 
 -- "A volume's k-th used slot is its backup number k, from 1": element k - 1, and the backups after k are `drop k`
 abbrev pub backupsIn : ℕ → List Backup → List Backup

@@ -1,19 +1,20 @@
 -- The journal as contracts of functions over it say it: the backup that a slot holds, a volume's backups in the slots from one on, and what
 -- an LBN's first record says.
-use Prim.Native.Nat.{ℕ, _+_}
+use Prim.Native.Nat.{ℕ}
 use mathlib.Core.Bool.{Bool, not, _||_}
 use mathlib.Core.List.{List, [], _∷_}
+use mathlib.Core.Option.{none}
 use lib.Dec.{eqb, leb}
 use lib.ListN.{getD, drop}
 use Rattle.book.specs.Book.{Rec, Book, cellAt, retentionOf}
 use Rattle.model.specs.Journal.{Backup, journal, backupsIn}
 use Rattle.words.specs.Blocks.{unmapped}
 use Rattle.words.specs.Lists.{firstThat, all, upFrom}
-use Rattle.model.specs.Audit.{cellSound}
+use Rattle.model.specs.Audit.{dueOf, cellSound}
 use Rattle.model.specs.Read.{recordsOf, beforeOr}
 
 abbrev pub noBackup : Backup
-noBackup = record { volume = 0; day = 0; records = [] }
+noBackup = record { volume = 0; day = 0; prev = none; records = [] }
 
 -- the backup that slot q holds
 abbrev pub backupAt : Book → ℕ → Backup
@@ -39,5 +40,5 @@ imageFrom x v q lbn = firstBefore lbn (recordsOf (backupsFrom x v q)) (cellAt (x
 -- a backup that reaches the day has replaced blocks that are held still: its first records' befores are unmapped or held
 unfoldable pub takenSound : Book → Backup → Bool
 takenSound x b =
-    not (leb (x .day) (b .day + retentionOf x (b .volume)))
+    not (leb (x .day) (dueOf (retentionOf x (b .volume)) b))
     || all (λ l. cellSound x (firstBefore l (b .records) unmapped)) (upFrom 0 (x .sizes .l))

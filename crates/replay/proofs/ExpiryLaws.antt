@@ -19,7 +19,7 @@ use Rattle.book.specs.Book.{Rec, Book, noRec, recAt, retentionOf}
 use Rattle.book.specs.Layout.{bookOf}
 use Rattle.book.specs.FormFacts.{FormFacts}
 use Rattle.model.specs.Journal.{Backup, journal}
-use Rattle.model.specs.Audit.{hasBefore, untilIn, expirySound}
+use Rattle.model.specs.Audit.{hasBefore, dueOf, untilIn, expirySound}
 use Rattle.replay.specs.Table.{poolBlocks, numberAt}
 use Rattle.replay.specs.Matching.{matching}
 use Rattle.replay.proofs.MatchingLaws.{matching-same}
@@ -77,7 +77,7 @@ until-end u rs q e h p = let z : slice q e rs ≡ [] = rw h (slice-empty e rs) i
 
 -- the next backup of a journal, its last day in u
 pub until-next : (x : Book) (b : Backup) {bs : List Backup} (bs′ : List Backup) {u : ℕ} → bs ≡ b ∷ bs′
-    → u ≡ b .day + retentionOf x (b .volume) → (p : ℕ)
+    → u ≡ dueOf (retentionOf x (b .volume)) b → (p : ℕ)
     → untilIn x p bs ≡ max (untilEach u (b .records) p) (untilIn x p bs′)
 until-next x b bs′ e f p = rw (e, f)
 

@@ -3,6 +3,7 @@ use Prim.Native.Nat.{ℕ, _+_, _≤_, _<_}
 use mathlib.Core.Path.{_≡_, sym, _∙_}
 use mathlib.Core.Bool.{Bool, true, _&&_}
 use mathlib.Core.List.{List}
+use mathlib.Core.Option.{Option}
 use native.Mathlib.Omega.{arith}
 use lib.Dec.{ltb}
 use lib.ListN.{length, drop}
@@ -43,8 +44,9 @@ journal-in x p s =
 
 -- ---- a slot as the code has it, read from the book
 
-abbrev pub readBackup : List Rec → read.Slot → Backup
-readBackup rs r = record { volume = r .volume; day = r .day; records = slice (r .first) (r .first + r .number) rs }
+abbrev pub readBackup : List Rec → Option ℕ → read.Slot → Backup
+readBackup rs prev r =
+    record { volume = r .volume; day = r .day; prev = prev; records = slice (r .first) (r .first + r .number) rs }
 
 pub record SlotRead (x : Book) (r : read.Slot) : Type 0 where
   pub volume : r .volume < volumes
@@ -65,7 +67,7 @@ module _ {b : List ℕ} (f : FormFacts b) (q : ℕ) (h : q < length (bookOf b .s
       }
 
   -- it says which records are its backup's
-  pub backup-read : backupAt (bookOf b) q ≡ readBackup (bookOf b .records) r
+  pub backup-read : backupAt (bookOf b) q ≡ readBackup (bookOf b .records) (backupAt (bookOf b) q .prev) r
   backup-read =
       let x = bookOf b in
       let v = volume-at x q ∙ sym (i .volume) in
@@ -75,4 +77,4 @@ module _ {b : List ℕ} (f : FormFacts b) (q : ℕ) (h : q < length (bookOf b .s
       ∙ rw (i .first, i .number) (sym
       (drop-take (slotAt (x .slots) q .first) (slotAt (x .slots) q .number) (x .records)))
       in
-      λ j. record { volume = v j; day = d j; records = rs j }
+      λ j. record { volume = v j; day = d j; prev = backupAt x q .prev; records = rs j }

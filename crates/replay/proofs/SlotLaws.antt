@@ -18,7 +18,7 @@ use Rattle.book.specs.FormFacts.{FormFacts}
 use Rattle.book.specs.Layout.{bookOf}
 use Rattle.journal.specs.Struct.{SlotIs}
 use Rattle.journal.specs.declared.slot.Slot as read
-use Rattle.model.specs.Audit.{untilIn}
+use Rattle.model.specs.Audit.{dueOf, untilIn}
 use Rattle.model.specs.Journal.{Backup, journal}
 use Rattle.model.specs.JournalAt.{backupAt}
 use Rattle.model.proofs.kept.JournalAtLaws.{journal-next, journal-end}
@@ -34,24 +34,24 @@ use Rattle.replay.specs.Slots.{SlotTaken, JournalTaken}
 
 module _ (x : Book) (b : Backup) where
   -- the last day that keeps what the backup replaced
-  abbrev lastDay : ℕ
-  lastDay = b .day + retentionOf x (b .volume)
+  abbrev due : ℕ
+  due = dueOf (retentionOf x (b .volume)) b
 
   -- fresh stamps find the first records, and a backup whose day is past is not asked
-  firsts-taken : (past : Bool) → past ≡ ltb lastDay (x .day) → (k : ℕ) (a : List ℕ) → x .sizes .l ≤ rowSize
+  firsts-taken : (past : Bool) → past ≡ ltb due (x .day) → (k : ℕ) (a : List ℕ) → x .sizes .l ≤ rowSize
       → length a ≡ rowSize → ((l : ℕ) → getD a l 0 ≤ k)
       → all (recOk (x .sizes)) (b .records) ≡ true → firstsSound x past (k + 1) a (b .records) ≡ takenSound x b
   unfolding takenSound
   firsts-taken true e k a small long low ok =
-      firsts-past x (k + 1) a (b .records) ∙ rw (lt-leb (x .day) lastDay (ltb-true lastDay (x .day) (sym e)))
+      firsts-past x (k + 1) a (b .records) ∙ rw (lt-leb (x .day) due (ltb-true due (x .day) (sym e)))
   firsts-taken false e k a small long low ok =
       firsts-fresh x (k + 1) (b .records) (x .sizes) a (omega arith) ok (λ l. omega (arith, low l))
-      ∙ rw (le-leb (x .day) lastDay (ltb-false lastDay (x .day) (sym e)))
+      ∙ rw (le-leb (x .day) due (ltb-false due (x .day) (sym e)))
 
-  taken-slot : (k : ℕ) {n n′ : Notes} {good past : Bool} → past ≡ ltb lastDay (x .day) → x .sizes .l ≤ rowSize
+  taken-slot : (k : ℕ) {n n′ : Notes} {good past : Bool} → past ≡ ltb due (x .day) → x .sizes .l ≤ rowSize
       → length (n .stamps) ≡ rowSize
       → ((l : ℕ) → getD (n .stamps) l 0 ≤ k) → all (recOk (x .sizes)) (b .records) ≡ true
-      → RecordsTaken x (record { volume = b .volume; until = lastDay; past = past; stamp = k + 1 }) (b .records) good n
+      → RecordsTaken x (record { volume = b .volume; until = due; past = past; stamp = k + 1 }) (b .records) good n
       n′ → SlotTaken x b (k + 1) good n n′
   taken-slot k {n} {n′} {good} {past} e small long low ok w =
       record {
@@ -78,7 +78,7 @@ slot-taken {b} f q h {r} i long low eu ed w =
     all-drop (recOk (x .sizes)) (r .first) (take (r .first + r .number) (x .records))
     (all-take (recOk (x .sizes)) (r .first + r .number) (x .records) (f .parts .records))
     in
-    rw (backup-read f q h i) (taken-slot x (readBackup (x .records) r) q refl (f .holds .l) long low ok (rw (eu, ed) at w))
+    rw (backup-read f q h i) (taken-slot x (readBackup (x .records) (backupAt x q .prev) r) q refl (f .holds .l) long low ok (rw (eu, ed) at w))
 
 -- ---- the whole journal
 
@@ -112,7 +112,7 @@ module _ (x : Book) (c₀ e₀ : List ℕ) where
             ∙ sym (and-assoc good (same && takenSound x b) (befores && all (takenSound x) rest)));
         cells = w .cells ∙ rw (e, s .cells);
         expiries =
-            raising-more (untilEach (b .day + retentionOf x (b .volume)) (b .records)) (λ p. untilIn x p rest)
+            raising-more (untilEach (dueOf (retentionOf x (b .volume)) b) (b .records)) (λ p. untilIn x p rest)
             (until-next x b rest e refl) (s .expiries) (w .expiries);
         long = s .long;
         low = s .low;

@@ -1,5 +1,5 @@
 -- Where our book and pool and the plain store stand alike (the abstraction relation): what every call keeps.
-use Prim.Native.Nat.{ℕ, _+_, _<_}
+use Prim.Native.Nat.{ℕ, _<_}
 use mathlib.Core.Path.{_≡_}
 use mathlib.Core.Bool.{Bool, true, false, _&&_}
 use mathlib.Core.List.{List, [], _∷_}
@@ -10,7 +10,7 @@ use Rattle.book.specs.Book.{volumes, Book, entryAt, retentionOf, Sized}
 use Rattle.book.specs.Form.{sizesOk, bookOk}
 use Rattle.model.specs.Pool.{poolSize}
 use Rattle.model.specs.Journal.{Backup, journal, backupsIn}
-use Rattle.model.specs.Audit.{applied, replayed, noMaps, hasBefore, untilIn, printsSound}
+use Rattle.model.specs.Audit.{applied, replayed, noMaps, hasBefore, dueOf, untilIn, printsSound}
 use Rattle.model.specs.Plain.{Image, Plain, volumeAt, noMap}
 use Rattle.model.specs.Sides.{blocksIn}
 use Rattle.model.proofs.kept.Sound.{SoundAll, Days, AllRise}
@@ -38,7 +38,7 @@ named x p = countOf (eqb p) (joined (countedMaps x))
 
 -- some backup that reaches day D has a record with before p
 unfoldable pub reaches : Book → ℕ → ℕ → Bool
-reaches x d p = someOf (λ (b : Backup). leb d (b .day + retentionOf x (b .volume)) && hasBefore p (b .records)) (journal x)
+reaches x d p = someOf (λ (b : Backup). leb d (dueOf (retentionOf x (b .volume)) b) && hasBefore p (b .records)) (journal x)
 
 pub record Agree (x : Book) (pool : List ℕ) (q : Plain) : Type 0 where
   pub fit : Fit x
@@ -59,8 +59,8 @@ pub record Agree (x : Book) (pool : List ℕ) (q : Plain) : Type 0 where
   -- the entries
   pub counts : (p : ℕ) → p < x .sizes .n → entryAt (x .entries) p .count ≡ named x p
   pub expiries : (p : ℕ) → p < x .sizes .n → entryAt (x .entries) p .expiry ≡ untilIn x p (journal x)
-  -- a held block that no map names was a before: collect on day 0 needs it
-  pub used : (p : ℕ) → p < x .sizes .n → entryAt (x .entries) p .held ≡ true → named x p ≡ 0 → reaches x 0 p ≡ true
+  -- on day 0 a held block that no map names was a before: collect on day 0 needs it
+  pub used : x .day ≡ 0 → (p : ℕ) → p < x .sizes .n → entryAt (x .entries) p .held ≡ true → named x p ≡ 0 → reaches x 0 p ≡ true
   -- a free block is in no current map, and no record that still counts has it as its before
   pub free : (p : ℕ) → p < x .sizes .n → entryAt (x .entries) p .held ≡ false → (named x p ≡ 0) × (reaches x (x .day) p ≡ false)
   pub prints : printsSound x ≡ true

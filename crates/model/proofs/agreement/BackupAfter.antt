@@ -3,7 +3,6 @@ use Prim.Native.Nat.{ℕ, suc, _+_, _≤_, _<_}
 use mathlib.Core.Path.{_≡_, refl, sym, ap, ap₂, subst, _∙_}
 use mathlib.Core.Bool.{Bool, true, false}
 use mathlib.Core.List.{List, [], _∷_, _++_, map, append-nil}
-use native.Mathlib.Nat.{zero-add}
 use native.Mathlib.Omega.{arith}
 use lib.Dec.{eqb, leb·zero}
 use lib.ListN.{length, getD, set, replicate, length-set, length-map}
@@ -28,7 +27,7 @@ use Rattle.model.specs.PlainBackup
 use Rattle.model.specs.PlainBackup.{withImage, PlainWork}
 use Rattle.model.proofs.kept.Sound.{SoundAll, Days, Rising, AllRise}
 use Rattle.model.proofs.agreement.Agree.{Fit, Agree, imagesOf, named, reaches}
-use Rattle.model.proofs.kept.JournalLaws.{journalOf-append, backupsIn-append, replayed-append, soundAll-append, days-append}
+use Rattle.model.proofs.kept.JournalLaws.{added, journal-append, backupsIn-append, replayed-append, soundAll-append, days-append}
 use Rattle.model.proofs.kept.JournalLaws.{allRise-append, untilIn-append, untilIn-book, reaches-append}
 use Rattle.model.proofs.kept.Replays.{mapAfter, imagesOf-append}
 use Rattle.model.proofs.agreement.AgreeLaws.{map-after}
@@ -59,9 +58,12 @@ module _ {x : Book} {pool : List ℕ} {q : Plain} (g : Agree x pool q) (v t : �
   abbrev pub q′ : Plain
   q′ = PlainBackup.closed q v t (changeCount list) u .store
 
+  abbrev slot : Slot
+  slot = record { volume = v; day = t; first = length (x .records); number = changeCount list }
+
   -- the backup that is added
   abbrev b : Backup
-  b = record { volume = v; day = t; records = r .new }
+  b = added (x .slots) slot (r .new)
 
   length-new : length (r .new) ≡ changeCount list
   length-new =
@@ -71,12 +73,8 @@ module _ {x : Book} {pool : List ℕ} {q : Plain} (g : Agree x pool q) (v t : �
   pub journal-after : journal y ≡ journal x ++ (b ∷ [])
   unfolding journal closed withDay withSlot
   journal-after =
-      ap₂ (λ (ts : List Slot) (rs : List Rec). journalOf
-      (ts ++ (record { volume = v; day = t; first = length (x .records); number = changeCount list } ∷ [])) rs)
-      (a .slots) (r .records)
-      ∙ journalOf-append (x .slots) (x .records)
-      (record { volume = v; day = t; first = length (x .records); number = changeCount list }) (r .new) 0
-      (rw zero-add (book-parts x (g .fit .form) .pairs)) length-new
+      ap₂ (λ (ts : List Slot) (rs : List Rec). journalOf [] (ts ++ (slot ∷ [])) rs) (a .slots) (r .records)
+      ∙ journal-append (x .slots) (x .records) slot (r .new) (book-parts x (g .fit .form) .pairs) length-new
 
   pub rising-new : Rising 0 (r .new)
   rising-new =
@@ -89,13 +87,13 @@ module _ {x : Book} {pool : List ℕ} {q : Plain} (g : Agree x pool q) (v t : �
   -- ---- the plain store's volumes
 
   -- volume v with its image
-  abbrev added : Volume
-  added = withImage (record { day = t; cells = u .copy; changed = changeCount list }) (volumeAt q v)
+  abbrev volume : Volume
+  volume = withImage (record { day = t; cells = u .copy; changed = changeCount list }) (volumeAt q v)
 
   retentions-after : (z : ℕ) → z < volumes → volumeAt q′ z .retention ≡ retentionOf y z
   unfolding closed withDay withSlot PlainBackup.closed Plain.atDay withBlocks withVolume withImage
   retentions-after z h =
-      getD-set-kept (λ (u : Volume). u .retention) (q .volumes) v added Plain.unenrolled refl z
+      getD-set-kept (λ (u : Volume). u .retention) (q .volumes) v volume Plain.unenrolled refl z
       ∙ g .retentions z h ∙ ap (λ (l : List ℕ). getD l z 0) (sym (a .retentions))
 
   -- the image that is added is the backup's
@@ -115,17 +113,17 @@ module _ {x : Book} {pool : List ℕ} {q : Plain} (g : Agree x pool q) (v t : �
       ∙ ap (λ (is : List Image). is ++ imagesOf (mapAfter (noMap (x .sizes)) (backupsIn z (journal x))) (if eqb v z then b ∷ [] else []))
       (sym (g .images z h))
 
-  volume-after : (z : ℕ) (s : Bool) → eqb v z ≡ s → getD (set (q .volumes) v added) z Plain.unenrolled .images
+  volume-after : (z : ℕ) (s : Bool) → eqb v z ≡ s → getD (set (q .volumes) v volume) z Plain.unenrolled .images
       ≡ volumeAt q z .images ++ imagesOf (mapAfter (noMap (x .sizes)) (backupsIn z (journal x))) (if s then b ∷ [] else [])
   unfolding withImage
   volume-after z true e =
       let k : v < length (q .volumes) = omega (arith, g .volumeCount) in
-      subst (λ (z : ℕ). getD (set (q .volumes) v added) z Plain.unenrolled .images
+      subst (λ (z : ℕ). getD (set (q .volumes) v volume) z Plain.unenrolled .images
       ≡ volumeAt q z .images ++ imagesOf (mapAfter (noMap (x .sizes)) (backupsIn z (journal x))) (b ∷ [])) (eqb-true v z e)
-      (ap (λ (u : Volume). u .images) (getD-set-same (q .volumes) v added Plain.unenrolled k)
+      (ap (λ (u : Volume). u .images) (getD-set-same (q .volumes) v volume Plain.unenrolled k)
       ∙ ap (λ (is : List Image). volumeAt q v .images ++ is) (sym image-added))
   volume-after z false e =
-      ap (λ (u : Volume). u .images) (getD-set-other (q .volumes) v z added Plain.unenrolled (λ d. eqb-false v z e (sym d)))
+      ap (λ (u : Volume). u .images) (getD-set-other (q .volumes) v z volume Plain.unenrolled (λ d. eqb-false v z e (sym d)))
       ∙ sym (append-nil (volumeAt q z .images))
 
   images-after : (z : ℕ) → z < volumes → volumeAt q′ z .images ≡ imagesOf (noMap (y .sizes)) (backupsIn z (journal y))
@@ -188,9 +186,10 @@ module _ {x : Book} {pool : List ℕ} {q : Plain} (g : Agree x pool q) (v t : �
         untilIn-append x p (journal x) (b ∷ []),
       )
 
-  used-after : (p : ℕ) → p < x .sizes .n → entryAt (w .book .entries) p .held ≡ true → named y p ≡ 0 → reaches y 0 p ≡ true
-  used-after p h e z =
-      rw (reaches-append x y 0 p b retained journal-after, leb·zero) (r .used p h e (sym (named-after p) ∙ z))
+  used-after : t ≡ 0 → (p : ℕ) → p < x .sizes .n → entryAt (w .book .entries) p .held ≡ true → named y p ≡ 0 → reaches y 0 p ≡ true
+  used-after first p h e z =
+      rw (reaches-append x y 0 p b retained journal-after, leb·zero)
+      (r .used (let late = ok .day in omega arith) p h e (sym (named-after p) ∙ z))
 
   free-after : (p : ℕ) → p < x .sizes .n → entryAt (w .book .entries) p .held ≡ false → (named y p ≡ 0) × (reaches y t p ≡ false)
   unfolding reaches
@@ -214,7 +213,7 @@ module _ {x : Book} {pool : List ℕ} {q : Plain} (g : Agree x pool q) (v t : �
         day = refl;
         cursor = a .alike .cursor;
         blocks = a .alike .blocks;
-        volumeCount = length-set (q .volumes) v added ∙ g .volumeCount;
+        volumeCount = length-set (q .volumes) v volume ∙ g .volumeCount;
         retentions = retentions-after;
         images = images-after;
         maps = maps-after;
@@ -223,7 +222,7 @@ module _ {x : Book} {pool : List ℕ} {q : Plain} (g : Agree x pool q) (v t : �
         rising = rising-after;
         counts = λ p h. a .counts p (omega arith) ∙ sym (named-after p);
         expiries = λ p h. expiry-after p (omega arith);
-        used = λ p h. used-after p (omega arith);
+        used = λ first p h. used-after first p (omega arith);
         free = λ p h. free-after p (omega arith);
         prints = r .prints;
       }

@@ -88,7 +88,7 @@ module _ {x : Book} {pool : List ℕ} {q : Plain} (g : Agree x pool q) (v : ℕ)
     sound = tt;
     lbns = refl;
     expiries = λ p k. omega arith;
-    used = λ p k e z. rw or-no (g .used p k e (sym (names-start p) ∙ z));
+    used = λ first p k e z. rw or-no (g .used first p k e (sym (names-start p) ∙ z));
     free = λ p k e. (names-start p ∙ g .free p k e .0, refl, e);
     prints = g .prints;
     kept = λ p k e f. refl;

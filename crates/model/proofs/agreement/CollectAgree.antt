@@ -20,8 +20,8 @@ use Rattle.model.specs.Plain
 use Rattle.model.specs.Plain.{Plain, marked, swept, sweptCount}
 use Rattle.model.proofs.agreement.Agree.{Fit, Agree, named, reaches}
 use Rattle.model.proofs.kept.JournalLaws.{days-later, untilIn-book}
-use Rattle.model.proofs.kept.Reaches.{until-reaches, reached-earlier}
-use Rattle.model.proofs.kept.Marks.{over-marked}
+use Rattle.model.proofs.kept.Reaches.{reached-earlier}
+use Rattle.model.proofs.kept.Marks.{expiry-reaches, over-marked}
 use Rattle.model.proofs.agreement.Sweep.{over-held, after-count, after-expiry, after-held, swept-blocks, swept-count, after-differ}
 
 module _ {x : Book} {pool : List ℕ} {q : Plain} (g : Agree x pool q) where
@@ -30,26 +30,27 @@ module _ {x : Book} {pool : List ℕ} {q : Plain} (g : Agree x pool q) where
   collect-number t = rw (g .day)
 
   -- the test of each held entry
-  pub over-entry : (t p : ℕ) → p < x .sizes .n → entryAt (x .entries) p .held ≡ true
+  pub over-entry : (t p : ℕ) → x .day ≤ t → p < x .sizes .n → entryAt (x .entries) p .held ≡ true
       → isOver t (entryAt (x .entries) p) ≡ not (marked q t p)
-  over-entry t p h k = over-held t (entryAt (x .entries) p) k ∙ over-marked g t p h k
+  over-entry t p late h k = over-held t (entryAt (x .entries) p) k ∙ over-marked g t p late h k
 
-  over-place : (t j : ℕ) → j < length (x .entries) → entryAt (x .entries) j .held ≡ true
+  over-place : (t j : ℕ) → x .day ≤ t → j < length (x .entries) → entryAt (x .entries) j .held ≡ true
       → isOver t (entryAt (x .entries) j) ≡ not (marked q t (0 + j))
-  over-place t j h k = rw zero-add (over-entry t j (rw (g .fit .sized .entries) at h) k)
+  over-place t j late h k = rw zero-add (over-entry t j late (rw (g .fit .sized .entries) at h) k)
 
-  pub collect-freed : (t : ℕ) → collected x t .freed ≡ Plain.collected q t .freed
+  pub collect-freed : (t : ℕ) → collectNumber x t ≡ 0 → collected x t .freed ≡ Plain.collected q t .freed
   unfolding collected Plain.collected
-  collect-freed t = sym (ap (sweptCount (marked q t) 0) (g .blocks) ∙ swept-count (marked q t) t 0 (x .entries) pool (over-place t))
+  collect-freed t ok =
+      sym (ap (sweptCount (marked q t) 0) (g .blocks) ∙ swept-count (marked q t) t 0 (x .entries) pool (λ j. over-place t j (collect-days x t .0 ok .0)))
 
   entry-after : (t p : ℕ) → p < x .sizes .n → entryAt (map (sweptEntry t) (x .entries)) p ≡ sweptEntry t (entryAt (x .entries) p)
   entry-after t p h = getD-map (sweptEntry t) (x .entries) p freeEntry freeEntry (rw (g .fit .sized .entries) h)
 
   -- document 01: "a block held in our book before is free after exactly when no current map and no backup kept at T .. points to it"
-  pub freeing : (t p : ℕ) → p < x .sizes .n → entryAt (x .entries) p .held ≡ true
+  pub freeing : (t p : ℕ) → collectNumber x t ≡ 0 → p < x .sizes .n → entryAt (x .entries) p .held ≡ true
       → isFree (entryAt (collected x t .book .entries) p) ≡ not (marked q t p)
   unfolding collected withDay withEntries
-  freeing t p h k = rw (entry-after t p h, after-held, k, over-entry t p h k) (Bool·not-not (not (marked q t p)))
+  freeing t p ok h k = rw (entry-after t p h, after-held, k, over-entry t p (collect-days x t .0 ok .0) h k) (Bool·not-not (not (marked q t p)))
 
   count-after : (t p : ℕ) → p < x .sizes .n → entryAt (map (sweptEntry t) (x .entries)) p .count ≡ named x p
   count-after t p h = ap (λ (e : Entry). e .count) (entry-after t p h) ∙ after-count t (entryAt (x .entries) p) ∙ g .counts p h
@@ -63,16 +64,12 @@ module _ {x : Book} {pool : List ℕ} {q : Plain} (g : Agree x pool q) where
       (sym (after-held t (entryAt (x .entries) p)) ∙ ap (λ (e : Entry). e .held) (sym (entry-after t p h)) ∙ k) .0
 
   -- a freed block was named by no map, and its expiry was before the day
-  over-free : (t p : ℕ) → p < x .sizes .n → isOver t (entryAt (x .entries) p) ≡ true → (named x p ≡ 0) × (reaches x t p ≡ false)
-  unfolding reaches
-  over-free t p h o =
+  over-free : (t p : ℕ) → x .day ≤ t → p < x .sizes .n → isOver t (entryAt (x .entries) p) ≡ true → (named x p ≡ 0) × (reaches x t p ≡ false)
+  over-free t p late h o =
       let e = entryAt (x .entries) p in
       let w = and-true (eqb (e .count) 0) (ltb (e .expiry) t) (sym (over-held t e (over-was-held t e o)) ∙ o) in
       let l = ltb-true (e .expiry) t (w .1) in
-      let u = g .expiries p h in (
-        sym (g .counts p h) ∙ eqb-true (e .count) 0 (w .0),
-        sym (until-reaches x t p (journal x) (omega arith)) ∙ lt-leb t (untilIn x p (journal x)) (omega arith),
-      )
+      (sym (g .counts p h) ∙ eqb-true (e .count) 0 (w .0), sym (expiry-reaches g t p late (omega arith) h) ∙ lt-leb t (e .expiry) l)
 
   free-after : (t p : ℕ) → x .day ≤ t → p < x .sizes .n → entryAt (map (sweptEntry t) (x .entries)) p .held ≡ false
       → (named x p ≡ 0) × (reaches x t p ≡ false)
@@ -81,7 +78,7 @@ module _ {x : Book} {pool : List ℕ} {q : Plain} (g : Agree x pool q) where
     where
       go : (a o : Bool) → entryAt (x .entries) p .held ≡ a → isOver t (entryAt (x .entries) p) ≡ o
           → (named x p ≡ 0) × (reaches x t p ≡ false)
-      go a true e f = over-free t p h f
+      go a true e f = over-free t p late h f
       go false false e f = let w = g .free p h e in (w .0, reached-earlier x (x .day) t p (journal x) late (w .1))
       go true false e f =
           let a : sweptEntry t (entryAt (x .entries) p) .held ≡ true = rw (after-held, e, f) in
@@ -96,7 +93,7 @@ module _ {x : Book} {pool : List ℕ} {q : Plain} (g : Agree x pool q) where
     sizes = g .sizes;
     day = refl;
     cursor = g .cursor;
-    blocks = ap (swept (marked q t) 0) (g .blocks) ∙ swept-blocks (marked q t) t 0 (x .entries) pool (over-place t);
+    blocks = ap (swept (marked q t) 0) (g .blocks) ∙ swept-blocks (marked q t) t 0 (x .entries) pool (λ j. over-place t j (collect-days x t .0 ok .0));
     volumeCount = g .volumeCount;
     retentions = g .retentions;
     images = g .images;
@@ -106,7 +103,7 @@ module _ {x : Book} {pool : List ℕ} {q : Plain} (g : Agree x pool q) where
     rising = g .rising;
     counts = count-after t;
     expiries = λ p h. expiry-after t p h ∙ sym (untilIn-book x (collected x t .book) p (journal x) refl);
-    used = λ p h k. g .used p h (held-after t p h k);
+    used = λ first p h k. let late = collect-days x t .0 ok .0 in g .used (omega arith) p h (held-after t p h k);
     free = λ p h k. free-after t p (collect-days x t .0 ok .0) h k;
     prints = after-differ t (x .entries) (g .prints);
   }

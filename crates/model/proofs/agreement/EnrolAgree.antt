@@ -50,14 +50,14 @@ module _ (x : Book) (v r : ℕ) where
   apart-reaches d p (b ∷ bs) a = rw (apart-reaches d p bs (a .1), getD-set-other (x .retentions) v (b .volume) r 0 (a .0))
 
 -- "used slots name enrolled volumes"
-slots-apart : (x : Book) (v : ℕ) (ts : List Slot) (rs : List Rec) → enrolled x v ≡ false → all (slotOk x) ts ≡ true
-    → Apart v (journalOf ts rs)
+slots-apart : (x : Book) (v : ℕ) (gone ts : List Slot) (rs : List Rec) → enrolled x v ≡ false → all (slotOk x) ts ≡ true
+    → Apart v (journalOf gone ts rs)
 unfolding Apart slotOk
-slots-apart x v [] rs n e = tt
-slots-apart x v (t ∷ ts) rs n e =
+slots-apart x v gone [] rs n e = tt
+slots-apart x v gone (t ∷ ts) rs n e =
     let w = and-true (slotOk x t) (all (slotOk x) ts) e in
     let on = and-true (enrolled x (t .volume)) (leb (t .day) (x .day)) (w .0) .0 in
-    (λ q. not-both (enrolled x v) (rw q at on) n, slots-apart x v ts (drop (t .number) rs) n (w .1))
+    (λ q. not-both (enrolled x v) (rw q at on) n, slots-apart x v (t ∷ gone) ts (drop (t .number) rs) n (w .1))
 
 -- ---- enrol
 
@@ -128,10 +128,10 @@ module _ {x : Book} {pool : List ℕ} {q : Plain} (g : Agree x pool q) where
     rising = g .rising;
     counts = g .counts;
     expiries = λ p h. g .expiries p h ∙ sym (apart-until x v r p (journal x) apart);
-    used = λ p h k n. apart-reaches x v r 0 p (journal x) apart ∙ g .used p h k n;
+    used = λ z p h k n. apart-reaches x v r 0 p (journal x) apart ∙ g .used z p h k n;
     free = λ p h k. let w = g .free p h k in (w .0, apart-reaches x v r (x .day) p (journal x) apart ∙ w .1);
     prints = g .prints;
   }
     where
       apart : Apart v (journal x)
-      apart = slots-apart x v (x .slots) (x .records) (enrol-volume x v r ok .1) (book-parts x (g .fit .form) .slots)
+      apart = slots-apart x v [] (x .slots) (x .records) (enrol-volume x v r ok .1) (book-parts x (g .fit .form) .slots)

@@ -59,7 +59,7 @@ fresh-agree z pool ok long fit = record {
   rising = tt;
   counts = λ p h. ap (λ (e : Entry). e .count) (getD-replicated (z .n) freeEntry p) ∙ sym (unnamed z p ok h);
   expiries = λ p h. ap (λ (e : Entry). e .expiry) (getD-replicated (z .n) freeEntry p);
-  used = λ p h k n. sym (ap (λ (e : Entry). e .held) (getD-replicated (z .n) freeEntry p)) ∙ k;
+  used = λ first p h k n. sym (ap (λ (e : Entry). e .held) (getD-replicated (z .n) freeEntry p)) ∙ k;
   free = λ p h k. (unnamed z p ok h, refl);
   prints = rw (none-held (z .n));
 }

@@ -59,9 +59,9 @@ module _ (weight : Backup → ℕ) (n : ℕ) where
 
 -- ---- the whole journal
 
-length-journal : (ts : List Slot) (rs : List Rec) → sum (map (λ (b : Backup). 1) (journalOf ts rs)) ≡ length ts
-length-journal [] rs = refl
-length-journal (t ∷ ts) rs = omega (arith, length-journal ts (drop (t .number) rs))
+length-journal : (gone ts : List Slot) (rs : List Rec) → sum (map (λ (b : Backup). 1) (journalOf gone ts rs)) ≡ length ts
+length-journal gone [] rs = refl
+length-journal gone (t ∷ ts) rs = omega (arith, length-journal (t ∷ gone) ts (drop (t .number) rs))
 
 -- the last pair ends at U
 pairs-sum : (at : ℕ) (ts : List Slot) (u : ℕ) → pairsOk at ts u ≡ true → at + sum (map (λ (t : Slot). t .number) ts) ≡ u
@@ -69,12 +69,12 @@ pairs-sum at [] u e = omega (arith, eqb-true at u e)
 pairs-sum at (t ∷ ts) u e =
     omega (arith, pairs-sum (at + t .number) ts u (and-true (eqb (t .first) at) (pairsOk (at + t .number) ts u) e .1))
 
-records-journal : (ts : List Slot) (rs : List Rec) → sum (map (λ (t : Slot). t .number) ts) ≡ length rs
-    → sum (map (λ (b : Backup). length (b .records)) (journalOf ts rs)) ≡ length rs
-records-journal [] rs e = e
-records-journal (t ∷ ts) rs e =
+records-journal : (gone ts : List Slot) (rs : List Rec) → sum (map (λ (t : Slot). t .number) ts) ≡ length rs
+    → sum (map (λ (b : Backup). length (b .records)) (journalOf gone ts rs)) ≡ length rs
+records-journal gone [] rs e = e
+records-journal gone (t ∷ ts) rs e =
     let k : sum (map (λ (t : Slot). t .number) ts) ≡ length (drop (t .number) rs) = rw length-drop (omega arith) in
-    omega (arith, length-take-le (t .number) rs (omega arith), records-journal ts (drop (t .number) rs) k)
+    omega (arith, length-take-le (t .number) rs (omega arith), records-journal (t ∷ gone) ts (drop (t .number) rs) k)
 
 -- ---- the images
 
@@ -105,7 +105,7 @@ module _ {x : Book} {pool : List ℕ} {q : Plain} (g : Agree x pool q) where
       over-volumes (λ u. length (u .images)) (λ b. 1)
       (λ v h. ap length (g .images v h) ∙ length-imagesOf (noMap (x .sizes)) (backupsIn v (journal x))
       ∙ sym (ones (backupsIn v (journal x))))
-      ∙ length-journal (x .slots) (x .records)
+      ∙ length-journal [] (x .slots) (x .records)
 
   pub changes-so-far : changesSoFar q ≡ length (x .records)
   unfolding changesSoFar journal
@@ -113,5 +113,5 @@ module _ {x : Book} {pool : List ℕ} {q : Plain} (g : Agree x pool q) where
       over-volumes changesIn (λ b. length (b .records))
       (λ v h. ap (λ is. sum (map (λ (i : Image). i .changed) is)) (g .images v h)
       ∙ changes-images (noMap (x .sizes)) (backupsIn v (journal x)))
-      ∙ records-journal (x .slots) (x .records)
+      ∙ records-journal [] (x .slots) (x .records)
       (omega (arith, pairs-sum 0 (x .slots) (length (x .records)) (book-parts x (g .fit .form) .pairs)))

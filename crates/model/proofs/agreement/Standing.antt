@@ -144,7 +144,7 @@ module _ (z : Sizes) (spare : ℕ) (enough : bookSize z ≤ spare) {x : Book} {p
       go zero e =
           rw (sym (collect-number g t) ∙ e)
           (record {
-            answer = ap freed (collect-freed g t);
+            answer = ap freed (collect-freed g t e);
             undamaged = refl;
             next =
                 stand (collected x t .book) pool (Plain.collected q t .store)

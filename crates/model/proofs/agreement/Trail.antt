@@ -42,7 +42,7 @@ pub record Trail (x : Book) (v until : ℕ) (ds : List Change) (w : Work) (u : P
   pub lbns : map (λ (r : Rec). r .lbn) new ≡ map (λ (c : Change). c .lbn) ds
   pub expiries : (q : ℕ) → q < x .sizes .n
       → entryAt (w .book .entries) q .expiry ≡ max (entryAt (x .entries) q .expiry) (if hasBefore q new then until else 0)
-  pub used : (q : ℕ) → q < x .sizes .n → entryAt (w .book .entries) q .held ≡ true → namesIn (x .maps) v (u .copy) q ≡ 0
+  pub used : x .day ≡ 0 → (q : ℕ) → q < x .sizes .n → entryAt (w .book .entries) q .held ≡ true → namesIn (x .maps) v (u .copy) q ≡ 0
       → (reaches x 0 q || hasBefore q new) ≡ true
   pub free : (q : ℕ) → q < x .sizes .n → entryAt (w .book .entries) q .held ≡ false
       → (namesIn (x .maps) v (u .copy) q ≡ 0) × (hasBefore q new ≡ false) × (entryAt (x .entries) q .held ≡ false)
@@ -96,16 +96,16 @@ module _ (x : Book) (v : ℕ) (inside : v < length (x .maps)) (small : x .sizes 
       someOf-append (λ (r : Rec). eqb (r .after) q) (g .new) (rec ∷ [])
       ∙ ap (λ (t : Bool). hasAfter q (g .new) || t) (or-no (eqb p q) ∙ eqb-swap p q)
 
-  used-next : (q : ℕ) → q < x .sizes .n → entryAt (w′ .book .entries) q .held ≡ true → namesIn (x .maps) v (set (u′ .copy) (c .lbn) p) q ≡ 0
+  used-next : x .day ≡ 0 → (q : ℕ) → q < x .sizes .n → entryAt (w′ .book .entries) q .held ≡ true → namesIn (x .maps) v (set (u′ .copy) (c .lbn) p) q ≡ 0
       → (reaches x 0 q || hasBefore q (g .new ++ (rec ∷ []))) ≡ true
-  used-next q k h z = rw (before-more q) (go (eqb q before) (eqb q p) refl refl)
+  used-next first q k h z = rw (before-more q) (go (eqb q before) (eqb q p) refl refl)
     where
       go : (s t : Bool) → eqb q before ≡ s → eqb q p ≡ t → (reaches x 0 q || (hasBefore q (g .new) || s)) ≡ true
       go true t e f = or-r (reaches x 0 q) (hasBefore q (g .new) || true) (or-r (hasBefore q (g .new)) true refl)
       go false true e f = absurd (omega (arith, ap bit e, ap bit f, cells q))
       go false false e f =
           rw (or-no (hasBefore q (g .new)))
-          (g .used q k (ap (λ e. e .held) (sym (r .others q (eqb-false q p f))) ∙ h) (omega (arith, ap bit e, ap bit f, cells q)))
+          (g .used first q k (ap (λ e. e .held) (sym (r .others q (eqb-false q p f))) ∙ h) (omega (arith, ap bit e, ap bit f, cells q)))
 
   free-next : (q : ℕ) → q < x .sizes .n → entryAt (w′ .book .entries) q .held ≡ false
       → (namesIn (x .maps) v (set (u′ .copy) (c .lbn) p) q ≡ 0) × (hasBefore q (g .new ++ (rec ∷ [])) ≡ false)
@@ -178,7 +178,7 @@ module _ (x : Book) (v : ℕ) (inside : v < length (x .maps)) (small : x .sizes 
             ∙ ap (λ (l : List ℕ). l ++ (c .lbn ∷ [])) (g .lbns)
             ∙ sym (map-append (λ (c : Change). c .lbn) ds (c ∷ []));
         expiries = expiry-next;
-        used = λ q k h z. used-next q k (sym (moved-held until before p (w′ .book .entries) q) ∙ h) z;
+        used = λ first q k h z. used-next first q k (sym (moved-held until before p (w′ .book .entries) q) ∙ h) z;
         free = λ q k h. free-next q k (sym (moved-held until before p (w′ .book .entries) q) ∙ h);
         prints = prints-next;
         kept = λ q k e f.

@@ -66,7 +66,7 @@ module _ (spare : ℕ) {x : Book} {pool : List ℕ} {q : Plain} (g : Agree x poo
       go : (n : ℕ) → collectNumber x t ≡ n → left n .answer ≡ freed k → isFree (entryIn (left n .next) p) ≡ not (marked q t p)
       go zero e b =
           ap (λ (y : Book). isFree (entryAt (y .entries) p)) (fit-book (collect-fit (g .fit) t e))
-          ∙ freeing g t p h (ap (λ (e : Entry). e .held) (sym (entry-here p)) ∙ held)
+          ∙ freeing g t p e h (ap (λ (e : Entry). e .held) (sym (entry-here p)) ∙ held)
       go (suc n) e b = absurd (let z : _≡_ {A = ℕ} 0 1 = cc in omega arith)
 
   -- a second collect on the day of the first

@@ -20,12 +20,12 @@ use Rattle.model.proofs.agreement.Agree.{imagesOf}
 -- ---- what holds of all records holds of each backup's
 
 module _ (f : Rec → Bool) where
-  all-journal : (ts : List Slot) (rs : List Rec) → all f rs ≡ true → all (λ (b : Backup). all f (b .records)) (journalOf ts rs) ≡ true
-  all-journal [] rs e = refl
-  all-journal (t ∷ ts) rs e =
-      true-and (all f (take (t .number) rs)) (all (λ (b : Backup). all f (b .records)) (journalOf ts (drop (t .number) rs)))
+  all-journal : (gone ts : List Slot) (rs : List Rec) → all f rs ≡ true → all (λ (b : Backup). all f (b .records)) (journalOf gone ts rs) ≡ true
+  all-journal gone [] rs e = refl
+  all-journal gone (t ∷ ts) rs e =
+      true-and (all f (take (t .number) rs)) (all (λ (b : Backup). all f (b .records)) (journalOf (t ∷ gone) ts (drop (t .number) rs)))
       (all-take f (t .number) rs e)
-      (all-journal ts (drop (t .number) rs) (all-drop f (t .number) rs e))
+      (all-journal (t ∷ gone) ts (drop (t .number) rs) (all-drop f (t .number) rs e))
 
 -- ---- what holds of a map's cells and of all afters holds of the images' cells
 
@@ -78,7 +78,7 @@ image-cells x v k l e =
 
     records : all (λ (b : Backup). all (λ (r : Rec). pbnOk n (r .after)) (b .records)) (journal x) ≡ true
     records =
-        all-journal (λ (r : Rec). pbnOk n (r .after)) (x .slots) (x .records)
+        all-journal (λ (r : Rec). pbnOk n (r .after)) [] (x .slots) (x .records)
         (all-weaker (recOk (x .sizes)) (λ (r : Rec). pbnOk n (r .after)) (x .records) (after-ok (x .sizes)) (book-parts x e .records))
 
     images : all (all (pbnOk n)) (mapsOf (imagesOf (noMap (x .sizes)) (backupsIn v (journal x)))) ≡ true

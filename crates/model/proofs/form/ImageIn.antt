@@ -26,12 +26,12 @@ module _ (g : Rec → Bool) where
   abbrev allOf : Backup → Bool
   allOf b = all g (b .records)
 
-  all-journal : (ts : List Slot) (rs : List Rec) → all g rs ≡ true → all allOf (journalOf ts rs) ≡ true
-  all-journal [] rs e = refl
-  all-journal (t ∷ ts) rs e =
-      true-and (all g (take (t .number) rs)) (all allOf (journalOf ts (drop (t .number) rs)))
+  all-journal : (gone ts : List Slot) (rs : List Rec) → all g rs ≡ true → all allOf (journalOf gone ts rs) ≡ true
+  all-journal gone [] rs e = refl
+  all-journal gone (t ∷ ts) rs e =
+      true-and (all g (take (t .number) rs)) (all allOf (journalOf (t ∷ gone) ts (drop (t .number) rs)))
       (all-take g (t .number) rs e)
-      (all-journal ts (drop (t .number) rs) (all-drop g (t .number) rs e))
+      (all-journal (t ∷ gone) ts (drop (t .number) rs) (all-drop g (t .number) rs e))
 
   all-records : (bs : List Backup) → all allOf bs ≡ true → all g (recordsOf bs) ≡ true
   all-records [] e = refl
@@ -60,7 +60,7 @@ beforeOk x r = pbnOk (x .sizes .n) (r .before)
 journal-ok : (x : Book) → BookParts x → all (allOf (beforeOk x)) (journal x) ≡ true
 unfolding journal
 journal-ok x h =
-    all-journal (beforeOk x) (x .slots) (x .records)
+    all-journal (beforeOk x) [] (x .slots) (x .records)
     (all-weaker (recOk (x .sizes)) (beforeOk x) (x .records) (before-ok (x .sizes)) (h .records))
 
 -- the before of a first record, else the current map

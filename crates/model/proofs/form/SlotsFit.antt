@@ -17,7 +17,7 @@ use Rattle.book.specs.Book.{Slot, Rec, Book, noSlot, slotAt}
 use Rattle.book.specs.Form.{enrolled, slotOk, laterOk, daysOk, pairsOk}
 use Rattle.model.specs.Days.{notAfter}
 use Rattle.model.proofs.kept.DayLaws.{later-backup}
-use Rattle.model.specs.Journal.{Backup, journalOf, journal, backupsIn, backups, days}
+use Rattle.model.specs.Journal.{Backup, lastDay, journalOf, journal, backupsIn, backups, days}
 
 -- where no volume leaves and the header's day doesn't fall
 pub slots-kept : (x y : Book) (ts : List Slot) → ((v : ℕ) → enrolled x v ≡ true → enrolled y v ≡ true) → x .day ≤ y .day
@@ -48,18 +48,21 @@ module _ (v : ℕ) where
   abbrev daysIn : List Slot → List ℕ
   daysIn ts = map (λ (t : Slot). t .day) (those (λ (t : Slot). eqb (t .volume) v) ts)
 
-  days-journal : (ts : List Slot) (rs : List Rec) → map (λ (b : Backup). b .day) (backupsIn v (journalOf ts rs)) ≡ daysIn ts
-  days-journal [] rs = refl
-  days-journal (t ∷ ts) rs = go (eqb (t .volume) v) (days-journal ts (drop (t .number) rs))
+  days-journal : (gone ts : List Slot) (rs : List Rec) → map (λ (b : Backup). b .day) (backupsIn v (journalOf gone ts rs)) ≡ daysIn ts
+  days-journal gone [] rs = refl
+  days-journal gone (t ∷ ts) rs = go (eqb (t .volume) v) (days-journal (t ∷ gone) ts (drop (t .number) rs))
     where
       bs : List Backup
-      bs = backupsIn v (journalOf ts (drop (t .number) rs))
+      bs = backupsIn v (journalOf (t ∷ gone) ts (drop (t .number) rs))
+
+      b : Backup
+      b = record { volume = t .volume; day = t .day; prev = lastDay (t .volume) gone; records = take (t .number) rs }
 
       us : List Slot
       us = those (λ (u : Slot). eqb (u .volume) v) ts
 
       go : (s : Bool) → map (λ (b : Backup). b .day) bs ≡ daysIn ts
-          → map (λ (b : Backup). b .day) (if s then record { volume = t .volume; day = t .day; records = take (t .number) rs } ∷ bs else bs)
+          → map (λ (b : Backup). b .day) (if s then b ∷ bs else bs)
           ≡ map (λ (u : Slot). u .day) (if s then t ∷ us else us)
       go true ih = ap (λ (ds : List ℕ). t .day ∷ ds) ih
       go false ih = ih
@@ -108,7 +111,7 @@ module _ (x : Book) (s : Slot) (up : daysOk (x .slots) ≡ true) (after : notAft
   unfolding days backups journal
   last-before h =
       later-backup (daysIn (s .volume) (x .slots)) (s .day) h .0
-      (rw (days-journal (s .volume) (x .slots) (x .records)) at after)
+      (rw (days-journal (s .volume) [] (x .slots) (x .records)) at after)
 
   pub slots-before : all (slotOk x) (x .slots) ≡ true → x .day ≤ s .day → all (λ t. laterOk t s) (x .slots) ≡ true
   unfolding slotOk laterOk

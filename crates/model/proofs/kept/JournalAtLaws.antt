@@ -24,35 +24,35 @@ use Rattle.model.specs.JournalAt.{noBackup, backupAt, backupsFrom, ownAt
 
 -- ---- its parts are the slot's
 
-length-journalOf : (ts : List Slot) (rs : List Rec) → length (journalOf ts rs) ≡ length ts
-length-journalOf [] rs = refl
-length-journalOf (t ∷ ts) rs = ap suc (length-journalOf ts (drop (t .number) rs))
+length-journalOf : (gone ts : List Slot) (rs : List Rec) → length (journalOf gone ts rs) ≡ length ts
+length-journalOf gone [] rs = refl
+length-journalOf gone (t ∷ ts) rs = ap suc (length-journalOf (t ∷ gone) ts (drop (t .number) rs))
 
-volume-in : (ts : List Slot) (rs : List Rec) (q : ℕ) → getD (journalOf ts rs) q noBackup .volume ≡ slotAt ts q .volume
+volume-in : (gone ts : List Slot) (rs : List Rec) (q : ℕ) → getD (journalOf gone ts rs) q noBackup .volume ≡ slotAt ts q .volume
 unfolding noSlot
-volume-in [] rs q = refl
-volume-in (t ∷ ts) rs zero = refl
-volume-in (t ∷ ts) rs (suc q) = volume-in ts (drop (t .number) rs) q
+volume-in gone [] rs q = refl
+volume-in gone (t ∷ ts) rs zero = refl
+volume-in gone (t ∷ ts) rs (suc q) = volume-in (t ∷ gone) ts (drop (t .number) rs) q
 
-day-in : (ts : List Slot) (rs : List Rec) (q : ℕ) → getD (journalOf ts rs) q noBackup .day ≡ slotAt ts q .day
+day-in : (gone ts : List Slot) (rs : List Rec) (q : ℕ) → getD (journalOf gone ts rs) q noBackup .day ≡ slotAt ts q .day
 unfolding noSlot
-day-in [] rs q = refl
-day-in (t ∷ ts) rs zero = refl
-day-in (t ∷ ts) rs (suc q) = day-in ts (drop (t .number) rs) q
+day-in gone [] rs q = refl
+day-in gone (t ∷ ts) rs zero = refl
+day-in gone (t ∷ ts) rs (suc q) = day-in (t ∷ gone) ts (drop (t .number) rs) q
 
-records-in : (ts : List Slot) (rs : List Rec) (at u q : ℕ) → pairsOk at ts u ≡ true → q < length ts
-    → getD (journalOf ts (drop at rs)) q noBackup .records ≡ take (slotAt ts q .number) (drop (slotAt ts q .first) rs)
-records-in [] rs at u q e h = absurd (not-suc-le-zero h)
-records-in (t ∷ ts) rs at u zero e h =
+records-in : (gone ts : List Slot) (rs : List Rec) (at u q : ℕ) → pairsOk at ts u ≡ true → q < length ts
+    → getD (journalOf gone ts (drop at rs)) q noBackup .records ≡ take (slotAt ts q .number) (drop (slotAt ts q .first) rs)
+records-in gone [] rs at u q e h = absurd (not-suc-le-zero h)
+records-in gone (t ∷ ts) rs at u zero e h =
     ap (λ (k : ℕ). take (t .number) (drop k rs))
     (sym (eqb-true (t .first) at (and-true (eqb (t .first) at) (pairsOk (at + t .number) ts u) e .0)))
-records-in (t ∷ ts) rs at u (suc q) e h =
+records-in gone (t ∷ ts) rs at u (suc q) e h =
     rw (drop-drop (t .number) at rs)
-    (records-in ts rs (at + t .number) u q (and-true (eqb (t .first) at) (pairsOk (at + t .number) ts u) e .1) (le-of-suc-le-suc h))
+    (records-in (t ∷ gone) ts rs (at + t .number) u q (and-true (eqb (t .first) at) (pairsOk (at + t .number) ts u) e .1) (le-of-suc-le-suc h))
 
 pub length-journal : (x : Book) → length (journal x) ≡ length (x .slots)
 unfolding journal
-length-journal x = length-journalOf (x .slots) (x .records)
+length-journal x = length-journalOf [] (x .slots) (x .records)
 
 module _ (x : Book) (q : ℕ) where
   -- the backup of slot q, and those after it
@@ -64,17 +64,17 @@ module _ (x : Book) (q : ℕ) where
 
   pub volume-at : backupAt x q .volume ≡ slotAt (x .slots) q .volume
   unfolding journal
-  volume-at = volume-in (x .slots) (x .records) q
+  volume-at = volume-in [] (x .slots) (x .records) q
 
   pub day-at : backupAt x q .day ≡ slotAt (x .slots) q .day
   unfolding journal
-  day-at = day-in (x .slots) (x .records) q
+  day-at = day-in [] (x .slots) (x .records) q
 
   -- in a book in form, a slot's records stand where its pair says
   pub records-at : pairsOk 0 (x .slots) (length (x .records)) ≡ true → q < length (x .slots)
       → backupAt x q .records ≡ take (slotAt (x .slots) q .number) (drop (slotAt (x .slots) q .first) (x .records))
   unfolding journal
-  records-at e h = records-in (x .slots) (x .records) 0 (length (x .records)) q e h
+  records-at e h = records-in [] (x .slots) (x .records) 0 (length (x .records)) q e h
 
 -- ---- the volume's backups in the slots from q on
 

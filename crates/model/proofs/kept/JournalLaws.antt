@@ -3,6 +3,7 @@ use Prim.Native.Nat.{ℕ, suc, _+_, _≤_, max}
 use mathlib.Core.Path.{_≡_, refl, _∙_}
 use mathlib.Core.Bool.{true, _&&_, _||_}
 use mathlib.Core.List.{List, [], _∷_, _++_}
+use native.Mathlib.Nat.{zero-add}
 use native.Mathlib.Omega.{arith}
 use lib.Dec.{leb, ltb, eqb}
 use lib.ListN.{length, getD, set, drop, length-set, length-drop}
@@ -13,8 +14,8 @@ use Rattle.words.proofs.Appends.{those-append, someOf-append}
 use Rattle.words.specs.Lists.{all}
 use Rattle.book.specs.Book.{Slot, Rec, Book, retentionOf}
 use Rattle.book.specs.Form.{pairsOk}
-use Rattle.model.specs.Journal.{Backup, journalOf, journal, backupsIn}
-use Rattle.model.specs.Audit.{applied, replayed, hasBefore, untilIn}
+use Rattle.model.specs.Journal.{Backup, lastDay, journalOf, journal, backupsIn}
+use Rattle.model.specs.Audit.{applied, replayed, hasBefore, dueOf, untilIn}
 use Rattle.model.proofs.agreement.Agree.{reaches}
 use Rattle.model.proofs.kept.Sound.{Sound, SoundAll, Days, Rising, AllRise}
 
@@ -27,17 +28,32 @@ pairs-end at (t ∷ ts) u e =
     let z = pairs-end (at + t .number) ts u (and-true (eqb (t .first) at) (pairsOk (at + t .number) ts u) e .1) in
     omega arith
 
-pub journalOf-append : (ts : List Slot) (rs : List Rec) (t : Slot) (qs : List Rec) (at : ℕ)
+-- the slots that are gone after some more
+abbrev pub goneAfter : List Slot → List Slot → List Slot
+goneAfter gone [] = gone
+goneAfter gone (t ∷ ts) = goneAfter (t ∷ gone) ts
+
+-- the backup that a slot adds behind slots ts, with its records
+abbrev pub added : List Slot → Slot → List Rec → Backup
+added ts t qs = record { volume = t .volume; day = t .day; prev = lastDay (t .volume) (goneAfter [] ts); records = qs }
+
+journalOf-append : (gone ts : List Slot) (rs : List Rec) (t : Slot) (qs : List Rec) (at : ℕ)
     → pairsOk at ts (at + length rs) ≡ true → length qs ≡ t .number
-    → journalOf (ts ++ (t ∷ [])) (rs ++ qs) ≡ journalOf ts rs ++ (record { volume = t .volume; day = t .day; records = qs } ∷ [])
-journalOf-append [] [] t qs at e f = rw (← f, take-length)
-journalOf-append [] (r ∷ rs) t qs at e f = absurd (omega (arith, eqb-true at (at + suc (length rs)) e))
-journalOf-append (a ∷ ts) rs t qs at e f =
+    → journalOf gone (ts ++ (t ∷ [])) (rs ++ qs)
+    ≡ journalOf gone ts rs
+    ++ (record { volume = t .volume; day = t .day; prev = lastDay (t .volume) (goneAfter gone ts); records = qs } ∷ [])
+journalOf-append gone [] [] t qs at e f = rw (← f, take-length)
+journalOf-append gone [] (r ∷ rs) t qs at e f = absurd (omega (arith, eqb-true at (at + suc (length rs)) e))
+journalOf-append gone (a ∷ ts) rs t qs at e f =
     let ok = and-true (eqb (a .first) at) (pairsOk (at + a .number) ts (at + length rs)) e .1 in
     let end = pairs-end (at + a .number) ts (at + length rs) ok in
     let h : a .number ≤ length rs = omega arith in
     let left : at + length rs ≡ at + a .number + length (drop (a .number) rs) = rw length-drop (omega arith) in
-    rw (take-append-le, drop-append-le, journalOf-append ts (drop (a .number) rs) t qs (at + a .number) (rw left at ok) f)
+    rw (take-append-le, drop-append-le, journalOf-append (a ∷ gone) ts (drop (a .number) rs) t qs (at + a .number) (rw left at ok) f)
+
+pub journal-append : (ts : List Slot) (rs : List Rec) (t : Slot) (qs : List Rec) → pairsOk 0 ts (length rs) ≡ true → length qs ≡ t .number
+    → journalOf [] (ts ++ (t ∷ [])) (rs ++ qs) ≡ journalOf [] ts rs ++ (added ts t qs ∷ [])
+journal-append ts rs t qs e f = journalOf-append [] ts rs t qs 0 (rw zero-add e) f
 
 -- ---- records put into a map
 
@@ -115,6 +131,6 @@ untilIn-book x y p [] e = refl
 untilIn-book x y p (b ∷ bs) e = rw (untilIn-book x y p bs e, e)
 
 pub reaches-append : (x y : Book) (d p : ℕ) (b : Backup) → y .retentions ≡ x .retentions → journal y ≡ journal x ++ (b ∷ [])
-    → reaches y d p ≡ (reaches x d p || (leb d (b .day + retentionOf x (b .volume)) && hasBefore p (b .records)))
+    → reaches y d p ≡ (reaches x d p || (leb d (dueOf (retentionOf x (b .volume)) b) && hasBefore p (b .records)))
 unfolding reaches
 reaches-append x y d p b e f = simp (e, f, someOf-append, or-no)

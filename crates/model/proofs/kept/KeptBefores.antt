@@ -1,6 +1,6 @@
 -- Which blocks the kept backups name: besides those of the current maps, the befores of the first record of each LBN in each backup that
 -- still reaches the day. So audit's last sentence takes one pass over the records.
-use Prim.Native.Nat.{ℕ, zero, suc, _+_, _≤_, _<_}
+use Prim.Native.Nat.{ℕ, zero, suc, _≤_, _<_}
 use mathlib.Core.Path.{_≡_, refl, sym, ap, _∙_}
 use mathlib.Core.Logic.{_≢_, _⊎_, inl, inr}
 use mathlib.Core.Bool.{Bool, true, false, not, _&&_, _||_}
@@ -19,7 +19,7 @@ use Rattle.book.specs.Book.{volumes, Book, cellAt, retentionOf}
 use Rattle.model.specs.Days.{keptBefore, kept}
 use Rattle.model.specs.Journal.{Backup, journal, backupsIn, backups, days}
 use Rattle.model.specs.Read.{recordsOf, image}
-use Rattle.model.specs.Audit.{cellSound, currentSound, backupSound, backupsSound}
+use Rattle.model.specs.Audit.{dueOf, cellSound, currentSound, backupSound, backupsSound}
 use Rattle.model.specs.Plain.{Image, daysOf, mapsOf}
 use Rattle.model.proofs.agreement.Agree.{imagesOf}
 use Rattle.model.proofs.kept.Sound.{Days}
@@ -61,10 +61,10 @@ module _ (x : Book) where
       let w = and-true (takenSound x b) (all (takenSound x) bs) ok in
       go (eqb (b .volume) v) refl e (w .0) (taken-held p v l bs h (w .1))
     where
-      here : b .volume ≡ v → (leb (x .day) (b .day + retentionOf x v) && takes p l (b .records)) ≡ true
+      here : b .volume ≡ v → (leb (x .day) (dueOf (retentionOf x v) b) && takes p l (b .records)) ≡ true
           → takenSound x b ≡ true → cellSound x p ≡ true
       here q a s =
-          let w = and-true (leb (x .day) (b .day + retentionOf x v)) (takes p l (b .records)) a in
+          let w = and-true (leb (x .day) (dueOf (retentionOf x v) b)) (takes p l (b .records)) a in
           let s′ : all (λ j. cellSound x (firstBefore j (b .records) unmapped)) (upFrom 0 (x .sizes .l)) ≡ true = rw (q, w .0) at s in
           let c = each-at (λ j. cellSound x (firstBefore j (b .records) unmapped)) 0 (x .sizes .l)
           (sym (all-each (λ j. cellSound x (firstBefore j (b .records) unmapped)) (x .sizes .l)) ∙ s′) l (omega arith) h in
@@ -76,10 +76,10 @@ module _ (x : Book) where
           → cellSound x p ≡ true) → cellSound x p ≡ true
       go false q f s ih = ih f
       go true q f s ih =
-          pick (or-cases (leb (x .day) (b .day + retentionOf x v) && takes p l (b .records))
+          pick (or-cases (leb (x .day) (dueOf (retentionOf x v) b) && takes p l (b .records))
           (takenAt p (retentionOf x v) (x .day) l (backupsIn v bs)) f)
         where
-          pick : ((leb (x .day) (b .day + retentionOf x v) && takes p l (b .records)) ≡ true)
+          pick : ((leb (x .day) (dueOf (retentionOf x v) b) && takes p l (b .records)) ≡ true)
               ⊎ (takenAt p (retentionOf x v) (x .day) l (backupsIn v bs) ≡ true) → cellSound x p ≡ true
           pick (inl a) = here (eqb-true (b .volume) v q) a s
           pick (inr a) = ih a
@@ -96,17 +96,17 @@ module _ (x : Book) where
   held-taken (b ∷ bs) ok h =
       let w = and-true (ltb (b .volume) volumes) (all (λ b. ltb (b .volume) volumes) bs) ok in
       true-and (takenSound x b) (all (takenSound x) bs)
-      (first (ltb-true (b .volume) volumes (w .0)) (leb (x .day) (b .day + retentionOf x (b .volume))) refl)
+      (first (ltb-true (b .volume) volumes (w .0)) (leb (x .day) (dueOf (retentionOf x (b .volume)) b)) refl)
       (held-taken bs (w .1) (λ p v l hv hl n e. h p v l hv hl n (later p v l (eqb (b .volume) v) e)))
     where
       later : (p v l : ℕ) (t : Bool) → takenAt p (retentionOf x v) (x .day) l (backupsIn v bs) ≡ true
           → takenAt p (retentionOf x v) (x .day) l (if t then b ∷ backupsIn v bs else backupsIn v bs) ≡ true
       later p v l false e = e
       later p v l true e =
-          or-r (leb (x .day) (b .day + retentionOf x v) && takes p l (b .records))
+          or-r (leb (x .day) (dueOf (retentionOf x v) b) && takes p l (b .records))
           (takenAt p (retentionOf x v) (x .day) l (backupsIn v bs)) e
 
-      first : b .volume < volumes → (t : Bool) → leb (x .day) (b .day + retentionOf x (b .volume)) ≡ t
+      first : b .volume < volumes → (t : Bool) → leb (x .day) (dueOf (retentionOf x (b .volume)) b) ≡ t
           → (not t || all (λ l. cellSound x (firstBefore l (b .records) unmapped)) (upFrom 0 (x .sizes .l))) ≡ true
       first hv false e = refl
       first hv true e =
@@ -119,9 +119,9 @@ module _ (x : Book) where
               → takenAt p (retentionOf x (b .volume)) (x .day) l (backupsIn (b .volume) (b ∷ bs)) ≡ true
           taken p l a =
               rw (eq-eqb (b .volume) (b .volume) refl)
-              (or-l (leb (x .day) (b .day + retentionOf x (b .volume)) && takes p l (b .records))
+              (or-l (leb (x .day) (dueOf (retentionOf x (b .volume)) b) && takes p l (b .records))
               (takenAt p (retentionOf x (b .volume)) (x .day) l (backupsIn (b .volume) bs))
-              (true-and (leb (x .day) (b .day + retentionOf x (b .volume))) (takes p l (b .records)) e a))
+              (true-and (leb (x .day) (dueOf (retentionOf x (b .volume)) b)) (takes p l (b .records)) e a))
 
   -- ---- the law
 

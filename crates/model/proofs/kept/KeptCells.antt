@@ -15,7 +15,7 @@ use Rattle.book.specs.Book.{Rec}
 use Rattle.model.specs.Days.{keptBefore}
 use Rattle.model.proofs.kept.DayLaws.{kept-before}
 use Rattle.model.specs.Journal.{Backup}
-use Rattle.model.specs.Audit.{applied}
+use Rattle.model.specs.Audit.{applied, dueOf}
 use Rattle.model.specs.Plain.{Image, daysOf}
 use Rattle.model.proofs.agreement.Agree.{imagesOf}
 use Rattle.model.proofs.kept.Sound.{Sound, Days}
@@ -34,7 +34,7 @@ takes p l (c ∷ cs) = if eqb (c .lbn) l then eqb (c .before) p else takes p l c
 -- .. in a backup that reaches day d
 abbrev pub takenAt : ℕ → ℕ → ℕ → ℕ → List Backup → Bool
 takenAt p r d l [] = false
-takenAt p r d l (b ∷ bs) = (leb d (b .day + r) && takes p l (b .records)) || takenAt p r d l bs
+takenAt p r d l (b ∷ bs) = (leb d (dueOf r b) && takes p l (b .records)) || takenAt p r d l bs
 
 -- ---- one backup: what it takes from a cell was there, and otherwise the cell keeps it
 

@@ -1,12 +1,12 @@
 -- Collect's test and the plain store's mark: a held block has count 0 and an expiry before the day exactly when no current map and no
 -- backup kept on that day names it.
-use Prim.Native.Nat.{ℕ, _<_}
+use Prim.Native.Nat.{ℕ, zero, suc, _≤_, _<_}
 use mathlib.Core.Path.{_≡_, refl, sym, ap, _∙_}
 use mathlib.Core.Logic.{_≢_}
 use mathlib.Core.Bool.{Bool, true, false, not, _&&_, _||_}
 use mathlib.Core.List.{List, []}
 use native.Mathlib.Omega.{arith}
-use lib.Dec.{leb, ltb, eqb}
+use lib.Dec.{leb, ltb, eqb, leb·zero}
 use lib.ListN.{getD}
 use borrow.Author.Tests.{eqb-true, ne-eqb, leb-true, leb-false, lt-ltb, le-ltb}
 use Rattle.words.specs.Blocks.{unmapped}
@@ -17,7 +17,7 @@ use Rattle.book.specs.Book.{volumes, Book, entryAt, cellAt, retentionOf}
 use Rattle.book.specs.Form.{sizesOk}
 use Rattle.book.proofs.SizesIn.{sizes-facts}
 use Rattle.model.specs.Journal.{journal, backupsIn}
-use Rattle.model.specs.Audit.{noMaps, untilIn}
+use Rattle.model.specs.Audit.{noMaps}
 use Rattle.model.specs.Plain
 use Rattle.model.specs.Plain.{Plain, Volume, volumeAt, noMap, names, keptNames, marked}
 use Rattle.model.proofs.agreement.Agree.{Agree, named, reaches}
@@ -25,7 +25,7 @@ use Rattle.model.proofs.kept.Replays.{backupsIn-days}
 use Rattle.model.proofs.agreement.AgreeLaws.{length-noMaps, sounds-agree, map-after, maps-agree}
 use Rattle.model.proofs.kept.KeptCells.{keptAt, takenAt, kept-cell}
 use Rattle.model.proofs.kept.KeptNames.{cell-names, kept-names-cell, cell-kept-names}
-use Rattle.model.proofs.kept.Reaches.{reachesBy, until-reaches-0, taken-reaches, reaches-taken}
+use Rattle.model.proofs.kept.Reaches.{reachesBy, until-reaches, taken-reaches, reaches-taken}
 
 -- counts and names
 pub named-none : (x : Book) (p : ℕ) → eqb (named x p) 0 ≡ not (someOf (names p) (x .maps))
@@ -95,17 +95,30 @@ module _ {x : Book} {pool : List ℕ} {q : Plain} (g : Agree x pool q) where
           place-some (keptIn p d) (q .volumes) Plain.unenrolled (w .0) (rw (g .volumeCount) h)
           (rw (g .retentions (w .0) h) (cell-kept-names p (retentionOf x (w .0)) d (w .2 .0) (volumeAt q (w .0) .images) n k))
 
+  -- All that proofs say of an expiry: whether it reaches a day, from the header's on
+  pub expiry-reaches : (t p : ℕ) → x .day ≤ t → 0 < t → p < x .sizes .n → leb t (entryAt (x .entries) p .expiry) ≡ reaches x t p
+  unfolding reaches
+  expiry-reaches t p late later h = ap (leb t) (g .expiries p h) ∙ until-reaches x t p (journal x) later
+
+  -- .. and on day 0, of a held block that no map names
+  reached : (t p : ℕ) → x .day ≤ t → p < x .sizes .n → entryAt (x .entries) p .held ≡ true → named x p ≡ 0
+      → leb t (entryAt (x .entries) p .expiry) ≡ reaches x t p
+  reached zero p late h k e = leb·zero (entryAt (x .entries) p .expiry) ∙ sym (g .used (omega arith) p h k e)
+  reached (suc t) p late h k e = expiry-reaches (suc t) p late (omega arith) h
+
   -- document 01, "Collect": "each held block with count 0 and expiry < T", and the plain store's "marks each block in a current or kept
   -- map"
-  pub over-marked : (t p : ℕ) → p < x .sizes .n → entryAt (x .entries) p .held ≡ true
+  pub over-marked : (t p : ℕ) → x .day ≤ t → p < x .sizes .n → entryAt (x .entries) p .held ≡ true
       → (eqb (entryAt (x .entries) p .count) 0 && ltb (entryAt (x .entries) p .expiry) t) ≡ not (marked q t p)
-  unfolding marked reaches
-  over-marked t p h k = rw (g .counts p h, g .expiries p h, named-none x p, maps-agree g) (go (someOf (names p) (x .maps)) refl)
+  unfolding marked
+  over-marked t p late h k = rw (g .counts p h, named-none x p, maps-agree g) (go (someOf (names p) (x .maps)) refl)
     where
-      go : (s : Bool) → someOf (names p) (x .maps) ≡ s
-          → (not s && ltb (untilIn x p (journal x)) t) ≡ not (s || someOf (keptIn p t) (q .volumes))
+      expiry : ℕ
+      expiry = entryAt (x .entries) p .expiry
+
+      go : (s : Bool) → someOf (names p) (x .maps) ≡ s → (not s && ltb expiry t) ≡ not (s || someOf (keptIn p t) (q .volumes))
       go true e = refl
       go false e =
-          let was = g .used p h k (eqb-true (named x p) 0 (named-none x p ∙ ap not e)) in
-          ltb-not-leb (untilIn x p (journal x)) t
-          ∙ ap not (until-reaches-0 x t p (journal x) (λ z. was) ∙ sym (kept-reaches t p (pbn-mapped x p (g .fit .sizes) h) e))
+          ltb-not-leb expiry t
+          ∙ ap not (reached t p late h k (eqb-true (named x p) 0 (named-none x p ∙ ap not e))
+          ∙ sym (kept-reaches t p (pbn-mapped x p (g .fit .sizes) h) e))

@@ -1,11 +1,11 @@
 -- Backups that reach a day and took a block away: by expiry, by volume and LBN, and on a later day.
-use Prim.Native.Nat.{ℕ, zero, suc, _+_, _≤_, _<_}
-use mathlib.Core.Path.{_≡_, refl, sym, _∙_}
+use Prim.Native.Nat.{ℕ, suc, _≤_, _<_}
+use mathlib.Core.Path.{_≡_, refl, _∙_}
 use mathlib.Core.Logic.{_⊎_, inl, inr}
 use mathlib.Core.Bool.{Bool, true, false, _&&_, _||_}
 use mathlib.Core.List.{List, [], _∷_}
 use native.Mathlib.Omega.{arith}
-use lib.Dec.{leb, eqb, leb·zero}
+use lib.Dec.{leb, eqb}
 use lib.ListN.{length, getD, set, length-set}
 use borrow.Author.Tests.{eqb-true, eq-eqb, ne-eqb, leb-true, leb-false, lt-leb}
 use Rattle.words.specs.Choice.{if_then_else_}
@@ -13,32 +13,26 @@ use Rattle.words.proofs.ChoiceLaws.{and-true, true-and, or-cases, or-l, or-r, a
 use Rattle.words.specs.Lists.{someOf}
 use Rattle.book.specs.Book.{Rec, Book, retentionOf}
 use Rattle.model.specs.Journal.{Backup, backupsIn}
-use Rattle.model.specs.Audit.{applied, hasBefore, untilIn}
+use Rattle.model.specs.Audit.{applied, hasBefore, dueOf, untilIn}
 use Rattle.model.proofs.kept.Sound.{SoundAll, Rising, AllRise}
 use Rattle.model.proofs.kept.KeptCells.{takes, takenAt}
 
 -- the backup reaches day d and has a record with before p
 abbrev pub reachesBy : Book → ℕ → ℕ → Backup → Bool
-reachesBy x d p b = leb d (b .day + retentionOf x (b .volume)) && hasBefore p (b .records)
+reachesBy x d p b = leb d (dueOf (retentionOf x (b .volume)) b) && hasBefore p (b .records)
 
 -- ---- expiry is the last day that is reached
 
 pub until-reaches : (x : Book) (d p : ℕ) (bs : List Backup) → 0 < d → leb d (untilIn x p bs) ≡ someOf (reachesBy x d p) bs
 until-reaches x d p [] h = lt-leb d 0 h
 until-reaches x d p (b ∷ bs) h =
-    leb-max d (if hasBefore p (b .records) then b .day + retentionOf x (b .volume) else 0) (untilIn x p bs)
+    leb-max d (if hasBefore p (b .records) then dueOf (retentionOf x (b .volume)) b else 0) (untilIn x p bs)
     ∙ rw (until-reaches x d p bs h) (go (hasBefore p (b .records)))
   where
-    go : (o : Bool) → (leb d (if o then b .day + retentionOf x (b .volume) else 0) || someOf (reachesBy x d p) bs)
-        ≡ ((leb d (b .day + retentionOf x (b .volume)) && o) || someOf (reachesBy x d p) bs)
-    go true = rw (and-yes (leb d (b .day + retentionOf x (b .volume))))
+    go : (o : Bool) → (leb d (if o then dueOf (retentionOf x (b .volume)) b else 0) || someOf (reachesBy x d p) bs)
+        ≡ ((leb d (dueOf (retentionOf x (b .volume)) b) && o) || someOf (reachesBy x d p) bs)
+    go true = rw (and-yes (leb d (dueOf (retentionOf x (b .volume)) b)))
     go false = rw (lt-leb d 0 h, and-false)
-
--- on day 0 too, where p was a before
-pub until-reaches-0 : (x : Book) (d p : ℕ) (bs : List Backup) → (d ≡ 0 → someOf (reachesBy x 0 p) bs ≡ true)
-    → leb d (untilIn x p bs) ≡ someOf (reachesBy x d p) bs
-until-reaches-0 x zero p bs h = leb·zero (untilIn x p bs) ∙ sym (h refl)
-until-reaches-0 x (suc d) p bs h = until-reaches x (suc d) p bs (omega arith)
 
 -- ---- a later day is reached by fewer
 
@@ -49,7 +43,7 @@ reached-earlier x d e p (b ∷ bs) h f =
     go (leb d u) (leb e u) (hasBefore p (b .records)) refl refl f (reached-earlier x d e p bs h)
   where
     u : ℕ
-    u = b .day + retentionOf x (b .volume)
+    u = dueOf (retentionOf x (b .volume)) b
 
     go : (j k w : Bool) → leb d u ≡ j → leb e u ≡ k → ((j && w) || someOf (reachesBy x d p) bs) ≡ false
         → (someOf (reachesBy x d p) bs ≡ false → someOf (reachesBy x e p) bs ≡ false) → ((k && w) || someOf (reachesBy x e p) bs) ≡ false
@@ -88,13 +82,13 @@ taken-reaches x d p v l [] e = e
 taken-reaches x d p v l (b ∷ bs) e = go (eqb (b .volume) v) refl e (taken-reaches x d p v l bs)
   where
     step : b .volume ≡ v
-        → ((leb d (b .day + retentionOf x v) && takes p l (b .records)) ≡ true) ⊎ (takenAt p (retentionOf x v) d l (backupsIn v bs) ≡ true)
+        → ((leb d (dueOf (retentionOf x v) b) && takes p l (b .records)) ≡ true) ⊎ (takenAt p (retentionOf x v) d l (backupsIn v bs) ≡ true)
         → (takenAt p (retentionOf x v) d l (backupsIn v bs) ≡ true → someOf (reachesBy x d p) bs ≡ true)
         → someOf (reachesBy x d p) (b ∷ bs) ≡ true
     step q (inl a) ih =
-        let c = and-true (leb d (b .day + retentionOf x v)) (takes p l (b .records)) a in
+        let c = and-true (leb d (dueOf (retentionOf x v) b)) (takes p l (b .records)) a in
         or-l (reachesBy x d p b) (someOf (reachesBy x d p) bs)
-        (rw q (true-and (leb d (b .day + retentionOf x v)) (hasBefore p (b .records)) (c .0) (takes-before p l (b .records) (c .1))))
+        (rw q (true-and (leb d (dueOf (retentionOf x v) b)) (hasBefore p (b .records)) (c .0) (takes-before p l (b .records) (c .1))))
     step q (inr y) ih = or-r (reachesBy x d p b) (someOf (reachesBy x d p) bs) (ih y)
 
     go : (t : Bool) → eqb (b .volume) v ≡ t → takenAt p (retentionOf x v) d l (if t then b ∷ backupsIn v bs else backupsIn v bs) ≡ true
@@ -102,7 +96,7 @@ taken-reaches x d p v l (b ∷ bs) e = go (eqb (b .volume) v) refl e (taken-reac
         → someOf (reachesBy x d p) (b ∷ bs) ≡ true
     go true q e ih =
         step (eqb-true (b .volume) v q)
-        (or-cases (leb d (b .day + retentionOf x v) && takes p l (b .records)) (takenAt p (retentionOf x v) d l (backupsIn v bs)) e) ih
+        (or-cases (leb d (dueOf (retentionOf x v) b) && takes p l (b .records)) (takenAt p (retentionOf x v) d l (backupsIn v bs)) e) ih
     go false q e ih = or-r (reachesBy x d p b) (someOf (reachesBy x d p) bs) (ih e)
 
 -- where a record with before p stands: its volume and its LBN
@@ -117,7 +111,7 @@ reaches-taken x d p ms (b ∷ bs) s r e =
   where
     keep : (v l : ℕ) → takenAt p (retentionOf x v) d l (backupsIn v bs) ≡ true → (t : Bool)
         → takenAt p (retentionOf x v) d l (if t then b ∷ backupsIn v bs else backupsIn v bs) ≡ true
-    keep v l e true = or-r (leb d (b .day + retentionOf x v) && takes p l (b .records)) (takenAt p (retentionOf x v) d l (backupsIn v bs)) e
+    keep v l e true = or-r (leb d (dueOf (retentionOf x v) b) && takes p l (b .records)) (takenAt p (retentionOf x v) d l (backupsIn v bs)) e
     keep v l e false = e
 
     go : (reachesBy x d p b ≡ true) ⊎ (someOf (reachesBy x d p) bs ≡ true)
@@ -126,7 +120,7 @@ reaches-taken x d p ms (b ∷ bs) s r e =
         × ((l : ℕ) × (takenAt p (retentionOf x v) d l (backupsIn v bs) ≡ true)))
         → (v : ℕ) × (v < length ms) × ((l : ℕ) × (takenAt p (retentionOf x v) d l (backupsIn v (b ∷ bs)) ≡ true))
     go (inl y) ih =
-        let c = and-true (leb d (b .day + retentionOf x (b .volume))) (hasBefore p (b .records)) y in
+        let c = and-true (leb d (dueOf (retentionOf x (b .volume)) b)) (hasBefore p (b .records)) y in
         let w = before-takes 0 p (b .records) (r .0) (c .1) in
         (b .volume, s .0, (w .0, rw (eq-eqb (b .volume) (b .volume) refl) (search (or-l, true-and))))
     go (inr y) ih =
