@@ -43,6 +43,7 @@ const struct row rows[ROWS] = {
     { "audit, alike", { .call = AUDIT, .prints = ALIKE, FULL } },
     { "convert_1_2", { .call = CONVERT_1_2, FULL } },
     { "convert_2_1", { .call = CONVERT_2_1, FULL } },
+    { "convert_2_3", { .call = CONVERT_2_3, FULL } },
     { "write_list, all of 1,024 blocks marked", { WRITE_OF(1024) } },
     { "write_list, 51 of 1,024 marked here and there", { WRITE_OF(51) } },
 };

@@ -16,7 +16,7 @@ struct growth {
     struct scene scene;
 };
 
-enum { ROWS = 35, LOOKUPS = 6, GROWTHS = 19, GROWTH_POINTS = 5 };
+enum { ROWS = 36, LOOKUPS = 6, GROWTHS = 19, GROWTH_POINTS = 5 };
 
 extern const struct row rows[ROWS];
 

@@ -10,7 +10,8 @@ static uint8_t list[aspen_list_bound(CELLS)];
 /* The volume that write_list is given. */
 static uint8_t marks[CELLS], prints[ASPEN_PRINT_SIZE * CELLS], image[ASPEN_BLOCK_SIZE * CELLS];
 
-/* The box's book in layout 1, for the converter that takes it, and how long that is. */
+/* The box's book in layouts 2 and 1, for the converters that take it, and how long that is in layout 1. */
+static uint8_t wide[aspen_book_size_of(2, ASPEN_MAX_BLOCKS, CELLS, SLOTS, RECORDS)];
 static uint8_t narrow[aspen_book_size_of(1, ASPEN_MAX_BLOCKS, CELLS, SLOTS, RECORDS)];
 
 static size_t narrow_len(const struct stage *stage)
@@ -53,6 +54,19 @@ static void set_volume(struct stage *stage)
     stage->list_len = written;
 }
 
+static bool converts(const struct scene *scene)
+{
+    return scene->call == CONVERT_1_2 || scene->call == CONVERT_2_1 || scene->call == CONVERT_2_3;
+}
+
+/* Layout 2 has the bytes of today's but for the number; expiries that are those of today don't matter to a converter. */
+static void set_older(const struct stage *stage)
+{
+    memcpy(wide, stage->box.book, stage->box.book_len);
+    wide[0] = 2;
+    aspen_convert_2_1(wide, stage->box.book_len, narrow, narrow_len(stage));
+}
+
 void stage_set(struct stage *stage, const struct scene *scene)
 {
     *stage = (struct stage){ .scene = *scene };
@@ -68,8 +82,8 @@ void stage_set(struct stage *stage, const struct scene *scene)
         set_volume(stage);
     else if (scene->call == BACKUP)
         set_list(stage);
-    else if (scene->call == CONVERT_1_2)
-        aspen_convert_2_1(stage->box.book, stage->box.book_len, narrow, narrow_len(stage));
+    else if (converts(scene))
+        set_older(stage);
     stage->volume = scene->call == ENROL ? AIDS : 0;
     stage->day = (uint16_t)(stage->box.day + (scene->call == COLLECT ? RETENTION + 1 : 1));
     stage->number = scene->oldest ? 1 : stage->box.newest;
@@ -107,7 +121,9 @@ uint16_t stage_call(struct stage *stage, const struct side *side)
     case CONVERT_1_2:
         return side->convert_1_2(narrow, narrow_len(stage), box->room, box->book_len);
     case CONVERT_2_1:
-        return side->convert_2_1(box->book, box->book_len, box->room, narrow_len(stage));
+        return side->convert_2_1(wide, box->book_len, box->room, narrow_len(stage));
+    case CONVERT_2_3:
+        return side->convert_2_3(wide, box->book_len, box->room, box->book_len);
     case WRITE_LIST:
         return write_list(side, box->room, &stage->at);
     }
@@ -125,8 +141,8 @@ void stage_move(struct stage *stage)
     memcpy(box->spare, box->book, box->book_len);
     if (scene->call == RESTORE)
         memcpy(box->room, box->pool, aspen_run_size(scene->changes));
-    if (scene->call == CONVERT_1_2 || scene->call == CONVERT_2_1)
-        memcpy(box->room, box->spare, narrow_len(stage));
+    if (converts(scene))
+        memcpy(box->room, box->spare, scene->call == CONVERT_2_3 ? box->book_len : narrow_len(stage));
     if (scene->call != BACKUP)
         return;
     memcpy(box->book, box->spare, box->book_len);
@@ -136,8 +152,8 @@ void stage_move(struct stage *stage)
 
 static void fail(const struct stage *stage, const char *what, const struct side *side)
 {
-    static const char *const names[] = { "form",    "format", "enrol",       "backup",      "collect",   "read",
-                                         "restore", "audit",  "convert_1_2", "convert_2_1", "write_list" };
+    static const char *const names[] = { "form",    "format", "enrol",       "backup",      "collect",     "read",
+                                         "restore", "audit",  "convert_1_2", "convert_2_1", "convert_2_3", "write_list" };
     const struct scene *scene = &stage->scene;
     fprintf(stderr, "\nbench: %s with N = %u, U = %u, n = %u: %s %s\n", names[scene->call], scene->blocks, scene->records, scene->changes,
             side->name, what);

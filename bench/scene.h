@@ -5,7 +5,7 @@
 #include "box.h"
 #include "sides.h"
 
-enum call { FORM, FORMAT, ENROL, BACKUP, COLLECT, READ, RESTORE, AUDIT, CONVERT_1_2, CONVERT_2_1, WRITE_LIST };
+enum call { FORM, FORMAT, ENROL, BACKUP, COLLECT, READ, RESTORE, AUDIT, CONVERT_1_2, CONVERT_2_1, CONVERT_2_3, WRITE_LIST };
 
 /* Where a backup's blocks are found. */
 enum finds { FIRST_BLOCKS, LAST_BLOCKS, NOWHERE };

@@ -20,6 +20,7 @@ struct side {
     uint16_t (*audit)(const uint8_t *book, size_t len, uint16_t *sound);
     uint16_t (*convert_1_2)(const uint8_t *book, size_t book_len, uint8_t *out, size_t out_len);
     uint16_t (*convert_2_1)(const uint8_t *book, size_t book_len, uint8_t *out, size_t out_len);
+    uint16_t (*convert_2_3)(const uint8_t *book, size_t book_len, uint8_t *out, size_t out_len);
     uint16_t (*write_list)(uint16_t l, const uint8_t *marks, size_t marks_len, const uint8_t *prints, size_t prints_len, const uint8_t *image,
                            size_t image_len, uint8_t *list, size_t list_len, uint32_t *written);
 };

@@ -8,8 +8,9 @@
 
 uint16_t twin_form(const uint8_t *book, size_t len);
 
-/* The same of a book in layout 1, for its converter. */
+/* The same of a book in layout 1 and in layout 2, for their converters. */
 uint16_t twin_form_narrow(const uint8_t *book, size_t len);
+uint16_t twin_form_before(const uint8_t *book, size_t len);
 
 uint16_t twin_format(uint8_t *book, size_t len, uint16_t n, uint16_t l, uint16_t s, uint16_t j);
 
@@ -33,6 +34,7 @@ uint16_t twin_audit(const uint8_t *book, size_t len, uint16_t *sound);
 
 uint16_t twin_convert_1_2(const uint8_t *book, size_t book_len, uint8_t *out, size_t out_len);
 uint16_t twin_convert_2_1(const uint8_t *book, size_t book_len, uint8_t *out, size_t out_len);
+uint16_t twin_convert_2_3(const uint8_t *book, size_t book_len, uint8_t *out, size_t out_len);
 
 uint16_t twin_write_list(uint16_t l, const uint8_t *marks, size_t marks_len, const uint8_t *prints, size_t prints_len, const uint8_t *image,
                          size_t image_len, uint8_t *list, size_t list_len, uint32_t *written);

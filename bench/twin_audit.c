@@ -1,22 +1,22 @@
 /* Audit: one pass over the records for all that follows from them, then one over the maps and two over the entries. */
-#include "twin.h"
-#include "twin_layout.h"
 #include "twin_prints.h"
+#include "twin_slots.h"
 
 #include <string.h>
 
-/* What the records say: the maps, each block's expiry, and the slot that an LBN was last seen in, from 1. */
+/* What the records say: the maps, each block's expiry, the slot that an LBN was last seen in, from 1, and the day of each volume's last backup. */
 struct replayed {
     uint16_t cells[VOLUMES * MAX_LBNS];
     uint16_t expiries[MAX_BLOCKS];
     uint16_t seen[MAX_LBNS];
+    unsigned last[VOLUMES];
 };
 
 /* Whether the records of a slot, numbered from 1, replace what the cells hold and, where the backup before it is kept, no free block. Only the
  * first record of an LBN says what that backup held. */
 static int slot_sound(const uint8_t *book, const struct layout *a, const uint8_t *slot, unsigned number, struct replayed *r)
 {
-    unsigned volume = slot[SLOT_VOLUME], until = u16_at(slot + SLOT_DAY) + retention_of(book, volume);
+    unsigned volume = slot[SLOT_VOLUME], until = until_of(book, slot, r->last);
     int kept = until >= u16_at(book + AT_DAY);
     const uint8_t *record = book + a->records + RECORD * u16_at(slot + SLOT_FIRST), *end = record + RECORD * u16_at(slot + SLOT_NUMBER);
     for (; record < end; record += RECORD) {
@@ -43,6 +43,7 @@ static int records_sound(const uint8_t *book, const struct layout *a, struct rep
     memset(r->cells, 255, sizeof r->cells);
     memset(r->expiries, 0, sizeof r->expiries);
     memset(r->seen, 0, sizeof r->seen);
+    memset(r->last, 0, sizeof r->last);
     for (unsigned q = 0; q < used; q++)
         if (!slot_sound(book, a, book + a->slots + SLOT * q, q + 1, r))
             return 0;

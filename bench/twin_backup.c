@@ -12,7 +12,7 @@ struct backup {
     uint8_t *work, *record; /* the copy, and the next record in it */
     struct list list;
     struct prints *table; /* null where the entries are gone through */
-    unsigned volume, until, cursor, taken, befores;
+    unsigned volume, backups, until, cursor, taken, befores;
     uint16_t by[MAX_BLOCKS]; /* for a block taken, the change that took it */
     uint16_t took[MAX_LBNS]; /* the blocks taken */
 };
@@ -153,24 +153,25 @@ static void finish(struct backup *b, uint8_t *book, uint8_t *pool, unsigned day)
     memcpy(book, b->work, b->a.length);
 }
 
-/* Number 7, or 0 with how many backups the volume has. */
-static uint16_t day_refused(const uint8_t *book, const struct layout *a, unsigned volume, unsigned day, unsigned *backups)
+/* Number 7, or 0 with how many backups the volume has, and until when a block of the last one is needed; 0 is its day where there is none. */
+static uint16_t day_refused(struct backup *b, unsigned day)
 {
-    const uint8_t *slot = book + a->slots, *end = slot + SLOT * u16_at(book + AT_SLOTS_USED), *last = NULL;
-    *backups = 0;
-    if (day > MAX_DAY || day < u16_at(book + AT_DAY))
+    const uint8_t *slot = b->book + b->a.slots, *end = slot + SLOT * u16_at(b->book + AT_SLOTS_USED), *last = NULL;
+    b->backups = 0;
+    if (day > MAX_DAY || day < u16_at(b->book + AT_DAY))
         return 7;
     for (; slot < end; slot += SLOT)
-        if (slot[SLOT_VOLUME] == volume) {
+        if (slot[SLOT_VOLUME] == b->volume) {
             last = slot;
-            ++*backups;
+            b->backups++;
         }
+    b->until = retention_of(b->book, b->volume) + (last == NULL ? 0 : u16_at(last + SLOT_DAY));
     return last != NULL && day <= u16_at(last + SLOT_DAY) ? 7 : 0;
 }
 
 /* Numbers 1 to 10. */
 static uint16_t refused_first(struct backup *b, size_t book_len, size_t pool_len, size_t spare_len, unsigned day, const uint8_t *list,
-                              size_t list_len, unsigned *backups)
+                              size_t list_len)
 {
     uint16_t refused = twin_form(b->book, book_len);
     if (refused != 0)
@@ -182,7 +183,7 @@ static uint16_t refused_first(struct backup *b, size_t book_len, size_t pool_len
         return 4;
     if (b->volume >= VOLUMES || retention_of(b->book, b->volume) == 0)
         return 5;
-    refused = day_refused(b->book, &b->a, b->volume, day, backups);
+    refused = day_refused(b, day);
     if (refused != 0)
         return refused;
     if (!list_of(&b->list, list, list_len, b->a.l))
@@ -196,25 +197,23 @@ static uint16_t backup(struct prints *table, uint8_t *book, size_t book_len, uin
                        uint16_t volume, uint16_t day, const uint8_t *list, size_t list_len, uint16_t *number, uint16_t *taken, uint16_t *touched)
 {
     struct backup b;
-    unsigned backups;
     b.book = book;
     b.pool = pool;
     b.work = spare;
     b.table = table;
     b.volume = volume;
-    uint16_t refused = refused_first(&b, book_len, pool_len, spare_len, day, list, list_len, &backups);
+    uint16_t refused = refused_first(&b, book_len, pool_len, spare_len, day, list, list_len);
     if (refused != 0)
         return refused;
     memcpy(b.work, book, book_len);
     b.record = b.work + b.a.records + RECORD * u16_at(book + AT_RECORDS_USED);
-    b.until = day + retention_of(book, volume);
     b.cursor = u16_at(book + AT_CURSOR);
     b.taken = b.befores = 0;
     refused = all_changes(&b);
     if (refused != 0)
         return refused;
     finish(&b, book, pool, day);
-    *number = (uint16_t)(backups + 1);
+    *number = (uint16_t)(b.backups + 1);
     *taken = (uint16_t)b.taken;
     *touched = (uint16_t)(b.list.n + b.befores);
     return 0;

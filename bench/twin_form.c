@@ -88,9 +88,9 @@ static int records_ok(const uint8_t *book, const struct layout *a)
     return all_zero(b, RECORD * (a->j - used));
 }
 
-uint16_t twin_form(const uint8_t *book, size_t len)
+static uint16_t wide_form(const uint8_t *book, size_t len, unsigned layout)
 {
-    if (len < HEADER || u16_at(book + AT_LAYOUT) != LAYOUT)
+    if (len < HEADER || u16_at(book + AT_LAYOUT) != layout)
         return 1;
     struct layout a = layout_in(book);
     if (!layout_ok(&a, len))
@@ -98,6 +98,16 @@ uint16_t twin_form(const uint8_t *book, size_t len)
     if (!header_ok(book, &a) || !entries_ok(book + ENTRIES, a.n) || !maps_ok(book + a.maps, &a))
         return 2;
     return slots_ok(book, &a) && records_ok(book, &a) ? 0 : 2;
+}
+
+uint16_t twin_form(const uint8_t *book, size_t len)
+{
+    return wide_form(book, len, LAYOUT);
+}
+
+uint16_t twin_form_before(const uint8_t *book, size_t len)
+{
+    return wide_form(book, len, BEFORE);
 }
 
 uint16_t twin_form_narrow(const uint8_t *book, size_t len)

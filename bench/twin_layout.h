@@ -1,4 +1,4 @@
-/* The book's layout, for the twin: 2, which the calls take, and what differs in 1. */
+/* The book's layout, for the twin: 3, which the calls take, and what differs in 1. Layout 2 has the bytes of 3. */
 #ifndef ASPEN_BENCH_TWIN_LAYOUT_H
 #define ASPEN_BENCH_TWIN_LAYOUT_H
 
@@ -11,8 +11,8 @@ enum { MAX_BLOCKS = 4096, MAX_LBNS = 1024, MAX_SLOTS = 1024, MAX_RECORDS = 16384
 /* Bytes of each part. */
 enum { HEADER = 20, ENTRIES = HEADER + 2 * VOLUMES, ENTRY = 21, CELL = 2, SLOT = 8, RECORD = 6 };
 
-/* The number of the layout. */
-enum { LAYOUT = 2, NARROW = 1 };
+/* The number of the layout, of the one before it, and of that with counts of one byte. */
+enum { LAYOUT = 3, BEFORE = 2, NARROW = 1 };
 
 /* In layout 1 the count has one byte, and the rest of an entry follows it as here. */
 enum { COUNT = 2, NARROW_COUNT = 1, NARROW_ENTRY = ENTRY - COUNT + NARROW_COUNT };

@@ -14,10 +14,19 @@ static inline const uint8_t *own_slot(const uint8_t *slot, const uint8_t *end, u
     return end;
 }
 
-/* Whether the backup that `next` follows is kept; `end` follows the newest. */
-static inline int kept_before(const uint8_t *book, const uint8_t *next, const uint8_t *end, unsigned volume)
+/* Whether the backup in this slot is kept; `end` follows the newest. */
+static inline int is_kept(const uint8_t *book, const uint8_t *slot, const uint8_t *next, const uint8_t *end)
 {
-    return next == end || u16_at(next + SLOT_DAY) + retention_of(book, volume) >= u16_at(book + AT_DAY);
+    return next == end || u16_at(slot + SLOT_DAY) + retention_of(book, slot[SLOT_VOLUME]) >= u16_at(book + AT_DAY);
+}
+
+/* Until when a block is needed that the backup in this slot replaces, by the day of the volume's last backup before it, which is 0 at first. For
+ * slots from the oldest on. */
+static inline unsigned until_of(const uint8_t *book, const uint8_t *slot, unsigned *last)
+{
+    unsigned volume = slot[SLOT_VOLUME], until = last[volume] + retention_of(book, volume);
+    last[volume] = u16_at(slot + SLOT_DAY);
+    return until;
 }
 
 /* The checks that read and restore share, up to 16; then a is the layout, and the volume's later slots are among those from `next` to `end`. */
@@ -38,7 +47,7 @@ static inline uint16_t find_kept(const uint8_t *book, size_t book_len, size_t po
     if (own == *end)
         return 15;
     *next = own_slot(own + SLOT, *end, volume, 1);
-    return kept_before(book, *next, *end, volume) ? 0 : 16;
+    return is_kept(book, own, *next, *end) ? 0 : 16;
 }
 
 #endif

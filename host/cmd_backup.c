@@ -72,6 +72,22 @@ static struct answer give(struct store *store, const struct asked *asked, const 
     return answer;
 }
 
+/* The backup before may have been kept as the newest alone: then it is past its days from now on. */
+static void note_ended(const struct asked *asked, uint16_t number)
+{
+    struct bytes rows = view_backups(asked->store->book, asked->volume);
+    struct backup before = {.kept = true};
+    char date[DATE_TEXT], until[DATE_TEXT];
+
+    if (number > 1)
+        before = view_backup(rows, (uint16_t)(number - 1));
+    if (!before.kept)
+        note("backup %u, of %s, isn't the newest any more and can't be read: it was kept until %s",
+             number - 1U, store_date(asked->store, before.day, date),
+             store_date(asked->store, before.until, until));
+    bytes_free(&rows);
+}
+
 static void show(const struct asked *asked, const struct answer *answer, const struct image *image)
 {
     char date[DATE_TEXT];
@@ -107,6 +123,7 @@ int run_backup(const struct request *request)
     image_load(&image, request->words[2]);
     compare(&store, request, &asked, &image);
     answer = give(&store, &asked, &image);
+    note_ended(&asked, answer.number);
     show(&asked, &answer, &image);
     image_free(&image);
     store_close(&store);

@@ -3,6 +3,7 @@
 #include "dates.h"
 #include "days.h"
 #include "json.h"
+#include "layouts.h"
 #include "messages.h"
 #include "opening.h"
 #include "refusals.h"
@@ -120,6 +121,39 @@ int run_collect(const struct request *request)
     return STATUS_DONE;
 }
 
+static void note_ended(const struct store *store, uint16_t volume, uint16_t number)
+{
+    struct bytes rows = view_backups(store->book, volume);
+    struct backup backup = view_backup(rows, number);
+    char date[DATE_TEXT], until[DATE_TEXT];
+
+    note("backup %u of volume %u, of %s, is past its days in layout %d: it was kept until %s",
+         number, volume, store_date(store, backup.day, date), ASPEN_LAYOUT,
+         store_date(store, backup.until, until));
+    bytes_free(&rows);
+}
+
+/* Names the backups that can be read now and not after the upgrade, from which nothing leads back.
+ * Where there are some, it has to be forced. */
+static void check_ended(const struct store *store, bool forced)
+{
+    unsigned count = 0;
+
+    for (uint16_t volume = 0; volume < ASPEN_VOLUMES; volume++) {
+        uint16_t number = layouts_ended(store->layout, store->book, volume);
+
+        if (number == 0)
+            continue;
+        note_ended(store, volume, number);
+        count++;
+    }
+    if (count > 0 && !forced)
+        fail(STATUS_USAGE,
+             "the upgrade of %s ends %u backup%s that can be read now; nothing was written; restore "
+             "what is still wanted with the aspenbox that made the store, and then give --force",
+             store->folder, count, count == 1 ? "" : "s");
+}
+
 static void show_upgrade(const char *folder, uint16_t from)
 {
     if (messages_json()) {
@@ -141,10 +175,12 @@ int run_upgrade(const struct request *request)
     struct store store;
 
     open_to_upgrade(&store, request);
-    if (store.layout != ASPEN_LAYOUT)
+    if (store.layout != ASPEN_LAYOUT) {
+        check_ended(&store, request->options[OPTION_FORCE] != NULL);
         store_upgrade_book(&store);
-    else if (store_drop_old(&store))
+    } else if (store_drop_old(&store)) {
         note("removed the old book that an upgrade which was cut off had left");
+    }
     show_upgrade(store.folder, store.layout);
     store_close(&store);
     return STATUS_DONE;

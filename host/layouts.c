@@ -1,5 +1,7 @@
 #include "layouts.h"
 
+#include "view.h"
+
 #include <aspen.h>
 
 struct step {
@@ -10,7 +12,12 @@ struct step {
 /* From the oldest layout on, each to the next, so that one pass goes all the way. */
 static const struct step steps[] = {
     {1, 2, aspen_convert_1_2},
+    {2, 3, aspen_convert_2_3},
 };
+
+/* The last layout by whose rule a backup's days counted from the day of the next one. Since then
+ * they count from its own. */
+enum { LAST_BY_NEXT = 2 };
 
 /* A book that is refused stays as it is. */
 static uint16_t take(const struct step *step, struct bytes *book)
@@ -38,4 +45,23 @@ uint16_t layouts_renew(struct bytes *book)
             return number;
     }
     return aspen_form(book->at, book->length);
+}
+
+uint16_t layouts_ended(uint16_t layout, struct bytes book, uint16_t volume)
+{
+    struct volume found = view_volume(book, volume);
+    uint16_t day = view_figures(book).day, ended = 0;
+    struct bytes rows;
+
+    if (layout > LAST_BY_NEXT || !found.enrolled)
+        return 0;
+    rows = view_backups(book, volume);
+    for (uint16_t number = 1; number < found.backups; number++) {
+        uint16_t next = view_backup(rows, (uint16_t)(number + 1)).day;
+
+        if (!view_backup(rows, number).kept && next + found.keep >= day)
+            ended = number;
+    }
+    bytes_free(&rows);
+    return ended;
 }

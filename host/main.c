@@ -14,8 +14,8 @@ const struct command commands[] = {
      "Days count from DATE, by default from today.",
      run_format},
     {"enrol", "DIR VOLUME", 2, 2, OPTION(KEEP), 0,
-     "Enrols a volume. Each backup is kept for DAYS days (up to 5000) after the one that\n"
-     "follows it; the newest is always kept.",
+     "Enrols a volume. Each backup is kept for DAYS days (up to 5000) from the day on which it was\n"
+     "taken; the newest is always kept.",
      run_enrol},
     {"backup", "DIR VOLUME IMAGE", 3, 3, 0, DAYS,
      "Backs up the blocks of IMAGE in which it differs from the volume's last backup, as of DATE,\n"
@@ -58,9 +58,10 @@ const struct command commands[] = {
      run_scrub},
     {"book", "DIR", 1, 1, 0, 0,
      "Writes to standard output the book alone, for the program tally and others.", run_book},
-    {"upgrade", "DIR", 1, 1, 0, 0,
-     "Brings a store that an earlier aspenbox made to the layout of this one. Its backups, days\n"
-     "and blocks stay as they are. Earlier versions of aspenbox refuse the store from then on.",
+    {"upgrade", "DIR", 1, 1, 0, OPTION(FORCE),
+     "Brings a store that an earlier aspenbox made to the layout of this one. Earlier versions of\n"
+     "aspenbox refuse the store from then on. Backups that can be read now and not afterwards are\n"
+     "named, and nothing is done without --force.",
      run_upgrade},
     {0},
 };

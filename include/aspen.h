@@ -5,7 +5,7 @@
  * a backup (aspen_backup), keeps equal blocks once, frees what no kept backup needs
  * (aspen_collect), and reads old backups, a block (aspen_read) or a run of blocks (aspen_restore).
  * aspen_play makes a whole list of such calls that is stored as bytes. A book of an earlier layout
- * becomes one that these calls take by a converter (aspen_convert_1_2).
+ * becomes one that these calls take by converters (aspen_convert_1_2, then aspen_convert_2_3).
  *
  * Memory. The box lives in two buffers of the caller's: the book, which notes what each volume
  * held and when, and the pool, which holds the blocks. The library allocates nothing and keeps
@@ -25,9 +25,9 @@
  * may calls that only read the same ones. While a call writes a buffer nothing else may use it;
  * to have one writer at a time is the caller's duty.
  *
- * Stack. On x86-64 aspen_play takes 49,760 bytes of it, aspen_audit 49,416, aspen_backup 24,920 and
- * aspen_restore 2,264, nearly all for tables that live for one call; every other function takes 256
- * at most.
+ * Stack. On x86-64 aspen_play takes 49,760 bytes of it, aspen_audit 49,432, aspen_backup 24,920,
+ * aspen_convert_2_3 8,408 and aspen_restore 2,264, nearly all for tables that live for one call;
+ * every other function takes 256 at most.
  */
 #ifndef ASPEN_H
 #define ASPEN_H
@@ -40,9 +40,9 @@ extern "C" {
 #endif
 
 /* The version of the library, as text and in numbers. */
-#define ASPEN_VERSION "0.2.0"
+#define ASPEN_VERSION "0.3.0"
 #define ASPEN_VERSION_MAJOR 0
-#define ASPEN_VERSION_MINOR 2
+#define ASPEN_VERSION_MINOR 3
 #define ASPEN_VERSION_PATCH 0
 
 /* Limits. The numbers of blocks, slots and records, the blocks of a run, and the retention, are 1
@@ -60,7 +60,7 @@ extern "C" {
 
 /* The layout of the books that aspen_format makes and that the calls take. Converters take and
  * write others. */
-#define ASPEN_LAYOUT 2
+#define ASPEN_LAYOUT 3
 
 /* Sizes in bytes. Constant expressions where the arguments are; each argument is used once, but for
  * that of aspen_list_bound, which is used twice. */
@@ -170,8 +170,9 @@ uint16_t aspen_format(uint8_t *book, size_t book_len, uint16_t n, uint16_t l, ui
                       uint16_t j);
 
 /*
- * Enrols a volume, 0 to 7. A backup of it is kept for `retention` days after the day of the
- * backup that follows it; the newest one is always kept.
+ * Enrols a volume, 0 to 7. A backup of it is kept for `retention` days from the day on which it was
+ * taken; the newest one is always kept. So after a pause longer than that the backup before is past
+ * its days as soon as the next one is taken.
  *
  * Returns ASPEN_OK, ASPEN_BAD_LAYOUT, ASPEN_BAD_FORM, ASPEN_BAD_VOLUME or ASPEN_BAD_RETENTION.
  */
@@ -312,7 +313,7 @@ uint16_t aspen_volume(const uint8_t *book, size_t book_len, uint16_t volume, uin
  * numbers:
  *   0  the backup's day
  *   2  how many changes it has
- *   4  the last day on which it is kept, ASPEN_NO_END for the newest
+ *   4  the last day on which it is kept, its day plus the retention; ASPEN_NO_END for the newest
  *   6  1 if it is kept at the book's day, else 0
  * aspen_backups_size(backups) bytes are enough, with the backups that aspen_volume answers.
  *
@@ -391,11 +392,15 @@ uint16_t aspen_write_list(uint16_t l, const uint8_t *marks, size_t marks_len,
                           size_t image_len, uint8_t *list, size_t list_len, uint32_t *written);
 
 /*
- * Converters take a book in one layout and write it to the output in another, with every field
- * equal but the layout number. The layouts differ in the count of a block alone: it has one byte in
- * layout 1 and two in layout 2. The book is only read, and the pool is the same for both. An output
- * of aspen_converted_size bytes is enough; it may be longer, and what follows the book there is as
- * it was. A book of any other layout than the one taken is refused by ASPEN_BAD_LAYOUT.
+ * Converters take a book in one layout and write it to the output in another. The book is only
+ * read, and the pool is the same for both. An output of aspen_converted_size bytes is enough; it may
+ * be longer, and what follows the book there is as it was. A book of any other layout than the one
+ * taken is refused by ASPEN_BAD_LAYOUT. A host that meets an old book goes from each layout to the
+ * next.
+ *
+ * Between layouts 1 and 2 every field stays equal but the layout number: the count of a block has
+ * one byte in layout 1 and two in layout 2. Layout 3 has the same bytes as layout 2 and another rule
+ * of what is kept: in layouts 1 and 2 a backup was kept for its days after that of the next backup.
  */
 
 /*
@@ -412,6 +417,19 @@ uint16_t aspen_convert_1_2(const uint8_t *book, size_t book_len, uint8_t *out, s
  * Returns ASPEN_OK, ASPEN_BAD_LAYOUT, ASPEN_BAD_FORM, ASPEN_SHORT_SPARE or ASPEN_COUNT_WIDE.
  */
 uint16_t aspen_convert_2_1(const uint8_t *book, size_t book_len, uint8_t *out, size_t out_len);
+
+/*
+ * Writes a book of layout 2 in layout 3. Every field stays equal but the layout number and the
+ * expiries of the blocks, which are worked out afresh from the journal, as aspen_audit asks for
+ * them. There is no way back.
+ *
+ * A sound book stays sound. A backup that was kept until now by the day of the next one may be past
+ * its days then: at most one of each volume. An expiry that was wrong is right afterwards, so whoever
+ * wants to know about it has to audit the book before, with a library that takes layout 2.
+ *
+ * Returns ASPEN_OK, ASPEN_BAD_LAYOUT, ASPEN_BAD_FORM or ASPEN_SHORT_SPARE.
+ */
+uint16_t aspen_convert_2_3(const uint8_t *book, size_t book_len, uint8_t *out, size_t out_len);
 
 /* A short text for a number that a function returned. */
 static inline const char *aspen_text(uint16_t number)

@@ -24,11 +24,16 @@ size_t case_record(unsigned record)
     return case_slot(CASE_S) + RECORD * record;
 }
 
+size_t slot_in(const uint8_t *book, unsigned slot)
+{
+    size_t n = get_u16(book, AT_N), l = get_u16(book, AT_L);
+
+    return HEADER + ENTRY * n + CELL * VOLUMES * l + SLOT * slot;
+}
+
 size_t record_in(const uint8_t *book, unsigned record)
 {
-    size_t n = get_u16(book, AT_N), l = get_u16(book, AT_L), s = get_u16(book, AT_S);
-
-    return HEADER + ENTRY * n + CELL * VOLUMES * l + SLOT * s + RECORD * record;
+    return slot_in(book, get_u16(book, AT_S)) + RECORD * record;
 }
 
 unsigned get_u16(const uint8_t *bytes, size_t at)
@@ -49,7 +54,7 @@ void book_fresh(uint8_t *book, unsigned n, unsigned l, unsigned s, unsigned j)
 
     memset(book, 0, slots + SLOT * (size_t)s + RECORD * (size_t)j);
     memset(book + maps, 255, slots - maps);
-    put_u16(book, AT_LAYOUT, 2);
+    put_u16(book, AT_LAYOUT, 3);
     put_u16(book, AT_N, n);
     put_u16(book, AT_L, l);
     put_u16(book, AT_S, s);
@@ -96,7 +101,7 @@ void book_after_d(uint8_t *book)
     put_u16(book, AT_CURSOR, 3);
     put_u16(book, AT_RETENTIONS, 10);
     put_u16(book, AT_RETENTIONS + 2, 3);
-    put_entry(book, 0, 0, 18, 'A');
+    put_entry(book, 0, 0, 15, 'A');
     put_entry(book, 1, 2, 0, 'B');
     put_entry(book, 2, 1, 0, 'C');
     put_u16(book, case_cell(0, 0), 2);
@@ -111,6 +116,13 @@ void book_after_d(uint8_t *book)
     put_record(book, 2, 3, PBN_UNMAPPED, 0);
     put_record(book, 3, 0, 0, 2);
     put_record(book, 4, 3, 0, 1);
+}
+
+void book_after_d_in_2(uint8_t *book)
+{
+    book_after_d(book);
+    put_u16(book, AT_LAYOUT, 2);
+    put_u16(book, case_entry(0) + ENTRY_EXPIRY, 18);
 }
 
 void book_narrow(uint8_t *narrow, const uint8_t *book, size_t length)

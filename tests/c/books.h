@@ -5,7 +5,7 @@
 #include <stddef.h>
 #include <stdint.h>
 
-/* The sizes of document 01's cases, and the length of their book; and that of layout 1. */
+/* The sizes of the cases, and the length of their book; and that of layout 1. */
 enum { CASE_N = 4, CASE_L = 4, CASE_S = 6, CASE_J = 8, CASE_BOOK = 280, CASE_NARROW = 276 };
 
 /* Header fields. */
@@ -35,7 +35,8 @@ size_t case_entry(unsigned pbn);
 size_t case_cell(unsigned volume, unsigned lbn);
 size_t case_slot(unsigned slot);
 size_t case_record(unsigned record);
-/* Where a record starts in a book of any sizes. */
+/* Where a slot and a record start in a book of any sizes. */
+size_t slot_in(const uint8_t *book, unsigned slot);
 size_t record_in(const uint8_t *book, unsigned record);
 
 unsigned get_u16(const uint8_t *bytes, size_t at);
@@ -43,9 +44,10 @@ void put_u16(uint8_t *bytes, size_t at, unsigned value);
 
 /* A fresh book of these sizes. */
 void book_fresh(uint8_t *book, unsigned n, unsigned l, unsigned s, unsigned j);
-/* The book of the cases after case d. */
+/* The book of the cases after case d; and as the same calls left it in layout 2. */
 void book_after_d(uint8_t *book);
-/* The same fields in layout 1; of a count it has the low byte. */
+void book_after_d_in_2(uint8_t *book);
+/* The fields of a book in layout 1; of a count it has the low byte. */
 void book_narrow(uint8_t *narrow, const uint8_t *book, size_t length);
 
 #endif

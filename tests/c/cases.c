@@ -1,4 +1,4 @@
-/* Cases a to j of document 01, with every number that it gives. */
+/* Cases a to j of document 01, with every number that it and document 02 give. */
 #include <aspen.h>
 
 #include "books.h"
@@ -81,30 +81,46 @@ static void c_to_d(struct box *box)
     check_about("case c");
     CHECK_BACKED_UP(call_backup(box, 0, 8, letters(0, "C"), ASPEN_OK), 2, 1, 2);
     check_map(box, 0, 2, 1, PBN_UNMAPPED, PBN_UNMAPPED);
-    check_entry(box, 0, 1, 18, 'A');
+    check_entry(box, 0, 1, 15, 'A');
     check_head(box, 8, 3);
     check_about("case d");
     CHECK_BACKED_UP(call_backup(box, 1, 9, letters(3, "B"), ASPEN_OK), 2, 0, 2);
-    check_entry(box, 0, 0, 18, 'A');
+    check_entry(box, 0, 0, 15, 'A');
     check_head(box, 9, 3);
     CHECK_BYTES(box->book.bytes, expected.book.bytes, CASE_BOOK);
     CHECK_BYTES(box->pool.bytes, expected.pool.bytes, expected.pool.length);
     box_free(&expected);
 }
 
+/* In place of e: the last day of volume 0's first backup, and the day after. */
+static void before_e(void)
+{
+    struct box box = box_after_d();
+
+    check_about("before case e");
+    CHECK_EQ(call_collect(&box, 15, ASPEN_OK), 0);
+    check_head(&box, 15, 3);
+    CHECK_EQ(call_read(&box, 0, 1, 0, ASPEN_OK), 0);
+    check_pool(&box, "ABC\x5A");
+    CHECK_EQ(call_collect(&box, 16, ASPEN_OK), 1);
+    check_head(&box, 16, 3);
+    call_read(&box, 0, 1, 0, ASPEN_NOT_KEPT);
+    box_free(&box);
+}
+
 static void e_to_g(struct box *box)
 {
     check_about("case e");
-    CHECK_EQ(call_collect(box, 18, ASPEN_OK), 0);
+    CHECK_EQ(call_collect(box, 18, ASPEN_OK), 1);
+    call_read(box, 0, 1, 0, ASPEN_NOT_KEPT);
+    check_entry(box, 0, 0, 15, 0);
     check_head(box, 18, 3);
-    CHECK_EQ(call_read(box, 0, 1, 0, ASPEN_OK), 0);
-    check_pool(box, "ABC\x5A");
     check_about("case f");
     call_read(box, 1, 1, 3, ASPEN_NOT_KEPT);
     check_about("case g");
-    CHECK_EQ(call_collect(box, 19, ASPEN_OK), 1);
+    CHECK_EQ(call_collect(box, 19, ASPEN_OK), 0);
     call_read(box, 0, 1, 0, ASPEN_NOT_KEPT);
-    check_entry(box, 0, 0, 18, 0);
+    check_entry(box, 0, 0, 15, 0);
     check_head(box, 19, 3);
 }
 
@@ -114,7 +130,7 @@ static void h_to_j(struct box *box)
     CHECK_BACKED_UP(call_backup(box, 0, 20, letters(2, "DE"), ASPEN_OK), 3, 2, 2);
     check_map(box, 0, 2, 1, 3, 0);
     check_entry(box, 3, 1, 0, 'D');
-    check_entry(box, 0, 1, 18, 'E');
+    check_entry(box, 0, 1, 15, 'E');
     check_head(box, 20, 1);
     check_pool(box, "EBCD");
     CHECK_EQ(call_read(box, 0, 3, 2, ASPEN_OK), 3 * ASPEN_BLOCK_SIZE);
@@ -126,13 +142,32 @@ static void h_to_j(struct box *box)
     check_head(box, 20, 1);
 }
 
+/* The newest is kept whatever its age, and is past its days as soon as the next one is taken. */
+static void after_a_pause(void)
+{
+    struct box box = box_after_d();
+
+    check_about("after a long pause");
+    CHECK_EQ(call_collect(&box, 29, ASPEN_OK), 1);
+    CHECK_EQ(call_read(&box, 0, 2, 0, ASPEN_OK), 2 * ASPEN_BLOCK_SIZE);
+    CHECK_BACKED_UP(call_backup(&box, 0, 30, letters(0, "D"), ASPEN_OK), 3, 1, 2);
+    check_entry(&box, 2, 0, 18, 'C');
+    check_head(&box, 30, 0);
+    call_read(&box, 0, 2, 0, ASPEN_NOT_KEPT);
+    CHECK_EQ(call_collect(&box, 30, ASPEN_OK), 1);
+    check_head(&box, 30, 0);
+    box_free(&box);
+}
+
 void test_cases(void)
 {
     struct box box = box_fresh();
 
     a_to_b(&box);
     c_to_d(&box);
+    before_e();
     e_to_g(&box);
     h_to_j(&box);
+    after_a_pause();
     box_free(&box);
 }

@@ -1,4 +1,4 @@
-/* The changes of a backup: the numbers 11 to 14, and that a refused list leaves no half. */
+/* The changes of a backup: the numbers 11 to 14, that a refused list leaves no half, and expiries. */
 #include <aspen.h>
 
 #include "books.h"
@@ -165,8 +165,46 @@ static void test_zero_print(void)
     again = buffer_copy(&list);
     CHECK_EQ(call_backup(&box, 0, 10, list, ASPEN_OK).taken, 1);
     CHECK_EQ(call_backup(&box, 0, 11, again, ASPEN_OK).taken, 0);
-    CHECK_EQ(get_u16(box.book.bytes, case_entry(3) + ENTRY_EXPIRY), 21);
+    CHECK_EQ(get_u16(box.book.bytes, case_entry(3) + ENTRY_EXPIRY), 20);
     CHECK_EQ(call_audit(&box, ASPEN_OK), 1);
+    box_free(&box);
+}
+
+static void check_expiry(const struct box *box, unsigned pbn, unsigned expected)
+{
+    CHECK_EQ(get_u16(box->book.bytes, case_entry(pbn) + ENTRY_EXPIRY), expected);
+}
+
+/* A replaced block is needed for volume 0's 10 days from the backup before, and not from the one
+ * that brought it. */
+static void test_expiries(void)
+{
+    struct box box = box_after_d();
+
+    check_about("expiries by the backup before");
+    call_backup(&box, 0, 10, buffer_filled(2, 0), ASPEN_OK);
+    check_expiry(&box, 2, 0);
+    call_backup(&box, 0, 12, letters(0, "B"), ASPEN_OK);
+    check_expiry(&box, 2, 20);
+    check_expiry(&box, 1, 0);
+    check_expiry(&box, 0, 15);
+    CHECK_EQ(call_audit(&box, ASPEN_OK), 1);
+    box_free(&box);
+}
+
+/* A damaged book, in which a volume without backups has a block: that counts from day 0. */
+static void test_no_backup_before(void)
+{
+    struct box box = box_after_d();
+
+    check_about("an expiry without a backup before");
+    call_enrol(&box, 2, 7, ASPEN_OK);
+    put_u16(box.book.bytes, case_cell(2, 0), 1);
+    set_count(&box, 1, 3);
+    call_backup(&box, 2, 10, letters(0, "C"), ASPEN_OK);
+    check_expiry(&box, 1, 7);
+    call_backup(&box, 2, 11, letters(0, "A"), ASPEN_OK);
+    check_expiry(&box, 2, 17);
     box_free(&box);
 }
 
@@ -180,4 +218,6 @@ void test_changes(void)
     test_first_change_decides();
     test_lowest_is_found();
     test_zero_print();
+    test_expiries();
+    test_no_backup_before();
 }

@@ -1,44 +1,21 @@
-/* The converters: every field equal, there and back, the numbers in checking order, and an output
- * that is written as a whole or not at all. */
+/* The converters between layouts 1 and 2: every field equal, there and back, and the numbers in
+ * checking order. */
 #include <aspen.h>
 
 #include "books.h"
 #include "box.h"
 #include "check.h"
+#include "converting.h"
 #include "tests.h"
 
 #include <string.h>
 
-typedef uint16_t converter(const uint8_t *book, size_t book_len, uint8_t *out, size_t out_len);
-
-enum { OUT_BYTE = 0xA5 };
-
-/* Converts to an output of so many bytes, which starts with this book then, and goes on as it was;
- * after a refusal all of it is as it was. */
-static void call(converter *convert, const struct buffer *book, size_t room,
-                 const struct buffer *wanted, uint16_t expected)
-{
-    struct buffer before = buffer_copy(book), out = buffer_filled(room, OUT_BYTE);
-    struct buffer after = buffer_copy(&out);
-
-    CHECK_EQ(convert(book->bytes, book->length, out.bytes, out.length), expected);
-    if (expected == ASPEN_OK)
-        memcpy(after.bytes, wanted->bytes, wanted->length);
-    CHECK_BYTES(out.bytes, after.bytes, room);
-    CHECK_BYTES(book->bytes, before.bytes, before.length);
-    CHECK_GUARDS(&out);
-    CHECK_GUARDS(book);
-    buffer_free(&before);
-    buffer_free(&out);
-    buffer_free(&after);
-}
-
 static void refuses(converter *convert, const struct buffer *book, size_t room, uint16_t expected)
 {
-    call(convert, book, room, NULL, expected);
+    converter_refuses(convert, book, room, expected);
 }
 
-/* A book in both layouts. */
+/* A book in both layouts, of two bytes for a count and of one. */
 struct both {
     struct buffer wide, narrow;
 };
@@ -57,7 +34,7 @@ static struct both both_after_d(void)
 {
     struct buffer book = buffer_new(CASE_BOOK);
 
-    book_after_d(book.bytes);
+    book_after_d_in_2(book.bytes);
     return both_of(book);
 }
 
@@ -70,8 +47,8 @@ static void both_free(struct both *both)
 /* Both ways, with this much more room than the book to write has. */
 static void check_both(const struct both *both, size_t more)
 {
-    call(aspen_convert_2_1, &both->wide, both->narrow.length + more, &both->narrow, ASPEN_OK);
-    call(aspen_convert_1_2, &both->narrow, both->wide.length + more, &both->wide, ASPEN_OK);
+    converts(aspen_convert_2_1, &both->wide, both->narrow.length + more, &both->narrow, ASPEN_OK);
+    converts(aspen_convert_1_2, &both->narrow, both->wide.length + more, &both->wide, ASPEN_OK);
 }
 
 /* The count of a block, in two bytes and in one. */
@@ -135,6 +112,7 @@ static void check_sizes(uint16_t n, uint16_t l, uint16_t s, uint16_t j)
     unsigned pbn;
 
     book_fresh(book.bytes, n, l, s, j);
+    put_u16(book.bytes, AT_LAYOUT, 2);
     put_u16(book.bytes, AT_DAY, ASPEN_MAX_DAY);
     put_u16(book.bytes, AT_CURSOR, n - 1u);
     put_u16(book.bytes, AT_RETENTIONS + 2 * 7, ASPEN_MAX_RETENTION);
@@ -185,7 +163,7 @@ static void test_order(void)
 /* Each converter takes one layout, by its number and by its length. */
 static void test_layouts(void)
 {
-    static const unsigned numbers[] = { 0, 3, 257, 258, 65535 };
+    static const unsigned numbers[] = { 0, 3, 4, 257, 258, 65535 };
     static const size_t lengths[] = { 0, 1, 2, 10, 19, 20, 36, 275, 279 };
     struct both both = both_after_d();
     size_t i;
@@ -228,8 +206,8 @@ static void check_form_1(const char *about, size_t at, unsigned value, uint16_t 
     put_u16(both.wide.bytes, at, value);
     changed = both_of(both.wide);
     buffer_free(&both.narrow);
-    call(aspen_convert_1_2, &changed.narrow, CASE_BOOK, &changed.wide, expected);
-    call(aspen_convert_2_1, &changed.wide, CASE_NARROW, &changed.narrow, expected);
+    converts(aspen_convert_1_2, &changed.narrow, CASE_BOOK, &changed.wide, expected);
+    converts(aspen_convert_2_1, &changed.wide, CASE_NARROW, &changed.narrow, expected);
     both_free(&changed);
 }
 
@@ -250,38 +228,38 @@ static void test_form_1(void)
     check_form_1("converters, an unsound book", case_cell(7, 3), 0, ASPEN_OK);
 }
 
-/* The calls that show a book refuse one of layout 1, and so does an audit in a list. */
+/* The calls that show a book refuse one of an older layout, and so does an audit in a list. */
 static void check_shown(struct box *box)
 {
     static const uint8_t audit[ASPEN_CALL_HEAD] = { ASPEN_CALL_AUDIT };
     const uint8_t *book = box->book.bytes;
     uint8_t *out = box->spare.bytes, answer[3];
-    size_t room = box->spare.length;
+    size_t length = box->book.length, room = box->spare.length;
     uint16_t a, b, c, d;
     uint32_t wide;
 
-    CHECK_EQ(aspen_form(book, CASE_NARROW), ASPEN_BAD_LAYOUT);
-    CHECK_EQ(aspen_count(book, CASE_NARROW, &a, &b, &c, &wide), ASPEN_BAD_LAYOUT);
-    CHECK_EQ(aspen_sizes(book, CASE_NARROW, &a, &b, &c, &d), ASPEN_BAD_LAYOUT);
-    CHECK_EQ(aspen_used(book, CASE_NARROW, &a, &b, &c), ASPEN_BAD_LAYOUT);
-    CHECK_EQ(aspen_volume(book, CASE_NARROW, 0, &a, &b), ASPEN_BAD_LAYOUT);
-    CHECK_EQ(aspen_backups(book, CASE_NARROW, 0, out, room, &a), ASPEN_BAD_LAYOUT);
-    CHECK_EQ(aspen_cells(book, CASE_NARROW, 0, out, room), ASPEN_BAD_LAYOUT);
-    CHECK_EQ(aspen_blocks(book, CASE_NARROW, out, room), ASPEN_BAD_LAYOUT);
-    CHECK_EQ(aspen_play(box->book.bytes, CASE_NARROW, box->pool.bytes, box->pool.length, out, room,
+    CHECK_EQ(aspen_form(book, length), ASPEN_BAD_LAYOUT);
+    CHECK_EQ(aspen_count(book, length, &a, &b, &c, &wide), ASPEN_BAD_LAYOUT);
+    CHECK_EQ(aspen_sizes(book, length, &a, &b, &c, &d), ASPEN_BAD_LAYOUT);
+    CHECK_EQ(aspen_used(book, length, &a, &b, &c), ASPEN_BAD_LAYOUT);
+    CHECK_EQ(aspen_volume(book, length, 0, &a, &b), ASPEN_BAD_LAYOUT);
+    CHECK_EQ(aspen_backups(book, length, 0, out, room, &a), ASPEN_BAD_LAYOUT);
+    CHECK_EQ(aspen_cells(book, length, 0, out, room), ASPEN_BAD_LAYOUT);
+    CHECK_EQ(aspen_blocks(book, length, out, room), ASPEN_BAD_LAYOUT);
+    CHECK_EQ(aspen_play(box->book.bytes, length, box->pool.bytes, box->pool.length, out, room,
                         audit, sizeof audit, answer, sizeof answer, &wide), ASPEN_OK);
     CHECK_EQ(answer[0], ASPEN_ANSWER_NUMBER);
     CHECK_EQ(aspen_u16(answer + 1), ASPEN_BAD_LAYOUT);
 }
 
-/* Every call but the converter refuses a book of layout 1. */
-static void test_calls(void)
+/* Every call but a converter refuses a book of an older layout. */
+static void check_calls(const char *about, struct buffer book)
 {
     struct box box = box_after_d();
-    struct both both = both_of(box.book);
 
-    check_about("calls on a book of layout 1");
-    box.book = both.narrow;
+    check_about(about);
+    buffer_free(&box.book);
+    box.book = book;
     call_enrol(&box, 7, 1, ASPEN_BAD_LAYOUT);
     call_backup(&box, 0, 10, list_of(0, "A", "A"), ASPEN_BAD_LAYOUT);
     call_collect(&box, 19, ASPEN_BAD_LAYOUT);
@@ -289,29 +267,36 @@ static void test_calls(void)
     call_restore(&box, 0, 1, 0, 1, ASPEN_BLOCK_SIZE, "", ASPEN_BAD_LAYOUT);
     call_audit(&box, ASPEN_BAD_LAYOUT);
     check_shown(&box);
-    buffer_free(&box.pool);
-    buffer_free(&box.spare);
-    both_free(&both);
+    box_free(&box);
 }
 
-/* A clinic that met 14: its book goes on in layout 2 and can't go back any more. */
+static void test_calls(void)
+{
+    struct both both = both_after_d();
+
+    check_calls("calls on a book of layout 1", both.narrow);
+    check_calls("calls on a book of layout 2", both.wide);
+}
+
+/* A clinic that met 14: its book goes on in today's layout, by way of layout 2, from which it can go
+ * back as long as no count has passed 255. */
 static void test_going_on(void)
 {
     struct box box = box_after_d();
-    struct both both = both_of(box.book);
+    struct both both = both_after_d();
 
-    check_about("a count of 255 goes on in layout 2");
+    check_about("a count of 255 goes on");
     set_count(&both, 2, 255);
-    CHECK_EQ(aspen_convert_1_2(both.narrow.bytes, CASE_NARROW, box.book.bytes, CASE_BOOK),
+    CHECK_EQ(aspen_convert_1_2(both.narrow.bytes, CASE_NARROW, box.spare.bytes, CASE_BOOK),
              ASPEN_OK);
+    CHECK_BYTES(box.spare.bytes, both.wide.bytes, CASE_BOOK);
+    CHECK_EQ(aspen_convert_2_3(both.wide.bytes, CASE_BOOK, box.book.bytes, CASE_BOOK), ASPEN_OK);
     call_backup(&box, 0, 10, list_of(2, "C", "C"), ASPEN_OK);
     CHECK_EQ(get_u16(box.book.bytes, case_entry(2) + ENTRY_COUNT), 256);
-    refuses(aspen_convert_2_1, &box.book, CASE_NARROW, ASPEN_COUNT_WIDE);
-    call_backup(&box, 0, 11, list_of(2, "B", "B"), ASPEN_OK);
-    CHECK_EQ(aspen_convert_2_1(box.book.bytes, CASE_BOOK, both.narrow.bytes, CASE_NARROW),
-             ASPEN_OK);
-    CHECK_EQ(both.narrow.bytes[case_entry(2) - 2], 255);
-    buffer_free(&both.narrow);
+    set_count(&both, 2, 256);
+    refuses(aspen_convert_2_1, &both.wide, CASE_NARROW, ASPEN_COUNT_WIDE);
+    refuses(aspen_convert_2_1, &box.book, CASE_NARROW, ASPEN_BAD_LAYOUT);
+    both_free(&both);
     box_free(&box);
 }
 

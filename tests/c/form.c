@@ -85,8 +85,9 @@ static void test_header(void)
 
     check_field("layout", AT_LAYOUT, 0, ASPEN_BAD_LAYOUT);
     check_field("layout", AT_LAYOUT, 1, ASPEN_BAD_LAYOUT);
-    check_field("layout", AT_LAYOUT, 3, ASPEN_BAD_LAYOUT);
-    check_field("layout", AT_LAYOUT, 258, ASPEN_BAD_LAYOUT);
+    check_field("layout", AT_LAYOUT, 2, ASPEN_BAD_LAYOUT);
+    check_field("layout", AT_LAYOUT, 4, ASPEN_BAD_LAYOUT);
+    check_field("layout", AT_LAYOUT, 259, ASPEN_BAD_LAYOUT);
     check_field("layout", AT_LAYOUT, ASPEN_LAYOUT, ASPEN_OK);
     check_field("N", AT_N, 5, ASPEN_BAD_LAYOUT);
     check_field("L", AT_L, 5, ASPEN_BAD_LAYOUT);
@@ -117,7 +118,7 @@ static void test_entries(void)
     check_field("count", held + ENTRY_COUNT, 65535, ASPEN_OK);
     check_field("state", held + ENTRY_STATE, 2, ASPEN_BAD_FORM);
     check_field("state", held + ENTRY_STATE, 255, ASPEN_BAD_FORM);
-    check_field("free with its fingerprint", waiting + ENTRY_STATE, 18 * 256, ASPEN_BAD_FORM);
+    check_field("free with its fingerprint", waiting + ENTRY_STATE, 15 * 256, ASPEN_BAD_FORM);
     check_field("free with a count", free + ENTRY_COUNT, 1, ASPEN_BAD_FORM);
     check_field("free with a count", free + ENTRY_COUNT, 256, ASPEN_BAD_FORM);
     check_field("held with a zero fingerprint", free + ENTRY_STATE, 1, ASPEN_OK);

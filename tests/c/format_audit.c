@@ -71,7 +71,7 @@ static void test_fresh_audit(void)
     box_free(&box);
 }
 
-/* Block 0 is free, though volume 0's first backup names it and is kept until day 18. */
+/* Block 0 is free, though volume 0's first backup names it and is kept until day 15. */
 static void test_freed_too_soon(void)
 {
     struct box box = box_after_d();
@@ -81,9 +81,9 @@ static void test_freed_too_soon(void)
     memset(entry + ENTRY_PRINT, 0, ASPEN_PRINT_SIZE);
     entry[ENTRY_STATE] = 0;
     CHECK_EQ(call_audit(&box, ASPEN_OK), 0);
-    put_u16(box.book.bytes, AT_DAY, 18);
+    put_u16(box.book.bytes, AT_DAY, 15);
     CHECK_EQ(call_audit(&box, ASPEN_OK), 0);
-    put_u16(box.book.bytes, AT_DAY, 19);
+    put_u16(box.book.bytes, AT_DAY, 16);
     CHECK_EQ(call_audit(&box, ASPEN_OK), 1);
     box_free(&box);
 }
@@ -105,7 +105,9 @@ void test_audit(void)
     check_audit("audit of another fingerprint", case_entry(0) + ENTRY_PRINT, 'Z', 1);
     check_audit("audit of another count", case_entry(1) + ENTRY_COUNT, 3, 0);
     check_audit("audit of a count 256 higher", case_entry(1) + ENTRY_COUNT + 1, 1, 0);
-    check_audit("audit of another expiry", case_entry(0) + ENTRY_EXPIRY, 12, 0);
+    check_audit("audit of another expiry", case_entry(0) + ENTRY_EXPIRY, 9, 0);
+    check_audit("audit of an expiry of layout 2", case_entry(0) + ENTRY_EXPIRY, 18, 0);
+    check_audit("audit of an expiry that no record has", case_entry(3) + ENTRY_EXPIRY, 1, 0);
     check_audit("audit of another map", case_cell(0, 1), 2, 0);
     check_audit("audit of another before", case_record(4) + RECORD_BEFORE, 2, 0);
     test_freed_too_soon();

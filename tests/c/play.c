@@ -86,6 +86,7 @@ static void check_play(const struct buffer *calls, size_t room, uint16_t expecte
     box_free(&box);
 }
 
+/* With the last day on which e's read gives a block, before e. */
 static struct buffer cases_a_to_j(void)
 {
     struct buffer calls = buffer_new(0);
@@ -96,6 +97,8 @@ static struct buffer cases_a_to_j(void)
     add_backup(&calls, 1, 6, 3, "A", "A");
     add_backup(&calls, 0, 8, 0, "C", "C");
     add_backup(&calls, 1, 9, 3, "B", "B");
+    add(&calls, ASPEN_CALL_COLLECT, 15, 0, 0, NULL);
+    add(&calls, ASPEN_CALL_READ, 0, 1, 0, NULL);
     add(&calls, ASPEN_CALL_COLLECT, 18, 0, 0, NULL);
     add(&calls, ASPEN_CALL_READ, 0, 1, 0, NULL);
     add(&calls, ASPEN_CALL_READ, 1, 1, 3, NULL);
@@ -112,11 +115,11 @@ static void test_cases_as_a_list(void)
 {
     static const uint8_t first[] = { 0, 0, 0, 0, 0, 0, 1, 1, 0, 2, 0, 2, 0, 1, 1, 0, 0, 0, 1, 0,
                                      1, 2, 0, 1, 0, 2, 0, 1, 2, 0, 0, 0, 2, 0, 2, 0, 0, 3 };
-    static const uint8_t last[] = { 0, 16, 0, 2, 1, 0, 0, 16, 0, 1, 3, 0, 2, 0, 2, 0,
-                                    0, 12, 0, 0, 11, 0, 4, 1, 0, OUT_BYTE };
+    static const uint8_t last[] = { 2, 1, 0, 0, 16, 0, 0, 16, 0, 2, 0, 0, 0, 16, 0, 1, 3,
+                                    0, 2, 0, 2, 0, 0, 12, 0, 0, 11, 0, 4, 1, 0, OUT_BYTE };
     struct box box = box_fresh();
     struct buffer calls = cases_a_to_j();
-    struct buffer answers = buffer_filled(aspen_answers_bound(7, 3, 5), OUT_BYTE);
+    struct buffer answers = buffer_filled(aspen_answers_bound(7, 4, 6), OUT_BYTE);
     uint8_t block[ASPEN_BLOCK_SIZE];
 
     check_about("cases a to j as a list");

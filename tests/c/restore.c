@@ -37,10 +37,10 @@ static void test_cases_restored(void)
     restores(&box, 0, 2, 1, "B");
     restores(&box, 1, 1, 3, "A");
     restores(&box, 1, 2, 3, "B");
-    CHECK_EQ(call_collect(&box, 18, ASPEN_OK), 0);
+    CHECK_EQ(call_collect(&box, 15, ASPEN_OK), 0);
     restores(&box, 0, 1, 0, "AB");
     call_restore(&box, 1, 1, 3, 1, ASPEN_BLOCK_SIZE, "", ASPEN_NOT_KEPT);
-    CHECK_EQ(call_collect(&box, 19, ASPEN_OK), 1);
+    CHECK_EQ(call_collect(&box, 16, ASPEN_OK), 1);
     refuses(&box, 1, 0, 2, ASPEN_NOT_KEPT);
     restores(&box, 0, 2, 0, "CB");
     box_free(&box);
@@ -73,7 +73,7 @@ static struct box with_a_hole(void)
 {
     struct box box = box_after_d();
 
-    call_backup(&box, 0, 10, list_of(3, "A", "A"), ASPEN_OK);
+    call_backup(&box, 0, 9, list_of(3, "A", "A"), ASPEN_OK);
     return box;
 }
 

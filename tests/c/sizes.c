@@ -15,14 +15,14 @@ enum {
 
 typedef uint8_t list_of_two_runs[aspen_list_bound(ASPEN_MAX_RUN + 1)];
 
-/* Books in both layouts; no argument is used twice. */
+/* Books in all layouts; no argument is used twice. */
 static void test_books(void)
 {
     uint16_t layout = 1, n = ASPEN_MAX_BLOCKS, l = ASPEN_MAX_LBNS;
     uint16_t s = ASPEN_MAX_SLOTS, j = ASPEN_MAX_RECORDS;
 
     check_about("sizes of books");
-    CHECK_EQ(ASPEN_LAYOUT, 2);
+    CHECK_EQ(ASPEN_LAYOUT, 3);
     CHECK_EQ(SMALLEST_BOOK, 87);
     CHECK_EQ(aspen_book_size(4, 4, 6, 8), 280);
     CHECK_EQ(aspen_book_size(1 + 3, 2 + 2, 3 + 3, 4 + 4), 280);
@@ -30,6 +30,7 @@ static void test_books(void)
     CHECK_EQ(SMALLEST_NARROW, 86);
     CHECK_EQ(aspen_book_size_of(1, 4, 4, 6, 8), 276);
     CHECK_EQ(aspen_book_size_of(2, 4, 4, 6, 8), 280);
+    CHECK_EQ(aspen_book_size_of(3, 4, 4, 6, 8), 280);
     CHECK_EQ(aspen_book_size_of(2 - 1, n, l, s, j), 204836);
     CHECK_EQ(aspen_book_size_of(layout++, n++, l++, s++, j++), 204836);
     CHECK_EQ(layout, 2);

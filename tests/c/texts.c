@@ -69,12 +69,14 @@ static void test_layouts(void)
     book_narrow(narrow, book, sizeof book);
     CHECK_EQ(aspen_layout(book, sizeof book), ASPEN_LAYOUT);
     CHECK_EQ(aspen_layout(narrow, sizeof narrow), 1);
-    CHECK_EQ(aspen_layout(book, 2), 2);
+    CHECK_EQ(aspen_layout(book, 2), 3);
     CHECK_EQ(aspen_layout(book, 1), 0);
     CHECK_EQ(aspen_layout(book, 0), 0);
     CHECK_EQ(aspen_layout(last, sizeof last), 65535);
     CHECK_EQ(aspen_converted_size(1, book, sizeof book), CASE_NARROW);
     CHECK_EQ(aspen_converted_size(2, book, sizeof book), CASE_BOOK);
+    CHECK_EQ(aspen_converted_size(3, book, sizeof book), CASE_BOOK);
+    CHECK_EQ(aspen_converted_size(3, narrow, sizeof narrow), CASE_BOOK);
     CHECK_EQ(aspen_converted_size(2, narrow, sizeof narrow), CASE_BOOK);
     CHECK_EQ(aspen_converted_size(2, narrow, 10), CASE_BOOK);
     CHECK_EQ(aspen_converted_size(2, narrow, 9), 0);

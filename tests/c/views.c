@@ -153,11 +153,11 @@ static void test_after_d(void)
 {
     static const uint16_t sizes[] = { CASE_N, CASE_L, CASE_S, CASE_J }, used[] = { 4, 5, 9 };
     static const uint16_t volumes[][2] = { { 10, 2 }, { 3, 2 } };
-    static const uint16_t of_0[][4] = { { 5, 2, 18, 1 }, { 8, 1, ASPEN_NO_END, 1 } };
-    static const uint16_t of_1[][4] = { { 6, 1, 12, 1 }, { 9, 1, ASPEN_NO_END, 1 } };
+    static const uint16_t of_0[][4] = { { 5, 2, 15, 1 }, { 8, 1, ASPEN_NO_END, 1 } };
+    static const uint16_t of_1[][4] = { { 6, 1, 9, 1 }, { 9, 1, ASPEN_NO_END, 1 } };
     static const uint16_t none = ASPEN_UNMAPPED_PBN;
     const uint16_t map_0[] = { 2, 1, none, none }, map_1[] = { none, none, none, 1 };
-    static const uint16_t blocks[][3] = { { 1, 0, 18 }, { 1, 2, 0 }, { 1, 1, 0 }, { 0, 0, 0 } };
+    static const uint16_t blocks[][3] = { { 1, 0, 15 }, { 1, 2, 0 }, { 1, 1, 0 }, { 0, 0, 0 } };
     struct box box = box_after_d();
 
     check_about("a book shown after case d");
@@ -173,28 +173,34 @@ static void test_after_d(void)
     box_free(&box);
 }
 
-/* On the last day that a backup is kept, on the day after, and with the next backup. */
+/* On the last day that a backup is kept, on the day after, and with the next backup: a backup that
+ * was the newest until then is kept on the last of its own days, and not after it. */
 static void test_kept(void)
 {
-    static const uint16_t on_18[][4] = { { 5, 2, 18, 1 }, { 8, 1, ASPEN_NO_END, 1 } };
-    static const uint16_t on_19[][4] = { { 5, 2, 18, 0 }, { 8, 1, ASPEN_NO_END, 1 } };
-    static const uint16_t on_20[][4] = { { 5, 2, 18, 0 },
-                                         { 8, 1, 30, 1 },
-                                         { 20, 2, ASPEN_NO_END, 1 } };
-    static const uint16_t of_1[][4] = { { 6, 1, 12, 0 }, { 9, 1, ASPEN_NO_END, 1 } };
-    static const uint16_t blocks[][3] = { { 0, 0, 18 }, { 1, 2, 0 }, { 1, 1, 0 }, { 0, 0, 0 } };
-    static const uint16_t used[] = { 5, 7, 20 };
+    static const uint16_t on_15[][4] = { { 5, 2, 15, 1 }, { 8, 1, ASPEN_NO_END, 1 } };
+    static const uint16_t on_16[][4] = { { 5, 2, 15, 0 }, { 8, 1, ASPEN_NO_END, 1 } };
+    static const uint16_t on_18[][4] = { { 5, 2, 15, 0 },
+                                         { 8, 1, 18, 1 },
+                                         { 18, 2, ASPEN_NO_END, 1 } };
+    static const uint16_t of_1[][4] = { { 6, 1, 9, 0 }, { 9, 1, ASPEN_NO_END, 1 } };
+    static const uint16_t late[][4] = { { 6, 1, 9, 0 },
+                                        { 9, 1, 12, 0 },
+                                        { 19, 0, ASPEN_NO_END, 1 } };
+    static const uint16_t blocks[][3] = { { 0, 0, 15 }, { 1, 2, 0 }, { 1, 1, 0 }, { 0, 0, 0 } };
+    static const uint16_t used[] = { 6, 7, 19 };
     struct box box = box_after_d();
 
     check_about("backups shown as kept and as not kept");
-    call_collect(&box, 18, ASPEN_OK);
-    check_backups(&box, 0, on_18, 2);
+    call_collect(&box, 15, ASPEN_OK);
+    check_backups(&box, 0, on_15, 2);
     check_backups(&box, 1, of_1, 2);
-    call_collect(&box, 19, ASPEN_OK);
-    check_backups(&box, 0, on_19, 2);
+    call_collect(&box, 16, ASPEN_OK);
+    check_backups(&box, 0, on_16, 2);
     check_blocks(&box, blocks, "\0BC");
-    call_backup(&box, 0, 20, list_of(2, "DE", "DE"), ASPEN_OK);
-    check_backups(&box, 0, on_20, 3);
+    call_backup(&box, 0, 18, list_of(2, "DE", "DE"), ASPEN_OK);
+    check_backups(&box, 0, on_18, 3);
+    call_backup(&box, 1, 19, buffer_filled(2, 0), ASPEN_OK);
+    check_backups(&box, 1, late, 3);
     check_answers(USED, &box, 0, used);
     box_free(&box);
 }

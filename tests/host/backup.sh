@@ -1,5 +1,5 @@
 # shellcheck shell=bash disable=SC2034,SC2154
-# Backups, collections and what is sent, by the cases of document 01.
+# Backups, collections and what is sent, by the cases of documents 01 and 02.
 small_store cases
 blocks AB >aid0
 expect 0 "backup 1 of volume 0 on 2026-01-06: 2 of 2 blocks sent, 2 new in the pool" backup cases 0 aid0 --day-number 5
@@ -13,8 +13,12 @@ expect 0 "backup 2 of volume 1 on 2026-01-10: 1 of 4 blocks sent, 0 new in the p
 expect 0 "sound" audit cases
 expect 0 "blocks 4" tally cases
 check "page of tally" same "$(cat "$work/out")" $'blocks 4\nheld 4\nfree 0\nwaiting 1\nreferences 6'
-expect 0 "collected as of 2026-01-19; blocks freed: 0" collect cases --day-number 18
-expect 0 "collected as of 2026-01-20; blocks freed: 1" collect cases --day 2026-01-20
+expect 0 "collected as of 2026-01-16; blocks freed: 0" collect cases --day-number 15
+expect 0 "AAAA" read cases 0 1 0
+expect 0 "collected as of 2026-01-19; blocks freed: 1" collect cases --day-number 18
+expect 3 "refused 16: backup 1 of volume 0 was kept until 2026-01-16" read cases 0 1 0
+expect 3 "refused 16: backup 1 of volume 1 was kept until 2026-01-10" read cases 1 1 3
+expect 0 "collected as of 2026-01-20; blocks freed: 0" collect cases --day 2026-01-20
 expect 0 "0 damaged" scrub cases
 check "no temporary file is left" same "$(ls cases)" $'book\nlock\npool'
 check "nothing lies beside the images" same "$(find . -maxdepth 1 -name 'aid*' | sort)" $'./aid0\n./aid1'
@@ -66,3 +70,18 @@ input=pipe
 expect 0 "0 of 3 blocks sent, 0 new" backup piped 0 - --day-number 2
 wait
 input=/dev/null
+
+# After a pause longer than the days of its volume the backup before is past them as soon as it isn't the newest any more.
+small_store pause
+blocks AB >aid
+expect 0 "backup 1" backup pause 0 aid --day-number 5
+expect 0 "backup 2" backup pause 0 aid --day-number 15
+check "on the last of its days it is kept" test ! -s "$work/err"
+expect 0 "restored" restore pause 0 1 out --force
+expect 0 "collected" collect pause --day-number 39
+expect 0 "restored" restore pause 0 2 out --force
+expect 0 "note: backup 2, of 2026-01-16, isn't the newest any more and can't be read: it was kept until 2026-01-26" \
+    backup pause 0 aid --day-number 40
+expect 3 "refused 16: backup 2 of volume 0 was kept until 2026-01-26" restore pause 0 2 out --force
+expect_json 0 'o["number"] == 4 and o["notes"] == ["backup 3, of 2026-02-10, isn'"'"'t the newest any more and can'"'"'t be read: it was kept until 2026-02-20"]' \
+    backup pause 0 aid --day-number 51

@@ -37,10 +37,10 @@ waiting 0
 expect 0 "1024 of 1024 blocks sent, 0 new" backup blank 7 full --day-number 3
 waiting 1
 all_whole 1 page
-expect 0 "blocks freed: 0" collect blank --day-number 13
+expect 0 "blocks freed: 0" collect blank --day-number 11
 expect 0 "restored" restore blank 7 1 out --force
 check "on the last day that it is kept" cmp out page
-expect 0 "blocks freed: 1" collect blank --day-number 14
+expect 0 "blocks freed: 1" collect blank --day-number 12
 waiting 0
 expect 3 "refused 16" restore blank 7 1 out --force
 all_whole 2 full

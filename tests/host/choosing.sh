@@ -41,8 +41,8 @@ expect_json 0 'o["volumes"][0]["latest_takes"] == 3 and o["volumes"][0]["date_ta
 expect_json 0 'o["volumes"][0]["latest_takes"] == 3 and "date_takes" not in o["volumes"][0]' list box 0
 expect_json 0 '(o["number"], o["bytes"], o["blocks"], o["mapped"]) == (2, 1536, 3, 3)' restore box 0 out --force --date 2026-01-09
 # A backup that is no longer kept is named, and none is taken in its place.
-expect 0 "collected" collect box --day 2026-01-19
-expect 3 "refused 16: backup 1 of volume 0 was kept until 2026-01-18" restore box 0 none --date 2026-01-06
+expect 0 "collected" collect box --day 2026-01-16
+expect 3 "refused 16: backup 1 of volume 0 was kept until 2026-01-15" restore box 0 none --date 2026-01-06
 expect 0 "restored backup 3" restore box 0 out --force --latest
 
 # Some of the blocks.

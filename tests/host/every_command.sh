@@ -53,15 +53,18 @@ expect 0 "restored" restore box 0 2 out --force
 expect 0 "enrolled" enrol box 2 --keep 3
 truncate -s -1 box/book
 expect 5 '"refused":1,' audit box --json
-# One of layout 1, damaged and whole.
-rm -r box
-cp -r "$here/layout1/box" box
-poke box/book 36 05
-expect 5 "don't fit their digest" upgrade box
-rm -r box
-cp -r "$here/layout1/box" box
-expect 5 "has layout 1" list box
-expect 0 "upgraded" upgrade box
-cp "$here/layout1/box/book" box/book.1
-expect 0 '"notes":' upgrade box --json
-expect 0 "restored" restore box 0 3 out --force
+# Those of older layouts, damaged and whole.
+for layout in 1 2; do
+    rm -r box
+    cp -r "$here/layout$layout/box" box
+    poke box/book 36 05
+    expect 5 "don't fit their digest" upgrade box
+    rm -r box
+    cp -r "$here/layout$layout/box" box
+    expect 5 "has layout $layout" list box
+    expect 2 "that can be read now; nothing was written" upgrade box
+    expect 0 "upgraded" upgrade box --force
+    cp "$here/layout$layout/box/book" box/book.$layout
+    expect 0 '"notes":' upgrade box --json
+    expect 0 "restored" restore box 0 --latest out --force
+done

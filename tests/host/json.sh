@@ -10,7 +10,7 @@ expect_json 0 'o == {"volume": 0, "number": 1, "day": 5, "date": "2026-01-06", "
 (blocks A && printf 'a short block') >aid
 expect_json 0 'o == {"volume": 0, "number": 2, "day": 6, "date": "2026-01-07", "bytes": 525, "blocks": 2, "sent": 1, "taken": 1, "touched": 2, "healed": 0}' \
     backup box 0 aid --day 2026-01-07
-expect_json 0 'o == {"day": 6, "date": "2026-01-07", "volumes": [{"volume": 0, "keep": 10, "backups": [{"number": 1, "day": 5, "date": "2026-01-06", "kept": True, "kept_until": "2026-01-17", "changed": 2}, {"number": 2, "day": 6, "date": "2026-01-07", "kept": True, "kept_until": None, "changed": 1}], "latest_takes": 2}]}' \
+expect_json 0 'o == {"day": 6, "date": "2026-01-07", "volumes": [{"volume": 0, "keep": 10, "backups": [{"number": 1, "day": 5, "date": "2026-01-06", "kept": True, "kept_until": "2026-01-16", "changed": 2}, {"number": 2, "day": 6, "date": "2026-01-07", "kept": True, "kept_until": None, "changed": 1}], "latest_takes": 2}]}' \
     list box
 expect_json 0 'bytes.fromhex(o["bytes"]) == b"B" * 512 and (o["volume"], o["number"], o["lbn"], o["block"], o["damaged"]) == (0, 1, 1, 1, False)' \
     read box 0 1 1

@@ -10,18 +10,18 @@ back_up() {
 back_up 1 1 AB
 back_up 1 3 AC
 back_up 1 4 AD
-back_up 0 7 AD
+back_up 0 6 AD
 expect 0 "" list box
 cat >wanted <<'END'
-the box's day is 2026-01-08
+the box's day is 2026-01-07
 volume 0 keeps its backups 10 days
   number  day         kept until  changed
-       1  2026-01-08  newest            2
+       1  2026-01-07  newest            2
   restore --latest takes backup 1
 volume 1 keeps its backups 3 days
   number  day         kept until  changed
-       1  2026-01-02  2026-01-07        2  no longer kept
-       2  2026-01-04  2026-01-08        1
+       1  2026-01-02  2026-01-05        2  no longer kept
+       2  2026-01-04  2026-01-07        1
        3  2026-01-05  newest            1
   restore --latest takes backup 3
 END

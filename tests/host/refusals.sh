@@ -94,6 +94,6 @@ expect 3 "refused 15: volume 1 has no backup yet" restore box 1 1 out
 expect 3 "refused 17: there is no LBN 4; LBNs are 0 to 3" read box 0 1 4
 expect 3 "refused 18: backup 1 of volume 0 has no block at LBN 2" read box 0 1 2
 expect 0 "collected" collect box --day-number 17
-expect 3 "refused 16: backup 1 of volume 0 was kept until 2026-01-17; aspenbox list box 0 shows what still is" read box 0 1 0
+expect 3 "refused 16: backup 1 of volume 0 was kept until 2026-01-16; aspenbox list box 0 shows what still is" read box 0 1 0
 expect 3 "refused 16" restore box 0 1 out
 check "a refused restore leaves no file" test ! -e out

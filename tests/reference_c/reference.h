@@ -24,6 +24,7 @@ extern __typeof__(aspen_play) reference_play;
 extern __typeof__(aspen_write_list) reference_write_list;
 extern __typeof__(aspen_convert_1_2) reference_convert_1_2;
 extern __typeof__(aspen_convert_2_1) reference_convert_2_1;
+extern __typeof__(aspen_convert_2_3) reference_convert_2_3;
 
 /* A box as a seeded run of calls leaves it, with what the run would send next; the pointers are
  * good until the next one is made. */

@@ -21,10 +21,10 @@ use Rattle.book.specs.Book.{volumes}
 use Rattle.book.specs.Layout.{bookOf}
 use Rattle.book.specs.FormFacts.{FormFacts}
 use Rattle.model.specs.Audit.{countSound}
-use Rattle.replay.specs.Matching.{matching}
-use Rattle.replay.proofs.MatchingLaws.{matching-same}
+use Rattle.due.specs.Pool.{poolBlocks, numberAt}
+use Rattle.accounts.specs.Matching.{matching}
+use Rattle.accounts.proofs.MatchingLaws.{matching-same}
 use Rattle.accounts.specs.Counts.{Counted, countOfBlock}
-use Rattle.replay.specs.Table.{poolBlocks, numberAt}
 
 pub counted-none : (a : List ℕ) → Counted a [] a
 counted-none a = record { long = refl; at = λ p h. omega arith }

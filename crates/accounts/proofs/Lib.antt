@@ -1,3 +1,4 @@
+pub mod MatchingLaws
 pub mod TableMapLaws
 pub mod CountLaws
 pub mod MapsTakenLaws

@@ -14,7 +14,8 @@ use Rattle.book.specs.Layout.{bookOf}
 use Rattle.book.specs.FormFacts.{FormFacts}
 use Rattle.accounts.specs.Counts.{Counted}
 use Rattle.accounts.proofs.CountLaws.{counted-none, counted-row, counted-le, counted-rows}
-use Rattle.replay.specs.Table.{rowSize, poolBlocks}
+use Rattle.due.specs.Pool.{poolBlocks}
+use Rattle.replay.specs.Table.{rowSize}
 use Rattle.accounts.specs.TableMaps.{rowMatches, tableMatches}
 use Rattle.accounts.specs.MapsTaken.{RowTaken, MapsTaken, AtMost}
 

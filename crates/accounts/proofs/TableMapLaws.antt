@@ -22,7 +22,7 @@ use Rattle.book.specs.Form.{pbnOk, recOk}
 use Rattle.model.specs.Journal.{Backup, journal}
 use Rattle.model.specs.Audit.{applied, replayed, beforesIn, befores, noMaps, sameMap, mapsSound}
 use Rattle.replay.proofs.JournalRead.{backupIn}
-use Rattle.replay.proofs.MatchingLaws.{matching-same}
+use Rattle.accounts.proofs.MatchingLaws.{matching-same}
 use Rattle.replay.specs.Table.{rowSize, cellsAfter, cellsBefore, tableAfter, tableBefores}
 use Rattle.accounts.specs.TableMaps.{rowCell, rowMatches, tableMatches}
 

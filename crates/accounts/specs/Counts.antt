@@ -6,7 +6,7 @@ use lib.Dec.{eqb}
 use lib.ListN.{length, getD}
 use Rattle.words.specs.Lists.{countOf}
 use Rattle.book.specs.Book.{Entry, entryAt}
-use Rattle.replay.specs.Table.{poolBlocks}
+use Rattle.due.specs.Pool.{poolBlocks}
 
 -- a′ is a with the block numbers cs counted
 pub record Counted (a cs a′ : List ℕ) : Type 0 where

@@ -3,11 +3,13 @@ use Prim.Native.Nat.{ℕ}
 use mathlib.Core.Bool.{Bool, _&&_}
 use mathlib.Core.List.{List}
 use lib.Dec.{eqb}
-use Rattle.book.specs.Book.{Entry}
+use Rattle.book.specs.Book.{Entry, entryAt}
+use Rattle.due.specs.Pool.{numberAt}
 use Rattle.accounts.specs.Counts.{countOfBlock}
-use Rattle.replay.specs.Table.{numberAt}
-use Rattle.replay.specs.Expiries.{expiryOfBlock}
-use Rattle.replay.specs.Matching.{matching}
+use Rattle.accounts.specs.Matching.{matching}
+
+abbrev pub expiryOfBlock : List Entry → ℕ → ℕ
+expiryOfBlock es p = entryAt es p .expiry
 
 module _ (es : List Entry) (counts expiries : List ℕ) where
   unfoldable pub entryMatches : ℕ → Bool

@@ -1,3 +1,4 @@
+pub mod Matching
 pub mod TableMaps
 pub mod Counts
 pub mod MapsTaken

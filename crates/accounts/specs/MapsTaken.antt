@@ -7,7 +7,7 @@ use lib.ListN.{getD, replicate}
 use Rattle.words.specs.Lists.{joined}
 use Rattle.book.specs.Book.{Book}
 use Rattle.accounts.specs.Counts.{Counted}
-use Rattle.replay.specs.Table.{poolBlocks}
+use Rattle.due.specs.Pool.{poolBlocks}
 use Rattle.accounts.specs.TableMaps.{rowMatches, tableMatches}
 
 -- volume v: its test, and the counters a with its cells counted

@@ -5,7 +5,7 @@ use mathlib.Core.List.{List}
 use lib.ListN.{getD}
 use Rattle.words.specs.Lists.{each}
 use Rattle.book.specs.Book.{volumes, cellAt}
-use Rattle.replay.specs.Matching.{matching}
+use Rattle.accounts.specs.Matching.{matching}
 use Rattle.replay.specs.Table.{rowSize}
 
 -- ---- the maps are what the table holds

@@ -16,7 +16,8 @@ use Rattle.accounts.specs.Entries.{entriesMatch}
 use Rattle.accounts.proofs.EntryLaws.{entries-sound}
 use Rattle.accounts.specs.MapsTaken.{MapsTaken}
 use Rattle.replay.specs.Slots.{JournalTaken}
-use Rattle.replay.specs.Table.{tableAfter, tableBefores, poolBlocks}
+use Rattle.due.specs.Pool.{poolBlocks}
+use Rattle.replay.specs.Table.{tableAfter, tableBefores}
 use Rattle.accounts.specs.TableMaps.{tableMatches}
 
 module _ {b : List ℕ} (f : FormFacts b) {j : Bool} {c e : List ℕ} (t : JournalTaken (bookOf b) j noCells (replicate poolBlocks 0) c e) where

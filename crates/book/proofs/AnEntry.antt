@@ -24,8 +24,8 @@ pub record Bytes : Type 0 where
   pub wide : entryBytes 2 (named 515) ≡ (3 ∷ 2 ∷ 1 ∷ 2 ∷ 1 ∷ []) ++ print
   pub narrowBack : entryIn 1 ((3 ∷ 1 ∷ 2 ∷ 1 ∷ []) ++ print) 0 ≡ named 3
   pub wideBack : entryIn 2 ((3 ∷ 2 ∷ 1 ∷ 2 ∷ 1 ∷ []) ++ print) 0 ≡ named 515
-  -- asked for layout 2
-  pub layouts : map (λ g. sizesAs 2 (sizes g)) (0 ∷ 1 ∷ 2 ∷ 3 ∷ []) ≡ false ∷ false ∷ true ∷ false ∷ []
+  -- asked for layout 3
+  pub layouts : map (λ g. sizesAs 3 (sizes g)) (1 ∷ 2 ∷ 3 ∷ 4 ∷ []) ≡ false ∷ false ∷ true ∷ false ∷ []
 
 pub an-entry : Bytes
 unfolding entrySize sizesAs between

@@ -16,7 +16,7 @@ use Rattle.book.specs.Book.{volumes, Sizes, Entry, Slot, Rec, Book, free
 
 -- the layout that format makes and that the calls take
 abbrev pub current : ℕ
-current = 2
+current = 3
 
 -- sizes of the elements, in bytes
 abbrev pub headerSize : ℕ

@@ -1,5 +1,5 @@
 -- Laws of specs/Row.antt.
--- The row of the backup in a slot, by the slot that holds the one that replaced it.
+-- The row of the backup in a slot, by the slot that holds the one that came after it.
 use Prim.Native.Nat.{ℕ, _+_, _≤_, _<_}
 use mathlib.Core.Path.{_≡_, refl, sym, ap, _∙_}
 use mathlib.Core.Bool.{true}
@@ -21,23 +21,23 @@ use Rattle.book.proofs.Conditions.{pairs-in}
 use Rattle.book.specs.Form.{pairsOk}
 use Rattle.journal.specs.Struct.{SlotIs}
 use Rattle.journal.specs.declared.slot.Slot.{Slot}
-use Rattle.model.specs.Days.{keptBefore}
+use Rattle.model.specs.Days.{keptBy}
 use Rattle.model.specs.Journal.{Backup}
 use Rattle.model.specs.JournalAt.{backupAt, backupsFrom}
 use Rattle.model.proofs.kept.JournalAtLaws.{day-at, records-at, from-own, from-end}
 use Rattle.model.specs.Views.{keptUntil, backupRow}
 use Rattle.keeping.specs.After.{keptFrom}
-use Rattle.keeping.proofs.AfterLaws.{kept-newest, kept-replaced}
+use Rattle.keeping.proofs.AfterLaws.{kept-from}
 use Rattle.calendar.specs.Own.{NextIs}
 use Rattle.calendar.specs.Row.{rowSize, untilFrom, rowFrom}
 
-pub until-newest : (x : Book) (at r : ℕ) → length (x .slots) ≤ at → untilFrom x at r ≡ 65535
+pub until-newest : (x : Book) (t at r : ℕ) → length (x .slots) ≤ at → untilFrom x t at r ≡ 65535
 unfolding untilFrom
-until-newest x at r h = rw (le-ltb at (length (x .slots)) h)
+until-newest x t at r h = rw (le-ltb at (length (x .slots)) h)
 
-pub until-replaced : (x : Book) (at r : ℕ) → at < length (x .slots) → untilFrom x at r ≡ slotAt (x .slots) at .day + r
+pub until-older : (x : Book) (t at r : ℕ) → at < length (x .slots) → untilFrom x t at r ≡ t + r
 unfolding untilFrom
-until-replaced x at r h = rw (lt-ltb at (length (x .slots)) h)
+until-older x t at r h = rw (lt-ltb at (length (x .slots)) h)
 
 -- ---- as it is stored
 
@@ -57,7 +57,7 @@ module _ {out out₁ out₂ : List ℕ} {at : ℕ} where
   }
 
   pub row-stored : (x : Book) (q next r : ℕ) {t : Slot} {u k : ℕ}
-      → SlotIs (slotAt (x .slots) q) t → u ≡ untilFrom x next r → k ≡ bit (keptFrom x next r)
+      → SlotIs (slotAt (x .slots) q) t → u ≡ untilFrom x (t .day) next r → k ≡ bit (keptFrom x (t .day) next r)
       → out₁ ≡ sets out at (flat two (t .day ∷ t .number ∷ u ∷ [])) → out₂ ≡ put out₁ (at + 6) k
       → Stored out at (rowFrom x q next r) out₂ (at + rowSize)
   row-stored x q next r {t} {u} {k} s i j e f =
@@ -68,27 +68,17 @@ module _ {out out₁ out₂ : List ℕ} {at : ℕ} where
 abbrev daysOf : List Backup → List ℕ
 daysOf bs = map (λ (b : Backup). b .day) bs
 
-module _ (x : Book) (v q next : ℕ) (n : NextIs x v q next) where
-  -- the first of the later backups' days is that of slot `next`
-  by-next : {A : Type 0} (f : List ℕ → A) (a : A)
-      → (next < length (x .slots) → (ts : List ℕ) → f (slotAt (x .slots) next .day ∷ ts) ≡ a)
-      → (length (x .slots) ≤ next → f [] ≡ a)
-      → f (daysOf (backupsFrom x v q)) ≡ a
-  by-next f a one none = rw (n .later) (go (below-or-not next (length (x .slots))))
+module _ (x : Book) (v q next : ℕ) (n : NextIs x v q next) (t r : ℕ) where
+  until-is : keptUntil t (daysOf (backupsFrom x v q)) r ≡ untilFrom x t next r
+  until-is = rw (n .later) (go (below-or-not next (length (x .slots))))
     where
-      go : (next < length (x .slots)) ⊎ (length (x .slots) ≤ next) → f (daysOf (backupsFrom x v next)) ≡ a
-      go (inl l) = rw (from-own x v next l (n .own l), day-at x next) (one l (daysOf (backupsFrom x v (next + 1))))
-      go (inr g) = rw (from-end x v next g) (none g)
+      go : (next < length (x .slots)) ⊎ (length (x .slots) ≤ next)
+          → keptUntil t (daysOf (backupsFrom x v next)) r ≡ untilFrom x t next r
+      go (inl l) = rw (from-own x v next l (n .own l)) (sym (until-older x t next r l))
+      go (inr g) = rw (from-end x v next g) (sym (until-newest x t next r g))
 
-  until-is : (r : ℕ) → keptUntil (daysOf (backupsFrom x v q)) r ≡ untilFrom x next r
-  until-is r =
-      by-next (λ ts. keptUntil ts r) (untilFrom x next r)
-      (λ l ts. sym (until-replaced x next r l)) (λ g. sym (until-newest x next r g))
-
-  kept-is : (r : ℕ) → keptBefore (daysOf (backupsFrom x v q)) r (x .day) ≡ keptFrom x next r
-  kept-is r =
-      by-next (λ ts. keptBefore ts r (x .day)) (keptFrom x next r)
-      (λ l ts. sym (kept-replaced x next r l)) (λ g. sym (kept-newest x next r g))
+  kept-is : keptBy t (daysOf (backupsFrom x v q)) r (x .day) ≡ keptFrom x t next r
+  kept-is = rw (n .later) (kept-from x v t next r (n .own))
 
 module _ (x : Book) (q : ℕ) (p : pairsOk 0 (x .slots) (length (x .records)) ≡ true) (h : q < length (x .slots)) where
   number-is : length (backupAt x q .records) ≡ slotAt (x .slots) q .number
@@ -99,4 +89,6 @@ module _ (x : Book) (q : ℕ) (p : pairsOk 0 (x .slots) (length (x .records)) �
 
   pub row-is : (v r next : ℕ) → NextIs x v (q + 1) next
       → backupRow (backupAt x q) (map (λ (b : Backup). b .day) (backupsFrom x v (q + 1))) r (x .day) ≡ rowFrom x q next r
-  row-is v r next n = rw (day-at x q, number-is, until-is x v (q + 1) next n r, kept-is x v (q + 1) next n r)
+  row-is v r next n =
+      let t = slotAt (x .slots) q .day in
+      rw (day-at x q, number-is, until-is x v (q + 1) next n t r, kept-is x v (q + 1) next n t r)

@@ -1,4 +1,4 @@
--- The row of the backup in a slot, by the slot that holds the one that replaced it.
+-- The row of the backup in a slot, by the slot that holds the one that came after it.
 use Prim.Native.Nat.{ℕ, _+_}
 use mathlib.Core.List.{List, [], _∷_}
 use lib.Dec.{ltb}
@@ -13,11 +13,12 @@ use Rattle.keeping.specs.After.{keptFrom}
 abbrev pub rowSize : ℕ
 rowSize = 8
 
--- the last day on which a backup is kept, where slot `at` holds the one that replaced it
-unfoldable pub untilFrom : Book → ℕ → ℕ → ℕ
-untilFrom x at r = if ltb at (length (x .slots)) then slotAt (x .slots) at .day + r else 65535
+-- the last day on which a backup is kept that was taken on day t, where slot `at` holds the one that came after it
+unfoldable pub untilFrom : Book → ℕ → ℕ → ℕ → ℕ
+untilFrom x t at r = if ltb at (length (x .slots)) then t + r else 65535
 
--- the row of the backup in slot q, where slot `next` holds the one that replaced it
+-- the row of the backup in slot q, where slot `next` holds the one that came after it
 abbrev pub rowFrom : Book → ℕ → ℕ → ℕ → List ℕ
 rowFrom x q next r =
-    flat two (slotAt (x .slots) q .day ∷ slotAt (x .slots) q .number ∷ untilFrom x next r ∷ bit (keptFrom x next r) ∷ [])
+    let t = slotAt (x .slots) q .day in
+    flat two (t ∷ slotAt (x .slots) q .number ∷ untilFrom x t next r ∷ bit (keptFrom x t next r) ∷ [])

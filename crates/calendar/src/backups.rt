@@ -22,7 +22,7 @@ use words::refusals;
 
 const ROW_SIZE: usize = 8;
 
-// The last day of a backup that nothing has replaced.
+// The last day of the newest backup.
 const ALWAYS: u16 = 65535;
 
 // The first slot from q on that is the volume's; where there is none, the answer is past the used slots.
@@ -42,21 +42,21 @@ fn next_own(book: &[u8], v: u16, q: u16) -> u16
     r
 }
 
-// The last day on which a backup is kept: slot `at` holds the one that replaced it, if any.
-fn kept_until(book: &[u8], at: u16, days: u16) -> u16
+// The last day on which a backup that was taken on day `taken` is kept: slot `at` holds the one that came after it, if
+// any.
+fn kept_until(book: &[u8], taken: u16, at: u16, days: u16) -> u16
     requires { ⌜ FormFacts (now book) ⌝ }
-    requires { ⌜ days ≤ 5000 ⌝ }
-    ensures { λ r. ⌜ r ≡ untilFrom (told (book .entry)) at days ⌝ }
+    requires { ⌜ (taken ≤ 60000) × (days ≤ 5000) ⌝ }
+    ensures { λ r. ⌜ r ≡ untilFrom (told (book .entry)) taken at days ⌝ }
 {
     if header::used_slots(book) <= at {
         return ALWAYS;
     }
-    let slot = slot::slot_at(book, at);
-    slot.day + days
+    taken + days
 }
 
-// The row of the backup in slot q, where slot `next` holds the one that replaced it, if any. It answers the offset past
-// the row.
+// The row of the backup in slot q, where slot `next` holds the one that came after it, if any. It answers the offset
+// past the row.
 fn put_row(book: &[u8], q: u16, next: u16, days: u16, out: &mut [u8], at: usize) -> usize
     requires { ⌜ FormFacts (now book) ⌝ }
     requires { ⌜ (q < length (told book .slots)) × (days ≤ 5000) ⌝ }
@@ -64,8 +64,8 @@ fn put_row(book: &[u8], q: u16, next: u16, days: u16, out: &mut [u8], at: usize)
     ensures { λ r. ⌜ Stored (now (out .entry)) at (rowFrom (told (book .entry)) q next days) (now (out .exit)) r ⌝ }
 {
     let slot = slot::slot_at(book, q);
-    let until = kept_until(book, next, days);
-    let kept = is_kept(book, next, days) as u16;
+    let until = kept_until(book, slot.day, next, days);
+    let kept = is_kept(book, slot.day, next, days) as u16;
     put_three(out, at, slot.day, slot.number, until);
     put_u16(out, at + 6, kept);
     at + ROW_SIZE

@@ -1,5 +1,5 @@
 -- No call is refused by 0.
-use Prim.Native.Nat.{ℕ, zero, suc, _+_}
+use Prim.Native.Nat.{ℕ, zero, suc}
 use mathlib.Core.Path.{_≡_, refl}
 use mathlib.Core.Bool.{Bool, true, false}
 use mathlib.Core.List.{List, [], _∷_}
@@ -10,12 +10,11 @@ use Rattle.words.specs.Choice.{if_then_else_}
 use Rattle.words.specs.Lists.{same}
 use Rattle.words.specs.Outcome.{Outcome, refused, accepted, andThen, unless}
 use Rattle.runs.specs.Changes.{Change, changes}
-use Rattle.book.specs.Book.{retentionOf}
 use Rattle.book.specs.Form.{formNumber}
 use Rattle.book.specs.Layout.{bookOf}
 use Rattle.model.specs.Backup
 use Rattle.model.specs.Backup.{Work, Placed, findHeld, findFree, placeFree, placeHeld, place, moveTo, moveNumber, changeStep, runChanges}
-use Rattle.model.specs.Backup.{begun, backupNumber}
+use Rattle.model.specs.Backup.{untilNext, begun, backupNumber}
 use Rattle.model.specs.Collect
 use Rattle.model.specs.Collect.{collectNumber}
 use Rattle.model.specs.Pool.{blockAt}
@@ -96,7 +95,7 @@ backup-proper b pool spare v t list =
     (proper-unless (spareNumber b spare) _
     (proper-then (Backup.backup (bookOf b) pool v t list) _
     (proper-unless (backupNumber (bookOf b) v t list) _
-    (proper-then (runChanges v (t + retentionOf (bookOf b) v) (changes list) (begun (bookOf b) pool)) _
+    (proper-then (runChanges v (untilNext (bookOf b) v) (changes list) (begun (bookOf b) pool)) _
     (changes-proper v _ (changes list) _) (λ w. proper-accepted _)))
     (λ d. proper-accepted _))))
 

@@ -3,7 +3,7 @@ use Prim.Native.Nat.{ℕ}
 use mathlib.Core.Path.{_≡_, refl}
 use mathlib.Core.Bool.{true, false}
 use mathlib.Core.List.{List, [], _∷_, map}
-use lib.ListN.{set}
+use lib.ListN.{set, replicate}
 use Rattle.words.specs.Outcome.{accepted}
 use Rattle.book.specs.Book.{Rec, Book}
 use Rattle.book.specs.Layout.{bytes, bookOf}
@@ -32,17 +32,21 @@ withRecordAt i r x = record {
 unfoldable pub otherMap : Book
 otherMap = withCell 0 0 1 (withCell 0 1 2 good)
 
--- record 0 says that it replaced block 3, which then expires with the first backup: "each before being the cell that it replaces"
+-- record 0, of volume 0's first backup, says that it replaced block 3, which then expires on day 0 + 10: "each before being the cell that it replaces"
 unfoldable pub otherBefore : Book
-otherBefore = withEntry (expiryAs 15) 3 (withRecordAt 0 (record { lbn = 0; before = 3; after = 0 }) good)
+otherBefore = withEntry (expiryAs 10) 3 (withRecordAt 0 (record { lbn = 0; before = 3; after = 0 }) good)
 
 -- "each count is the number of map cells naming the block"
 unfoldable pub otherCount : Book
 otherCount = withEntry (countAs 3) 1 good
 
--- "each expiry is the largest slot day plus retention over records with that before, 0 if none"
+-- "each expiry is the largest .. over records with that before, 0 if none", of the days before the slots': block 0 has 15, not the 18 of the slot's own
+-- day, nor the 9 of the last record
 unfoldable pub otherExpiry : Book
-otherExpiry = withEntry (expiryAs 12) 0 good
+otherExpiry = withEntry (expiryAs 18) 0 good
+
+unfoldable pub lastExpiry : Book
+lastExpiry = withEntry (expiryAs 9) 0 good
 
 unfoldable pub someExpiry : Book
 someExpiry = withEntry (expiryAs 1) 3 good
@@ -56,13 +60,12 @@ unfoldable pub freeNamed : Book
 freeNamed = withEntry madeFree 0 good
 
 unfoldable pub broken : List Book
-broken = otherMap ∷ otherBefore ∷ otherCount ∷ otherExpiry ∷ someExpiry ∷ samePrint ∷ freeNamed ∷ []
+broken = otherMap ∷ otherBefore ∷ otherCount ∷ otherExpiry ∷ lastExpiry ∷ someExpiry ∷ samePrint ∷ freeNamed ∷ []
 
 pub record Audits : Type 0 where
   pub yes : auditBytes (bytes good) ≡ accepted true
-  pub no : map (λ x. auditBytes (bytes x)) broken
-      ≡ accepted false ∷ accepted false ∷ accepted false ∷ accepted false ∷ accepted false ∷ accepted false ∷ accepted false ∷ []
+  pub no : map (λ x. auditBytes (bytes x)) broken ≡ replicate 8 (accepted false)
 
 pub audits : Audits
-unfolding model afterD good withRecordAt otherMap otherBefore otherCount otherExpiry someExpiry samePrint freeNamed broken
+unfolding model afterD good withRecordAt otherMap otherBefore otherCount otherExpiry lastExpiry someExpiry samePrint freeNamed broken
 audits = record { yes = refl; no = refl }

@@ -1,4 +1,4 @@
--- Cases a to j of document 01, run on our book and pool and on the plain store: one table.
+-- Cases a to j of document 01, as document 02 has them since K4, run on our book and pool and on the plain store: one table.
 use Prim.Native.Nat.{ℕ}
 use mathlib.Core.Path.{_≡_, refl}
 use mathlib.Core.Bool.{Bool, true, false}
@@ -11,7 +11,7 @@ use Rattle.book.specs.Next.{newSizes}
 use Rattle.book.specs.Layout.{bookOf}
 use Rattle.book.proofs.AfterD.{afterD}
 use Rattle.model.specs.Plain.{Block, free, held, Plain, start, currentMaps}
-use Rattle.model.specs.Calls.{Call, enrol, backup, collect, read, audit, Answer, number, backed, freed, block, sound}
+use Rattle.model.specs.Calls.{Call, enrol, backup, collect, read, audit, Answer, number, backed, freed, sound}
 use Rattle.model.specs.Sides.{Ours, endOf, ours, plain, oursShown, plainShown}
 use Rattle.cases.proofs.Open.{model}
 use Rattle.cases.proofs.Letters.{A, B, C, D, E, F, blockOf, printOf, over, list, four, box}
@@ -84,34 +84,34 @@ table =
     2 (four (hold 2 0 A) (hold 1 0 B) (none 0) (none 0)) (four 0 1 U U ∷ four U U U 0 ∷ [])
     -- c
     ∷ row (backup 0 8 (list 0 (C ∷ []))) (backed 2 1 2)
-    3 (four (hold 1 18 A) (hold 1 0 B) (hold 1 0 C) (none 0)) (four 2 1 U U ∷ four U U U 0 ∷ [])
+    3 (four (hold 1 15 A) (hold 1 0 B) (hold 1 0 C) (none 0)) (four 2 1 U U ∷ four U U U 0 ∷ [])
     -- d
     ∷ row (backup 1 9 (list 3 (B ∷ []))) (backed 2 0 2)
-    3 (four (hold 0 18 A) (hold 2 0 B) (hold 1 0 C) (none 0)) (four 2 1 U U ∷ four U U U 1 ∷ [])
-    -- e
-    ∷ row (collect 18) (freed 0)
-    3 (four (hold 0 18 A) (hold 2 0 B) (hold 1 0 C) (none 0)) (four 2 1 U U ∷ four U U U 1 ∷ [])
-    ∷ row (read 0 1 0) (block (blockOf A))
-    3 (four (hold 0 18 A) (hold 2 0 B) (hold 1 0 C) (none 0)) (four 2 1 U U ∷ four U U U 1 ∷ [])
+    3 (four (hold 0 15 A) (hold 2 0 B) (hold 1 0 C) (none 0)) (four 2 1 U U ∷ four U U U 1 ∷ [])
+    -- e: "1 freed and 16"
+    ∷ row (collect 18) (freed 1)
+    3 (four (none 15) (hold 2 0 B) (hold 1 0 C) (none 0)) (four 2 1 U U ∷ four U U U 1 ∷ [])
+    ∷ row (read 0 1 0) (number 16)
+    3 (four (none 15) (hold 2 0 B) (hold 1 0 C) (none 0)) (four 2 1 U U ∷ four U U U 1 ∷ [])
     -- f
     ∷ row (read 1 1 3) (number 16)
-    3 (four (hold 0 18 A) (hold 2 0 B) (hold 1 0 C) (none 0)) (four 2 1 U U ∷ four U U U 1 ∷ [])
-    -- g
-    ∷ row (collect 19) (freed 1)
-    3 (four (none 18) (hold 2 0 B) (hold 1 0 C) (none 0)) (four 2 1 U U ∷ four U U U 1 ∷ [])
+    3 (four (none 15) (hold 2 0 B) (hold 1 0 C) (none 0)) (four 2 1 U U ∷ four U U U 1 ∷ [])
+    -- g: "0 freed"
+    ∷ row (collect 19) (freed 0)
+    3 (four (none 15) (hold 2 0 B) (hold 1 0 C) (none 0)) (four 2 1 U U ∷ four U U U 1 ∷ [])
     ∷ row (read 0 1 0) (number 16)
-    3 (four (none 18) (hold 2 0 B) (hold 1 0 C) (none 0)) (four 2 1 U U ∷ four U U U 1 ∷ [])
+    3 (four (none 15) (hold 2 0 B) (hold 1 0 C) (none 0)) (four 2 1 U U ∷ four U U U 1 ∷ [])
     -- h
     ∷ row (backup 0 20 (list 2 (D ∷ E ∷ []))) (backed 3 2 2)
-    1 (four (hold 1 18 E) (hold 2 0 B) (hold 1 0 C) (hold 1 0 D)) (four 2 1 3 0 ∷ four U U U 1 ∷ [])
+    1 (four (hold 1 15 E) (hold 2 0 B) (hold 1 0 C) (hold 1 0 D)) (four 2 1 3 0 ∷ four U U U 1 ∷ [])
     -- i
     ∷ row (backup 1 21 (list 0 (F ∷ []))) (number 12)
-    1 (four (hold 1 18 E) (hold 2 0 B) (hold 1 0 C) (hold 1 0 D)) (four 2 1 3 0 ∷ four U U U 1 ∷ [])
+    1 (four (hold 1 15 E) (hold 2 0 B) (hold 1 0 C) (hold 1 0 D)) (four 2 1 3 0 ∷ four U U U 1 ∷ [])
     -- j
     ∷ row (backup 1 21 (over 0 (B ∷ []) (F ∷ []))) (number 11)
-    1 (four (hold 1 18 E) (hold 2 0 B) (hold 1 0 C) (hold 1 0 D)) (four 2 1 3 0 ∷ four U U U 1 ∷ [])
+    1 (four (hold 1 15 E) (hold 2 0 B) (hold 1 0 C) (hold 1 0 D)) (four 2 1 3 0 ∷ four U U U 1 ∷ [])
     ∷ row audit (sound true)
-    1 (four (hold 1 18 E) (hold 2 0 B) (hold 1 0 C) (hold 1 0 D)) (four 2 1 3 0 ∷ four U U U 1 ∷ [])
+    1 (four (hold 1 15 E) (hold 2 0 B) (hold 1 0 C) (hold 1 0 D)) (four 2 1 3 0 ∷ four U U U 1 ∷ [])
     ∷ []
 
 unfoldable pub calls : List Call

@@ -181,11 +181,11 @@ pub expiry-day-is-kept : Both small
     (enrol 0 3
     ∷ backup 0 1 (list 0 (A ∷ []))
     ∷ backup 0 2 (list 0 (B ∷ []))
+    ∷ collect 4
+    ∷ read 0 1 0
     ∷ collect 5
     ∷ read 0 1 0
-    ∷ collect 6
-    ∷ read 0 1 0
-    ∷ collect 6
+    ∷ collect 5
     ∷ [])
     (number 0 ∷ backed 1 1 1 ∷ backed 2 1 2 ∷ freed 0 ∷ block (blockOf A) ∷ freed 1 ∷ number 16 ∷ freed 0 ∷ [])
 unfolding model over list

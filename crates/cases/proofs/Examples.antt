@@ -15,7 +15,7 @@ use Rattle.model.specs.History.{Sent, historyOf, dayOf, historyRead}
 use Rattle.model.specs.Claims.{Fresh, ourAnswers, plainAnswers, ourAnswer, plainEnd, entryBefore, entryAfter, changesName}
 use Rattle.model.proofs.claims.Proved.{lists, images}
 use Rattle.cases.proofs.Open.{model}
-use Rattle.cases.proofs.Letters.{A, B, C, E, blockOf, over, list}
+use Rattle.cases.proofs.Letters.{B, C, E, blockOf, over, list}
 use Rattle.cases.proofs.Cases.{sizes, callOf, table, calls}
 
 -- ---- the hypotheses can be met
@@ -33,7 +33,7 @@ clinic = record {
   spareEnough = omega arith;
 }
 
--- ---- Lists: what both sides answer, what collect on 19 frees, which entries backup d may move
+-- ---- Lists: what both sides answer, what collect on 18 frees, which entries backup d may move
 
 unfoldable pub answers : List Answer
 answers =
@@ -43,10 +43,10 @@ answers =
     ∷ backed 1 0 1
     ∷ backed 2 1 2
     ∷ backed 2 0 2
-    ∷ freed 0
-    ∷ block (blockOf A)
-    ∷ number 16
     ∷ freed 1
+    ∷ number 16
+    ∷ number 16
+    ∷ freed 0
     ∷ number 16
     ∷ backed 3 2 2
     ∷ number 12
@@ -54,9 +54,9 @@ answers =
     ∷ sound true
     ∷ []
 
--- the calls before g's collect, and before d
-unfoldable pub beforeG : List Call
-beforeG = take 9 calls
+-- the calls before e's collect, and before d
+unfoldable pub beforeE : List Call
+beforeE = take 6 calls
 
 unfoldable pub beforeD : List Call
 beforeD = take 5 calls
@@ -68,12 +68,12 @@ pub record ListsSay : Type 0 where
   pub ours : ourAnswers clinic calls ≡ answers
   pub plain : plainAnswers clinic calls ≡ answers
   -- the splits that `freeing` and `touching` speak of
-  pub splitG : calls ≡ beforeG ++ (collect 19 ∷ drop 10 calls)
+  pub splitE : calls ≡ beforeE ++ (collect 18 ∷ drop 7 calls)
   pub splitD : calls ≡ beforeD ++ (backupD ∷ drop 6 calls)
-  pub collected : ourAnswer clinic beforeG (collect 19) ≡ freed 1
+  pub collected : ourAnswer clinic beforeE (collect 18) ≡ freed 1
   -- blocks 0 to 2 are held before; the plain store marks 1 and 2
-  pub held : map (λ p. entryBefore clinic beforeG p .held) (0 ∷ 1 ∷ 2 ∷ 3 ∷ []) ≡ true ∷ true ∷ true ∷ false ∷ []
-  pub marks : map (marked (plainEnd clinic beforeG) 19) (0 ∷ 1 ∷ 2 ∷ []) ≡ false ∷ true ∷ true ∷ []
+  pub held : map (λ p. entryBefore clinic beforeE p .held) (0 ∷ 1 ∷ 2 ∷ 3 ∷ []) ≡ true ∷ true ∷ true ∷ false ∷ []
+  pub marks : map (marked (plainEnd clinic beforeE) 18) (0 ∷ 1 ∷ 2 ∷ []) ≡ false ∷ true ∷ true ∷ []
   -- backup d names its old block 0 and its new block 1
   pub names : map (changesName (plainEnd clinic beforeD) 1 9 (list 3 (B ∷ []))) (0 ∷ 1 ∷ 2 ∷ 3 ∷ []) ≡ true ∷ true ∷ false ∷ false ∷ []
   -- .. and a refused one names none
@@ -81,11 +81,11 @@ pub record ListsSay : Type 0 where
       ≡ false ∷ false ∷ false ∷ false ∷ []
 
 pub lists-say : ListsSay
-unfolding model over list callOf table calls clinic answers beforeG beforeD backupD
+unfolding model over list callOf table calls clinic answers beforeE beforeD backupD
 lists-say = record {
   ours = refl;
   plain = refl;
-  splitG = refl;
+  splitE = refl;
   splitD = refl;
   collected = refl;
   held = refl;
@@ -94,19 +94,19 @@ lists-say = record {
   refusedNames = refl;
 }
 
--- ---- what follows there from `lists`: g frees block 0 and neither 1 nor 2, and d leaves the entries of 2 and 3
+-- ---- what follows there from `lists`: e frees block 0 and neither 1 nor 2, and d leaves the entries of 2 and 3
 
 pub record ListsGive : Type 0 where
-  pub freed0 : isFree (entryAfter clinic beforeG (collect 19) 0) ≡ true
-  pub kept1 : isFree (entryAfter clinic beforeG (collect 19) 1) ≡ false
-  pub kept2 : isFree (entryAfter clinic beforeG (collect 19) 2) ≡ false
+  pub freed0 : isFree (entryAfter clinic beforeE (collect 18) 0) ≡ true
+  pub kept1 : isFree (entryAfter clinic beforeE (collect 18) 1) ≡ false
+  pub kept2 : isFree (entryAfter clinic beforeE (collect 18) 2) ≡ false
   pub left2 : entryAfter clinic beforeD backupD 2 ≡ entryBefore clinic beforeD 2
   pub left3 : entryAfter clinic beforeD backupD 3 ≡ entryBefore clinic beforeD 3
 
-inG : (p : ℕ) → p < 4 → entryBefore clinic beforeG p .held ≡ true
-    → isFree (entryAfter clinic beforeG (collect 19) p) ≡ not (marked (plainEnd clinic beforeG) 19 p)
+inE : (p : ℕ) → p < 4 → entryBefore clinic beforeE p .held ≡ true
+    → isFree (entryAfter clinic beforeE (collect 18) p) ≡ not (marked (plainEnd clinic beforeE) 18 p)
 unfolding clinic sizes
-inG p h held = lists clinic calls .freeing beforeG (drop 10 calls) 19 1 p (lists-say .splitG) (lists-say .collected) h held
+inE p h held = lists clinic calls .freeing beforeE (drop 7 calls) 18 1 p (lists-say .splitE) (lists-say .collected) h held
 
 inD : (p : ℕ) → p < 4 → changesName (plainEnd clinic beforeD) 1 9 (list 3 (B ∷ [])) p ≡ false
     → entryAfter clinic beforeD backupD p ≡ entryBefore clinic beforeD p
@@ -123,9 +123,9 @@ lists-give =
     let m = lists-say .marks in
     let n = lists-say .names in
     record {
-      freed0 = inG 0 (omega arith) (ap (nth false 0) h) ∙ ap (λ t. not (nth true 0 t)) m;
-      kept1 = inG 1 (omega arith) (ap (nth false 1) h) ∙ ap (λ t. not (nth false 1 t)) m;
-      kept2 = inG 2 (omega arith) (ap (nth false 2) h) ∙ ap (λ t. not (nth false 2 t)) m;
+      freed0 = inE 0 (omega arith) (ap (nth false 0) h) ∙ ap (λ t. not (nth true 0 t)) m;
+      kept1 = inE 1 (omega arith) (ap (nth false 1) h) ∙ ap (λ t. not (nth false 1 t)) m;
+      kept2 = inE 2 (omega arith) (ap (nth false 2) h) ∙ ap (λ t. not (nth false 2 t)) m;
       left2 = inD 2 (omega arith) (ap (nth true 2) n);
       left3 = inD 3 (omega arith) (ap (nth true 3) n);
     }
@@ -142,8 +142,10 @@ pub record ImagesSay : Type 0 where
   pub retention : historyOf 0 calls answers .retention ≡ 10
   pub sent : days (historyOf 0 calls answers .sent) ≡ 5 ∷ 8 ∷ 20 ∷ []
   pub headerDay : dayOf calls answers ≡ 20
-  pub reads : worked 3 0 ∷ worked 2 1 ∷ worked 3 3 ∷ worked 2 3 ∷ worked 2 4 ∷ worked 1 0 ∷ worked 4 0 ∷ []
-      ≡ block (blockOf C) ∷ block (blockOf B) ∷ block (blockOf E) ∷ number 18 ∷ number 17 ∷ number 16 ∷ number 15 ∷ []
+  pub reads : worked 3 0 ∷ worked 3 1 ∷ worked 3 3 ∷ worked 3 4 ∷ worked 2 4 ∷ worked 1 0 ∷ worked 4 0 ∷ []
+      ≡ block (blockOf C) ∷ block (blockOf B) ∷ block (blockOf E) ∷ number 17 ∷ number 16 ∷ number 16 ∷ number 15 ∷ []
+  -- volume 1 sent LBN 3 alone
+  pub unsent : historyRead 4 (historyOf 1 calls answers) 20 2 0 ≡ number 18
   -- a volume that never enrolled
   pub absent : historyRead 4 (historyOf 2 calls answers) 20 1 0 ≡ number 5
   -- what the box answers to any read of volume 0 is worked out so
@@ -157,7 +159,7 @@ reads-worked k lbn =
 
 pub images-say : ImagesSay
 unfolding model over list callOf table calls clinic answers worked
-images-say = record { retention = refl; sent = refl; headerDay = refl; reads = refl; absent = refl; ours = reads-worked }
+images-say = record { retention = refl; sent = refl; headerDay = refl; reads = refl; unsent = refl; absent = refl; ours = reads-worked }
 
 -- ---- Corollaries
 
@@ -165,8 +167,8 @@ pub record CorollariesSay : Type 0 where
   pub audits : ourAnswer clinic calls audit ≡ sound true
   pub backs : ourAnswer clinic beforeD backupD ≡ backed 2 0 2
   pub bound : 2 ≤ 2 * changeCount (list 3 (B ∷ []))
-  pub collects : ourAnswer clinic (beforeG ++ (collect 19 ∷ [])) (collect 19) ≡ freed 0
+  pub collects : ourAnswer clinic (beforeE ++ (collect 18 ∷ [])) (collect 18) ≡ freed 0
 
 pub corollaries-say : CorollariesSay
-unfolding model over list callOf table calls clinic beforeG beforeD backupD
+unfolding model over list callOf table calls clinic beforeE beforeD backupD
 corollaries-say = record { audits = refl; backs = refl; bound = omega arith; collects = refl }

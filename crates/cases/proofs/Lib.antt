@@ -9,3 +9,4 @@ pub mod Examples
 pub mod Restores
 pub mod Shown
 pub mod Converts
+pub mod Days

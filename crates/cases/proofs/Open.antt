@@ -44,7 +44,7 @@ unfolding
     Kept.keptNumber Restore.runNumber Restore.restore
     Audit.noMaps Audit.mapsSound Audit.countSound Audit.expirySound Audit.printsSound Audit.cellSound Audit.currentSound Audit.backupSound
     Audit.backupsSound Audit.audit
-    Convert.roomNumber Convert.converted Convert.narrowNumber Convert.toTwo Convert.toOne
+    Convert.roomNumber Convert.converted Convert.narrowNumber Convert.toTwo Convert.toOne Convert.refreshedEntry Convert.refreshed Convert.toThree
     OnBytes.poolNumber OnBytes.spareNumber OnBytes.formatNumber OnBytes.formatBytes OnBytes.enrolBytes
     OnBytes.backedBytes OnBytes.backupBytes
     OnBytes.collectedBytes OnBytes.collectBytes OnBytes.readBytes OnBytes.readNumberBytes OnBytes.readPlaceBytes

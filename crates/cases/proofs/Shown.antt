@@ -17,7 +17,7 @@ use Rattle.cases.proofs.Cases.{sizes, callOf, table, calls}
 unfoldable pub afterG : List ℕ
 afterG = endOf (ours 280) (box sizes) (take 10 calls) .book
 
--- ---- all but the day, whether the replaced backups are kept, and block 0
+-- ---- all but the day, whether the older backups are kept, and block 0
 
 pub record Shown (b : List ℕ) (today kept : ℕ) (block0 : List ℕ) : Type 0 where
   pub sized : sizesBytes b ≡ accepted sizes
@@ -25,8 +25,8 @@ pub record Shown (b : List ℕ) (today kept : ℕ) (block0 : List ℕ) : Type 0 
   pub volume0 : volumeBytes b 0 ≡ accepted (record { retention = 10; backups = 2 })
   pub volume1 : volumeBytes b 1 ≡ accepted (record { retention = 3; backups = 2 })
   -- of days 5 and 8, and of 6 and 9
-  pub backups0 : backupsBytes b 0 16 ≡ accepted (5 ∷ 0 ∷ 2 ∷ 0 ∷ 18 ∷ 0 ∷ kept ∷ 0 ∷ 8 ∷ 0 ∷ 1 ∷ 0 ∷ 255 ∷ 255 ∷ 1 ∷ 0 ∷ [])
-  pub backups1 : backupsBytes b 1 16 ≡ accepted (6 ∷ 0 ∷ 1 ∷ 0 ∷ 12 ∷ 0 ∷ kept ∷ 0 ∷ 9 ∷ 0 ∷ 1 ∷ 0 ∷ 255 ∷ 255 ∷ 1 ∷ 0 ∷ [])
+  pub backups0 : backupsBytes b 0 16 ≡ accepted (5 ∷ 0 ∷ 2 ∷ 0 ∷ 15 ∷ 0 ∷ kept ∷ 0 ∷ 8 ∷ 0 ∷ 1 ∷ 0 ∷ 255 ∷ 255 ∷ 1 ∷ 0 ∷ [])
+  pub backups1 : backupsBytes b 1 16 ≡ accepted (6 ∷ 0 ∷ 1 ∷ 0 ∷ 9 ∷ 0 ∷ kept ∷ 0 ∷ 9 ∷ 0 ∷ 1 ∷ 0 ∷ 255 ∷ 255 ∷ 1 ∷ 0 ∷ [])
   pub cells0 : cellsBytes b 0 8 ≡ accepted (2 ∷ 0 ∷ 1 ∷ 0 ∷ 255 ∷ 255 ∷ 255 ∷ 255 ∷ [])
   pub cells1 : cellsBytes b 1 8 ≡ accepted (255 ∷ 255 ∷ 255 ∷ 255 ∷ 255 ∷ 255 ∷ 1 ∷ 0 ∷ [])
   pub blocks : blocksBytes b 88 ≡ accepted (joined
@@ -36,7 +36,7 @@ pub record Shown (b : List ℕ) (today kept : ℕ) (block0 : List ℕ) : Type 0 
       ∷ replicate 22 0
       ∷ []))
 
-pub shown-d : Shown afterD 9 1 ((1 ∷ 0 ∷ 0 ∷ 0 ∷ 18 ∷ 0 ∷ []) ++ printOf A)
+pub shown-d : Shown afterD 9 1 ((1 ∷ 0 ∷ 0 ∷ 0 ∷ 15 ∷ 0 ∷ []) ++ printOf A)
 unfolding model afterD
 shown-d = record {
   sized = refl;
@@ -50,7 +50,7 @@ shown-d = record {
   blocks = refl;
 }
 
-pub shown-g : Shown afterG 19 0 ((0 ∷ 0 ∷ 0 ∷ 0 ∷ 18 ∷ 0 ∷ []) ++ noPrint)
+pub shown-g : Shown afterG 19 0 ((0 ∷ 0 ∷ 0 ∷ 0 ∷ 15 ∷ 0 ∷ []) ++ noPrint)
 unfolding model over list callOf table calls afterG
 shown-g = record {
   sized = refl;

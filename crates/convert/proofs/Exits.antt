@@ -1,4 +1,4 @@
--- What a converter that changes no field leaves on each way out, and the test of number 22.
+-- What a converter leaves on each way out, and the test of number 22.
 use Prim.Native.Nat.{ℕ, _≤_, _<_}
 use mathlib.Core.Path.{_≡_, refl, sym, ap, _∙_}
 use mathlib.Core.Bool.{true, false}
@@ -13,7 +13,7 @@ use Rattle.words.specs.Lists.{all, each}
 use Rattle.words.specs.Numbers.{num}
 use Rattle.words.specs.Outcome.{Outcome, accepted, unless}
 use Rattle.book.proofs.Bytes.{length-bytes}
-use Rattle.book.specs.Book.{Book, freeEntry, entryAt}
+use Rattle.book.specs.Book.{Sizes, Book, freeEntry, entryAt}
 use Rattle.book.specs.Form.{formAs}
 use Rattle.book.specs.Layout.{nOffset, bookSize, bytes, sizesOf, entryOf, bookOf}
 use Rattle.book.specs.Next.{sizesIn, withLayout}
@@ -23,26 +23,26 @@ use Rattle.model.specs.Written.{Written}
 
 -- ---- the ways out
 
-module _ (from to : ℕ) (number : Book → ℕ) (b out : List ℕ) where
+module _ (from to : ℕ) (number : Book → ℕ) (f : Book → Book) (b out : List ℕ) where
   abbrev written : Outcome (List ℕ)
-  written = accepted (bytes (withLayout to (bookOf b)))
+  written = accepted (bytes (withLayout to (f (bookOf b))))
 
   abbrev conversion : Outcome (List ℕ)
-  conversion = converted from to number (λ x. x) b (length out)
+  conversion = converted from to number f b (length out)
 
-  long : length (bytes (withLayout to (bookOf b))) ≡ bookSize (sizesIn to (sizesOf b))
+  long : f (bookOf b) .sizes ≡ bookOf b .sizes → length (bytes (withLayout to (f (bookOf b)))) ≡ bookSize (sizesIn to (sizesOf b))
   unfolding withLayout bookOf
-  long = length-bytes (withLayout to (bookOf b))
+  long e = length-bytes (withLayout to (f (bookOf b))) ∙ ap (λ (z : Sizes). bookSize (sizesIn to z)) e
 
   pub misformed : {r : ℕ} → r ≡ formAs from b → (r ≡ 0 → ⊥) → Written conversion out r out
   unfolding converted
   misformed e n = written-refused (formAs from b) (unless (roomNumber to b (length out)) (unless (number (bookOf b)) written)) out e n
 
-  module _ (f : formAs from b ≡ 0) where
+  module _ (e₀ : formAs from b ≡ 0) where
     pub short : length out < bookSize (sizesIn to (sizesOf b)) → Written conversion out 4 out
     unfolding converted roomNumber
     short h =
-        written-past (unless (roomNumber to b (length out)) (unless (number (bookOf b)) written)) f
+        written-past (unless (roomNumber to b (length out)) (unless (number (bookOf b)) written)) e₀
         (rw (lt-ltb (length out) (bookSize (sizesIn to (sizesOf b))) h) (record { number = refl; output = refl }))
 
     module _ (h : bookSize (sizesIn to (sizesOf b)) ≤ length out) where
@@ -53,17 +53,17 @@ module _ (from to : ℕ) (number : Book → ℕ) (b out : List ℕ) where
       past : {r : ℕ} {out′ : List ℕ} → Written (unless (number (bookOf b)) written) out r out′ → Written conversion out r out′
       unfolding converted
       past w =
-          written-past (unless (roomNumber to b (length out)) (unless (number (bookOf b)) written)) f
+          written-past (unless (roomNumber to b (length out)) (unless (number (bookOf b)) written)) e₀
           (written-past (unless (number (bookOf b)) written) roomy w)
 
       pub asked : {r : ℕ} → r ≡ number (bookOf b) → (r ≡ 0 → ⊥) → Written conversion out r out
       asked e n = past (written-refused (number (bookOf b)) written out e n)
 
-      pub done : {out′ : List ℕ} → number (bookOf b) ≡ 0 → out′ ≡ sets out 0 (bytes (withLayout to (bookOf b)))
-          → Written conversion out 0 out′
-      done z e =
-          let c = bytes (withLayout to (bookOf b)) in
-          past (written-past written z (record { number = refl; output = e ∙ sets-front c out (rw long h) }))
+      pub done : {out′ : List ℕ} → f (bookOf b) .sizes ≡ bookOf b .sizes → number (bookOf b) ≡ 0
+          → out′ ≡ sets out 0 (bytes (withLayout to (f (bookOf b)))) → Written conversion out 0 out′
+      done s z e =
+          let c = bytes (withLayout to (f (bookOf b))) in
+          past (written-past written z (record { number = refl; output = e ∙ sets-front c out (rw (long s) h) }))
 
 -- ---- 22
 

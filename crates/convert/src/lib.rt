@@ -1,5 +1,5 @@
-// The converters: a book of one layout, written in another (document 02, K3). All is checked before the output is
-// written.
+// The converters: a book of one layout, written in another (document 02, K3 and K4). All is checked before the output
+// is written.
 ghost use mathlib.Core.Path.{_≡_};
 ghost use Prim.Native.Nat.{_≤_};
 ghost use lib.ListN.{length};
@@ -7,7 +7,7 @@ ghost use Rattle.words.specs.Lists.{all};
 ghost use Rattle.book.specs.Layout.{headerSize, bookSize, sizesOf, told, Holds};
 ghost use Rattle.book.specs.Next.{sizesIn};
 ghost use Rattle.model.specs.Convert.{isNarrow};
-ghost use Rattle.convert.specs.Contracts.{WrittenInTwo, WrittenInOne};
+ghost use Rattle.convert.specs.Contracts.{WrittenInTwo, WrittenInOne, WrittenInThree};
 use entries::entry;
 use fields::header::J_OFFSET;
 use fields::header::L_OFFSET;
@@ -16,6 +16,7 @@ use fields::header::S_OFFSET;
 use fields::header::blocks;
 use fields::sizes::size_as;
 use form::form_as;
+use refresh::refresh;
 use rewriter::rewrite;
 use words::PBN;
 use words::refusals;
@@ -79,5 +80,22 @@ pub fn convert_2_1(book: &[u8], out: &mut [u8]) -> u16
         return refusals::COUNT_WIDE;
     }
     rewrite(book, 2, 1, out);
+    0
+}
+
+// The expiries are worked out in the output, past which nothing is written.
+pub fn convert_2_3(book: &[u8], out: &mut [u8]) -> u16
+    ensures { λ r. ⌜ WrittenInThree book out r ⌝ }
+{
+    let in_form = form_as(book, 2);
+    if in_form != 0 {
+        return in_form;
+    }
+    let len = size_in(book, 3);
+    if out.len() < len {
+        return refusals::SHORT_SPARE;
+    }
+    rewrite(book, 2, 3, out);
+    refresh(&mut out[..len]);
     0
 }

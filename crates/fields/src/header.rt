@@ -9,7 +9,7 @@ use words::put_u16;
 use words::u16_at;
 
 // The layout that format makes and that the calls take.
-pub const LAYOUT: u16 = 2;
+pub const LAYOUT: u16 = 3;
 
 // The first layout, whose counts have one byte.
 pub const NARROW_LAYOUT: u16 = 1;

@@ -1,98 +1,135 @@
 -- Laws of specs/After.antt.
 -- A volume's backups after number k, as a walk over the slots finds them, and whether k is kept.
 use Prim.Native.Nat.{ℕ, zero, suc, _+_, _-_, _≤_, _<_}
-use mathlib.Core.Path.{_≡_, refl, sym, _∙_}
+use mathlib.Core.Path.{_≡_, refl, sym, ap, _∙_}
 use mathlib.Core.Bool.{true}
 use mathlib.Core.List.{List, [], _∷_, map}
 use mathlib.Core.Logic.{_⊎_, inl, inr}
+use native.Mathlib.Numerals.{add-one}
 use native.Mathlib.Omega.{arith}
 use lib.Dec.{leb}
-use lib.ListN.{length, drop, length-map}
-use lib.Seq.{drop-nil}
+use lib.ListN.{length, getD, drop, length-map, drop-of-length-le}
+use lib.Seq.{drop-drop}
 use borrow.Author.Tests.{le-leb, lt-leb}
 use Rattle.words.proofs.Ranges.{below-or-not}
 use Rattle.book.specs.Book.{Book, slotAt}
 use Rattle.journal.specs.Struct.{SlotIs}
 use Rattle.journal.specs.declared.slot.Slot.{Slot}
-use Rattle.model.specs.Days.{keptBefore, kept}
+use Rattle.model.specs.Days.{keptBy, kept}
 use Rattle.model.specs.Journal.{Backup, backups, days}
 use Rattle.model.specs.JournalAt.{backupAt, backupsFrom}
 use Rattle.model.proofs.kept.JournalAtLaws.{day-at, from-start, from-own, from-other, from-end}
 use Rattle.keeping.specs.declared.After.{After}
 use Rattle.keeping.specs.After.{AfterIs, keptFrom}
 
--- before slot q all but `left` of k backups were passed
-pub record Skipped (x : Book) (v k q left : ℕ) : Type 0 where
-  pub number : length (days x v) + left ≡ k + length (backupsFrom x v q)
-  pub rest : drop k (backups x v) ≡ drop left (backupsFrom x v q)
+abbrev dayOf : Backup → ℕ
+dayOf b = b .day
 
-drop-suc : {A : Type 0} (n : ℕ) (a : A) (xs : List A) → 0 < n → drop n (a ∷ xs) ≡ drop (n - 1) xs
-drop-suc zero a xs h = absurd (omega arith)
-drop-suc (suc n) a xs h = let e : suc n - 1 ≡ n = omega arith in rw e
+-- before slot q all but `left` of k backups were passed, the last of them taken on day t
+pub record Skipped (x : Book) (v k q left t : ℕ) : Type 0 where
+  pub few : left ≤ k
+  pub number : length (days x v) + left ≡ k + length (backupsFrom x v q)
+  pub rest : (j : ℕ) → j + left ≡ k → drop j (backups x v) ≡ backupsFrom x v q
+  pub taken : (j : ℕ) → suc j + left ≡ k → t ≡ getD (days x v) j 0
+
+day-first : (bs : List Backup) (j : ℕ) → getD (map dayOf bs) j 0 ≡ getD (map dayOf (drop j bs)) 0 0
+day-first bs zero = refl
+day-first [] (suc j) = refl
+day-first (b ∷ bs) (suc j) = day-first bs j
 
 module _ (x : Book) (v k : ℕ) where
-  pub skipped-none : Skipped x v k 0 k
+  pub skipped-none : Skipped x v k 0 k 0
   unfolding days
   skipped-none =
       let e = from-start x v in
-      record { number = rw (e, length-map (backups x v) (λ b. b .day)) (omega arith); rest = rw e }
+      record {
+        few = omega arith;
+        number = rw (e, length-map (backups x v) dayOf) (omega arith);
+        rest = λ j h. let z : j ≡ 0 = omega arith in rw (e, z);
+        taken = λ j h. absurd (omega arith);
+      }
 
-  module _ (q left : ℕ) (p : Skipped x v k q left) where
-    pub skipped-own : (t : Slot) → SlotIs (slotAt (x .slots) q) t → q < length (x .slots) → t .volume ≡ v → 0 < left
-        → Skipped x v k (q + 1) (left - 1)
-    skipped-own t s h e l =
-        let own = from-own x v q h (sym (s .volume) ∙ e) in
+  module _ (q left t : ℕ) (p : Skipped x v k q left t) where
+    pub skipped-own : (s : Slot) → SlotIs (slotAt (x .slots) q) s → q < length (x .slots) → s .volume ≡ v → 0 < left
+        → Skipped x v k (q + 1) (left - 1) (s .day)
+    unfolding days
+    skipped-own s i h e l =
         let n = rw own at (p .number) in
-        record { number = omega arith; rest = p .rest ∙ rw own (drop-suc left (backupAt x q) (backupsFrom x v (q + 1)) l) }
+        record { few = let f = p .few in omega arith; number = omega arith; rest = later; taken = λ j f. sym (now j (omega arith)) }
+      where
+        own : backupsFrom x v q ≡ backupAt x q ∷ backupsFrom x v (q + 1)
+        own = from-own x v q h (sym (i .volume) ∙ e)
 
-    pub skipped-other : (t : Slot) → SlotIs (slotAt (x .slots) q) t → q < length (x .slots) → (t .volume ≡ v → ⊥)
-        → Skipped x v k (q + 1) left
-    skipped-other t s h n =
-        let other = from-other x v q h (λ e. n (s .volume ∙ e)) in
-        record { number = p .number ∙ rw other; rest = p .rest ∙ rw other }
+        later : (j : ℕ) → j + (left - 1) ≡ k → drop j (backups x v) ≡ backupsFrom x v (q + 1)
+        later zero f = absurd (let g = p .few in omega arith)
+        later (suc j) f =
+            rw (← (add-one j), ← (drop-drop 1 j (backups x v))) (ap (drop 1) (p .rest j (omega arith) ∙ own))
+
+        now : (j : ℕ) → j + left ≡ k → getD (map dayOf (backups x v)) j 0 ≡ s .day
+        now j f =
+            day-first (backups x v) j
+            ∙ ap (λ (bs : List Backup). getD (map dayOf bs) 0 0) (p .rest j f ∙ own)
+            ∙ day-at x q ∙ sym (i .day)
+
+    pub skipped-other : (s : Slot) → SlotIs (slotAt (x .slots) q) s → q < length (x .slots) → (s .volume ≡ v → ⊥)
+        → Skipped x v k (q + 1) left t
+    skipped-other s i h n =
+        let other = from-other x v q h (λ e. n (i .volume ∙ e)) in
+        record { few = p .few; number = p .number ∙ rw other; rest = λ j f. p .rest j f ∙ other; taken = p .taken }
+
+    -- what is known where the walk ends
+    taken-end : (j : ℕ) → suc j ≡ k → left ≡ 0 → t ≡ getD (days x v) j 0
+    taken-end j e z = p .taken j (omega arith)
 
     -- the volume's next backup, and no backup more
-    pub skipped-stop : (t : Slot) → SlotIs (slotAt (x .slots) q) t → t .volume ≡ v → left ≡ 0
-        → AfterIs x v k (record { missing = left; at = q })
-    skipped-stop t s e z =
+    pub skipped-stop : (s : Slot) → SlotIs (slotAt (x .slots) q) s → s .volume ≡ v → left ≡ 0
+        → AfterIs x v k (record { missing = left; taken = t; at = q })
+    skipped-stop s i e z =
         let n = p .number in
-        record {
-          missing = omega arith;
-          later = p .rest ∙ rw z;
-          own = λ h. sym (s .volume) ∙ e;
-        }
+        record { missing = omega arith; taken = taken-end; later = p .rest k (omega arith); own = λ h. sym (i .volume) ∙ e }
 
-    pub skipped-end : (used : ℕ) → used ≡ length (x .slots) → used ≤ q → AfterIs x v k (record { missing = left; at = used })
+    pub skipped-end : (used : ℕ) → used ≡ length (x .slots) → used ≤ q
+        → AfterIs x v k (record { missing = left; taken = t; at = used })
+    unfolding days
     skipped-end used u h =
         let end = from-end x v q (omega arith) in
         let n = rw end at (p .number) in
+        let l = length-map (backups x v) dayOf in
         record {
           missing = omega arith;
-          later = p .rest ∙ rw end (drop-nil left) ∙ sym (from-end x v used (omega arith));
-          own = λ l. absurd (omega arith);
+          taken = taken-end;
+          later = drop-of-length-le (backups x v) {i = k} (omega arith) ∙ sym (from-end x v used (omega arith));
+          own = λ i. absurd (omega arith);
         }
 
 -- ---- kept
 
-pub kept-newest : (x : Book) (at r : ℕ) → length (x .slots) ≤ at → keptFrom x at r ≡ true
+pub kept-newest : (x : Book) (t at r : ℕ) → length (x .slots) ≤ at → keptFrom x t at r ≡ true
 unfolding keptFrom
-kept-newest x at r h = rw (le-leb (length (x .slots)) at h)
+kept-newest x t at r h = rw (le-leb (length (x .slots)) at h)
 
-pub kept-replaced : (x : Book) (at r : ℕ) → at < length (x .slots) → keptFrom x at r ≡ leb (x .day) (slotAt (x .slots) at .day + r)
+pub kept-older : (x : Book) (t at r : ℕ) → at < length (x .slots) → keptFrom x t at r ≡ leb (x .day) (t + r)
 unfolding keptFrom
-kept-replaced x at r h = rw (lt-leb (length (x .slots)) at h)
+kept-older x t at r h = rw (lt-leb (length (x .slots)) at h)
+
+-- by its own day and the days of the volume's backups from slot `at` on, where that slot is the volume's
+pub kept-from : (x : Book) (v t at r : ℕ) → (at < length (x .slots) → slotAt (x .slots) at .volume ≡ v)
+    → keptBy t (map dayOf (backupsFrom x v at)) r (x .day) ≡ keptFrom x t at r
+kept-from x v t at r own = go (below-or-not at (length (x .slots)))
+  where
+    go : (at < length (x .slots)) ⊎ (length (x .slots) ≤ at)
+        → keptBy t (map dayOf (backupsFrom x v at)) r (x .day) ≡ keptFrom x t at r
+    go (inl l) = rw (from-own x v at l (own l)) (sym (kept-older x t at r l))
+    go (inr g) = rw (from-end x v at g) (sym (kept-newest x t at r g))
 
 drop-map : {A B : Type 0} (f : A → B) (k : ℕ) (xs : List A) → drop k (map f xs) ≡ map f (drop k xs)
 drop-map f zero xs = refl
 drop-map f (suc k) [] = refl
 drop-map f (suc k) (x ∷ xs) = drop-map f k xs
 
-pub kept-from : (x : Book) (v k r : ℕ) (a : After) → AfterIs x v k a → kept (days x v) r (x .day) k ≡ keptFrom x (a .at) r
+pub kept-after : (x : Book) (v k r : ℕ) (a : After) → (k ≡ 0 → ⊥) → AfterIs x v k a → a .missing ≡ 0
+    → kept (days x v) r (x .day) k ≡ keptFrom x (a .taken) (a .at) r
 unfolding kept days
-kept-from x v k r a h = rw (drop-map (λ (b : Backup). b .day) k (backups x v), h .later) (go (below-or-not (a .at) (length (x .slots))))
-  where
-    go : (a .at < length (x .slots)) ⊎ (length (x .slots) ≤ a .at)
-        → keptBefore (map (λ (b : Backup). b .day) (backupsFrom x v (a .at))) r (x .day)
-        ≡ keptFrom x (a .at) r
-    go (inl l) = rw (from-own x v (a .at) l (h .own l), day-at x (a .at)) (sym (kept-replaced x (a .at) r l))
-    go (inr g) = rw (from-end x v (a .at) g) (sym (kept-newest x (a .at) r g))
+kept-after x v zero r a some h m = absurd (some refl)
+kept-after x v (suc k) r a some h m =
+    rw (drop-map dayOf (suc k) (backups x v), h .later, ← (h .taken k refl m)) (kept-from x v (a .taken) (a .at) r (h .own))

@@ -17,7 +17,7 @@ use Rattle.keeping.specs.declared.After.{After}
 use Rattle.keeping.specs.declared.Kept.the-variants.{Before, Refused}
 use Rattle.keeping.specs.After.{AfterIs, keptFrom}
 use Rattle.keeping.specs.Kept.{KeptIs}
-use Rattle.keeping.proofs.AfterLaws.{kept-from}
+use Rattle.keeping.proofs.AfterLaws.{kept-after}
 
 module _ (x : Book) (v k : ℕ) where
   backup-5 : noVolume x v ≡ true → KeptIs x v k (Refused 5)
@@ -52,13 +52,13 @@ module _ (x : Book) (v k : ℕ) where
         number-there : (eqb k 0 || ltb (length (days x v)) k) ≡ false
         number-there = let m = is .missing in rw (ne-eqb k 0 some, le-ltb (length (days x v)) k (omega arith))
 
-        pub backup-lapsed : keptFrom x (a .at) r ≡ false → KeptIs x v k (Refused 16)
+        pub backup-lapsed : keptFrom x (a .taken) (a .at) r ≡ false → KeptIs x v k (Refused 16)
         unfolding keptNumber
-        backup-lapsed f = (rw (there, number-there, ← same, kept-from x v k r a is, f), omega arith)
+        backup-lapsed f = (rw (there, number-there, ← same, kept-after x v k r a some is full, f), omega arith)
 
-        pub backup-kept : keptFrom x (a .at) r ≡ true → KeptIs x v k (Before (a .at))
+        pub backup-kept : keptFrom x (a .taken) (a .at) r ≡ true → KeptIs x v k (Before (a .at))
         unfolding keptNumber
-        backup-kept f = (rw (there, number-there, ← same, kept-from x v k r a is, f), is .later)
+        backup-kept f = (rw (there, number-there, ← same, kept-after x v k r a some is full, f), is .later)
 
 -- the volume of a backup that is there
 pub kept-volume : (x : Book) (v k : ℕ) → keptNumber x v k ≡ 0 → v < volumes

@@ -9,9 +9,10 @@ use words::limits::LAST_VOLUME;
 use words::refusals;
 
 // A volume's backups after number k. Slot `at` holds the first of them; where there is none, `at` is past the used
-// slots. The volume lacks `missing` backups to have a number k.
+// slots. The volume lacks `missing` backups to have a number k; where it has one, `taken` is that backup's day.
 pub struct After {
     pub missing: u16,
+    pub taken: u16,
     pub at: u16,
 }
 
@@ -28,31 +29,40 @@ pub fn backups_after(book: &[u8], v: u16, k: u16) -> After
 {
     let used = header::used_slots(book);
     let mut missing = k;
+    let mut taken = 0;
     let mut q = 0;
     while q < used {
         let slot = slot::slot_at(book, q);
         if slot.volume == v {
             if missing == 0 {
-                return After { missing, at: q };
+                return After {
+                    missing,
+                    taken,
+                    at: q,
+                };
             }
             missing -= 1;
+            taken = slot.day;
         }
         q += 1;
     }
-    After { missing, at: used }
+    After {
+        missing,
+        taken,
+        at: used,
+    }
 }
 
-// Whether a backup is kept: slot `at` holds the one that replaced it, if any, and the volume keeps it for `days` days
-// after that.
-pub fn is_kept(book: &[u8], at: u16, days: u16) -> bool
+// Whether a backup that was taken on day `taken` is kept, where the volume keeps each for `days` days. Slot `at` holds
+// the one that came after it, if any: the newest is always kept.
+pub fn is_kept(book: &[u8], taken: u16, at: u16, days: u16) -> bool
     requires { ⌜ Holds (now book) ⌝ }
-    ensures { λ r. ⌜ r ≡ keptFrom (told (book .entry)) at days ⌝ }
+    ensures { λ r. ⌜ r ≡ keptFrom (told (book .entry)) taken at days ⌝ }
 {
     if header::used_slots(book) <= at {
         return true;
     }
-    let slot = slot::slot_at(book, at);
-    (slot.day as u32) + (days as u32) >= (header::day(book) as u32)
+    (taken as u32) + (days as u32) >= (header::day(book) as u32)
 }
 
 // Numbers 5, 15 and 16.
@@ -75,7 +85,7 @@ pub fn kept_backup(book: &[u8], v: u16, k: u16) -> Kept
         return Kept::Refused(refusals::NO_BACKUP);
     }
     let at = after.at;
-    if !is_kept(book, at, days) {
+    if !is_kept(book, after.taken, at, days) {
         return Kept::Refused(refusals::NOT_KEPT);
     }
     Kept::Before(at)

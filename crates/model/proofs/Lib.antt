@@ -1,5 +1,6 @@
 pub mod ConvertCases
 pub mod CountCases
+pub mod DayCases
 pub mod RestoreCases
 pub mod kept
 pub mod claims

@@ -16,3 +16,6 @@ pub mod BackupFit
 pub mod OnBytesFit
 pub mod ImageIn
 pub mod ConvertFit
+pub mod Refreshed
+pub mod SoundStays
+pub mod ToThree

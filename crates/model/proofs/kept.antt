@@ -3,6 +3,7 @@ pub mod DayLaws
 pub mod Sound
 pub mod JournalLaws
 pub mod Replays
+pub mod KeptOwn
 pub mod KeptCells
 pub mod KeptNames
 pub mod Reaches

@@ -9,7 +9,7 @@ use Rattle.words.specs.Choice.{if_then_else_}
 use Rattle.words.specs.Lists.{all, someOf, those, countOf, joined, same, differ, upFrom}
 use Rattle.book.specs.Book.{volumes, Rec, Book, entryAt, retentionOf}
 use Rattle.model.specs.Days.{kept}
-use Rattle.model.specs.Journal.{Backup, journal, days}
+use Rattle.model.specs.Journal.{Backup, sinceOf, journal, days}
 use Rattle.model.specs.Read.{image}
 
 -- ---- "the maps are the records replayed in order from all unmapped"
@@ -47,14 +47,15 @@ mapsSound x = befores (noMaps x) (journal x) && all (sameMap (x .maps) (replayed
 unfoldable pub countSound : Book → ℕ → Bool
 countSound x p = eqb (entryAt (x .entries) p .count) (countOf (eqb p) (joined (x .maps)))
 
--- ---- "each expiry is the largest slot day plus retention over records with that before, 0 if none"
+-- ---- "each expiry is the largest slot day plus retention over records with that before, 0 if none"; "the audit's expiries take step 3's new
+-- day for the slot day" (document 02, K4)
 
 abbrev pub hasBefore : ℕ → List Rec → Bool
 hasBefore p rs = someOf (λ r. eqb (r .before) p) rs
 
 -- the last day for which backup b keeps what it replaced, where its volume keeps r days
 abbrev pub dueOf : ℕ → Backup → ℕ
-dueOf r b = b .day + r
+dueOf r b = sinceOf (b .prev) + r
 
 abbrev pub untilIn : Book → ℕ → List Backup → ℕ
 untilIn x p [] = 0

@@ -7,7 +7,7 @@ use lib.ListN.{length, take, drop, set}
 use lib.Dec.{leb, ltb, eqb}
 use Rattle.words.specs.Blocks.{unmapped}
 use Rattle.words.specs.Choice.{if_then_else_}
-use Rattle.words.specs.Lists.{placeFrom, orElse, same}
+use Rattle.words.specs.Lists.{placeFrom, orElse, same, lastOf}
 use Rattle.words.specs.Outcome.{Outcome, refused, accepted, andThen, unless}
 use Rattle.runs.specs.Changes.{Change, changes, changeCount, listNumber}
 use Rattle.book.specs.Book.{Entry, Book, entryAt, isFree, cellAt, retentionOf}
@@ -69,7 +69,8 @@ placeHeld c w (some p) = if same (blockAt (w .pool) p) (c .block) then accepted 
 unfoldable pub place : Change → Work → Outcome Placed
 place c w = placeHeld c w (findHeld (w .book .entries) (c .print))
 
--- step 3: "If the map had a before, its count falls by 1 and its expiry becomes the larger of itself and T + R"
+-- step 3: "If the map had a before, its count falls by 1 and its expiry becomes the larger of itself and T + R", with "the day of the volume's
+-- previous backup in place of T" (document 02, K4)
 unfoldable pub lowered : ℕ → Entry → Entry
 lowered until e = expiryAs (max (e .expiry) until) (countAs (e .count - 1) e)
 
@@ -135,8 +136,12 @@ closed x v t n w = record {
   touched = w .touched;
 }
 
+-- until when the volume's next backup keeps what it replaces: 0 stands for the day "where a damaged book has none"
+abbrev pub untilNext : Book → ℕ → ℕ
+untilNext x v = lastOf 0 (days x v) + retentionOf x v
+
 unfoldable pub backup : Book → List ℕ → ℕ → ℕ → List ℕ → Outcome Backed
 backup x pool v t list =
     unless (backupNumber x v t list)
-    (andThen (runChanges v (t + retentionOf x v) (changes list) (begun x pool))
+    (andThen (runChanges v (untilNext x v) (changes list) (begun x pool))
     (λ w. accepted (closed x v t (changeCount list) w)))

@@ -1,4 +1,4 @@
--- The converters: a book of one layout, written in another (document 02, K3).
+-- The converters: a book of one layout, written in another (document 02, K3 and K4).
 use Prim.Native.Nat.{ℕ}
 use mathlib.Core.Bool.{Bool}
 use mathlib.Core.List.{List}
@@ -6,10 +6,13 @@ use lib.Dec.{leb, ltb}
 use Rattle.words.specs.Choice.{if_then_else_}
 use Rattle.words.specs.Lists.{all}
 use Rattle.words.specs.Outcome.{Outcome, accepted, unless}
-use Rattle.book.specs.Book.{Entry, Book}
+use Rattle.words.specs.Sections.{tab}
+use Rattle.book.specs.Book.{Entry, Book, entryAt}
 use Rattle.book.specs.Layout.{bookSize, bytes, bookOf, sizesOf}
 use Rattle.book.specs.Form.{formAs}
-use Rattle.book.specs.Next.{sizesIn, withLayout}
+use Rattle.book.specs.Next.{sizesIn, withLayout, withEntries, expiryAs}
+use Rattle.model.specs.Audit.{untilIn}
+use Rattle.model.specs.Journal.{journal}
 
 -- "4, which for the converter means an output shorter than the book to write"
 unfoldable pub roomNumber : ℕ → List ℕ → ℕ → ℕ
@@ -37,3 +40,13 @@ toTwo b room = converted 1 2 (λ x. 0) (λ x. x) b room
 
 unfoldable pub toOne : List ℕ → ℕ → Outcome (List ℕ)
 toOne b room = converted 2 1 narrowNumber (λ x. x) b room
+
+-- "the converter from 2 works every expiry out afresh from the journal" (document 02, K4): by audit's rule
+unfoldable pub refreshedEntry : Book → ℕ → Entry
+refreshedEntry x p = expiryAs (untilIn x p (journal x)) (entryAt (x .entries) p)
+
+unfoldable pub refreshed : Book → Book
+refreshed x = withEntries (tab (x .sizes .n) (refreshedEntry x)) x
+
+unfoldable pub toThree : List ℕ → ℕ → Outcome (List ℕ)
+toThree b room = converted 2 3 (λ x. 0) refreshed b room

@@ -1,20 +1,21 @@
--- What days decide (document 01, "kept", number 7): on the box and on the plain store alike.
-use Prim.Native.Nat.{ℕ, _+_}
+-- What days decide (document 02, K4, "kept"; document 01, number 7): on the box and on the plain store alike.
+use Prim.Native.Nat.{ℕ, zero, suc, _+_}
 use mathlib.Core.Bool.{Bool, true, not, _&&_, _||_}
 use mathlib.Core.List.{List, [], _∷_}
-use lib.ListN.{length, drop}
+use lib.ListN.{length, getD, drop}
 use lib.Dec.{leb, ltb, eqb}
 use Rattle.words.specs.Lists.{lastOf}
 
--- "if it is the volume's newest, or the day of backup k + 1 plus R is ≥ D": by the days of the backups after it
-abbrev pub keptBefore : List ℕ → ℕ → ℕ → Bool
-keptBefore [] r d = true
-keptBefore (t ∷ ts) r d = leb d (t + r)
+-- "if it is the newest or its own day plus retention is ≥ D" (document 02, K4): by its own day and the days of the backups after it
+abbrev pub keptBy : ℕ → List ℕ → ℕ → ℕ → Bool
+keptBy t [] r d = true
+keptBy t (u ∷ us) r d = leb d (t + r)
 
--- "Backup k is kept at day D", by the days of the volume's backups and its retention. Said of k from 1 to the newest: any other number is
+-- "backup k is kept at day D", by the days of the volume's backups and its retention. Said of k from 1 to the newest: any other number is
 -- refused by 15 first, so that what this says of it counts nowhere
 unfoldable pub kept : List ℕ → ℕ → ℕ → ℕ → Bool
-kept ds r d k = keptBefore (drop k ds) r d
+kept ds r d zero = true
+kept ds r d (suc k) = keptBy (getD ds k 0) (drop (suc k) ds) r d
 
 -- number 7: "The day is above 60,000, below the header's"
 unfoldable pub badDay : ℕ → ℕ → Bool

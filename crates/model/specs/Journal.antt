@@ -22,6 +22,12 @@ abbrev pub lastDay : ℕ → List Slot → Option ℕ
 lastDay v [] = none
 lastDay v (t ∷ ts) = if eqb (t .volume) v then some (t .day) else lastDay v ts
 
+-- the day that its replaced blocks' days are counted from: "the day of the volume's previous backup .., or 0 where a damaged book has none"
+-- (document 02, K4)
+abbrev pub sinceOf : Option ℕ → ℕ
+sinceOf none = 0
+sinceOf (some d) = d
+
 -- "the first pair starts at 0, each next where the last ended"; the slots `gone` came before, the newest of them first
 abbrev pub journalOf : List Slot → List Slot → List Rec → List Backup
 journalOf gone [] rs = []

@@ -5,9 +5,9 @@ use mathlib.Core.Bool.{Bool, not, _||_}
 use mathlib.Core.List.{List, [], _∷_}
 use mathlib.Core.Option.{none}
 use lib.Dec.{eqb, leb}
-use lib.ListN.{getD, drop}
-use Rattle.book.specs.Book.{Rec, Book, cellAt, retentionOf}
-use Rattle.model.specs.Journal.{Backup, journal, backupsIn}
+use lib.ListN.{getD, take, drop}
+use Rattle.book.specs.Book.{Slot, Rec, Book, cellAt, retentionOf}
+use Rattle.model.specs.Journal.{Backup, lastDay, sinceOf, journal, backupsIn}
 use Rattle.words.specs.Blocks.{unmapped}
 use Rattle.words.specs.Lists.{firstThat, all, upFrom}
 use Rattle.model.specs.Audit.{dueOf, cellSound}
@@ -19,6 +19,17 @@ noBackup = record { volume = 0; day = 0; prev = none; records = [] }
 -- the backup that slot q holds
 abbrev pub backupAt : Book → ℕ → Backup
 backupAt x q = getD (journal x) q noBackup
+
+-- ---- the slots before slot q
+
+-- slots ts behind those that are gone, the newest first
+abbrev pub goneAfter : List Slot → List Slot → List Slot
+goneAfter gone [] = gone
+goneAfter gone (t ∷ ts) = goneAfter (t ∷ gone) ts
+
+-- the volume's last day before slot q, 0 where there is none
+abbrev pub lastBefore : Book → ℕ → ℕ → ℕ
+lastBefore x q v = sinceOf (lastDay v (goneAfter [] (take q (x .slots))))
 
 -- ---- the volume's backups in the slots from q on
 

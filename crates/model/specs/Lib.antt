@@ -8,6 +8,7 @@ pub mod Read
 pub mod Kept
 pub mod Restore
 pub mod Audit
+pub mod AuditTwo
 pub mod Convert
 pub mod OnBytes
 pub mod Views

@@ -9,7 +9,7 @@ use Rattle.words.specs.Choice.{if_then_else_}
 use Rattle.words.specs.Lists.{someOf, lastOf}
 use Rattle.words.specs.Outcome.{Outcome, accepted, unless}
 use Rattle.book.specs.Book.{volumes, Sizes}
-use Rattle.model.specs.Days.{keptBefore, kept, badDay, badRetention}
+use Rattle.model.specs.Days.{keptBy, kept, badDay, badRetention}
 
 -- "N blocks each free or with fingerprint and bytes"
 pub data Block : Type 0 where
@@ -107,7 +107,7 @@ names p m = someOf (eqb p) m
 -- a backup kept at day D points to the block
 abbrev pub keptNames : ℕ → ℕ → ℕ → List Image → Bool
 keptNames p r d [] = false
-keptNames p r d (i ∷ is) = (keptBefore (daysOf is) r d && names p (i .cells)) || keptNames p r d is
+keptNames p r d (i ∷ is) = (keptBy (i .day) (daysOf is) r d && names p (i .cells)) || keptNames p r d is
 
 -- a current map or a backup kept at day D points to the block
 unfoldable pub marked : Plain → ℕ → ℕ → Bool

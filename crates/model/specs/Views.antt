@@ -12,7 +12,7 @@ use Rattle.words.specs.Sections.{flat}
 use Rattle.book.specs.Book.{Sizes, Entry, Book, retentionOf}
 use Rattle.book.specs.Layout.{bookOf}
 use Rattle.book.specs.Form.{formNumber}
-use Rattle.model.specs.Days.{keptBefore}
+use Rattle.model.specs.Days.{keptBy}
 use Rattle.model.specs.Journal.{Backup, backups, noVolume}
 use Rattle.model.specs.OnBytes.{after}
 
@@ -45,14 +45,16 @@ pub record VolumeFacts : Type 0 where
 unfoldable pub volumeOf : Book → ℕ → VolumeFacts
 volumeOf x v = record { retention = retentionOf x v; backups = length (backups x v) }
 
--- the last day on which a backup is kept, by the days of the volume's backups after it. The newest is always kept: no day is above 65,535
-abbrev pub keptUntil : List ℕ → ℕ → ℕ
-keptUntil [] r = 65535
-keptUntil (t ∷ ts) r = t + r
+-- the last day on which a backup is kept, by its own day and those of the volume's backups after it. The newest is always kept: no day is above
+-- 65,535
+abbrev pub keptUntil : ℕ → List ℕ → ℕ → ℕ
+keptUntil t [] r = 65535
+keptUntil t (u ∷ us) r = t + r
 
 -- a backup in 8 bytes: its day, how many records it has, until when it is kept, and 1 if it is kept on day d, else 0
 abbrev pub backupRow : Backup → List ℕ → ℕ → ℕ → List ℕ
-backupRow b later r d = flat two (b .day ∷ length (b .records) ∷ keptUntil later r ∷ bit (keptBefore later r d) ∷ [])
+backupRow b later r d =
+    flat two (b .day ∷ length (b .records) ∷ keptUntil (b .day) later r ∷ bit (keptBy (b .day) later r d) ∷ [])
 
 abbrev pub backupRows : ℕ → ℕ → List Backup → List ℕ
 backupRows r d [] = []

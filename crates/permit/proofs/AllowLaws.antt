@@ -18,7 +18,7 @@ use Rattle.book.specs.Layout.{bookOf}
 use Rattle.book.specs.Form.{formNumber}
 use Rattle.model.specs.Days.{badDay, notAfter}
 use Rattle.model.specs.Journal.{Backup, journal, backups, days, noVolume}
-use Rattle.model.specs.Backup.{Work, Backed, runChanges, begun, closed, backupNumber, backup}
+use Rattle.model.specs.Backup.{untilNext, Work, Backed, runChanges, begun, closed, backupNumber, backup}
 use Rattle.model.proofs.kept.JournalAtLaws.{length-journal}
 use Rattle.model.specs.OnBytes.{spareNumber, BackedBytes, backedBytes, backupBytes}
 use Rattle.buffers.specs.Buffers.{buffersNumber}
@@ -136,14 +136,14 @@ module _ (b pool : List ℕ) (spare v t : ℕ) (list : List ℕ) where
     number-refused k f n =
         by-lent ∙ rw (e, f)
         (ap (λ (o : Outcome Backed). andThen o (λ (d : Backed). accepted (backedBytes d)))
-        (unless-refused k (andThen (runChanges v (t + retentionOf (bookOf b) v) (changes list) (begun (bookOf b) pool))
+        (unless-refused k (andThen (runChanges v (untilNext (bookOf b) v) (changes list) (begun (bookOf b) pool))
         (λ (w : Work). accepted (closed (bookOf b) v t (changeCount list) w))) n))
 
     pub goes-on : backupNumber (bookOf b) v t list ≡ 0 → backupBytes b pool spare v t list ≡ goesOn (bookOf b) pool v t list
     unfolding backup
     goes-on f =
         by-lent ∙ rw (e, f)
-        (then-then (runChanges v (t + retentionOf (bookOf b) v) (changes list) (begun (bookOf b) pool))
+        (then-then (runChanges v (untilNext (bookOf b) v) (changes list) (begun (bookOf b) pool))
         (closed (bookOf b) v t (changeCount list)) backedBytes)
 
 -- ---- a volume has no more backups than slots are used

@@ -10,12 +10,12 @@ use Rattle.words.specs.Choice.{if_then_else_}
 use Rattle.words.specs.Lent.{Lent}
 use Rattle.words.specs.Outcome.{Outcome, refused, accepted, andThen}
 use Rattle.runs.specs.Changes.{changeCount, changes}
-use Rattle.book.specs.Book.{volumes, Book, retentionOf}
+use Rattle.book.specs.Book.{volumes, Book}
 use Rattle.book.specs.Layout.{bookOf}
 use Rattle.book.specs.FormFacts.{FormFacts}
 use Rattle.model.specs.Days.{badDay, notAfter}
 use Rattle.model.specs.Journal.{days}
-use Rattle.model.specs.Backup.{Work, runChanges, begun, closed}
+use Rattle.model.specs.Backup.{Work, untilNext, runChanges, begun, closed}
 use Rattle.model.specs.OnBytes.{spareNumber, BackedBytes, backedBytes, backupBytes}
 use Rattle.buffers.specs.Buffers.{orNumber, buffersNumber}
 use Rattle.placer.specs.Working.{Job}
@@ -39,7 +39,7 @@ roomNumber x n =
 -- what a backup comes to when none of numbers 1 to 10 refuses it
 abbrev pub goesOn : Book → List ℕ → ℕ → ℕ → List ℕ → Outcome BackedBytes
 goesOn x pool v t list =
-    andThen (runChanges v (t + retentionOf x v) (changes list) (begun x pool))
+    andThen (runChanges v (untilNext x v) (changes list) (begun x pool))
     (λ (w : Work). accepted (backedBytes (closed x v t (changeCount list) w)))
 
 -- what the call knows then
@@ -50,7 +50,7 @@ pub record Ready (b pool : List ℕ) (spare v t : ℕ) (list : List ℕ) (plan :
   pub last : t ≤ 60000
   pub job : Job (bookOf b) pool list (plan .shape)
   pub room : length (bookOf b .slots) < bookOf b .sizes .s
-  pub until : plan .until ≡ t + retentionOf (bookOf b) v
+  pub until : plan .until ≡ untilNext (bookOf b) v
   pub number : plan .number ≡ suc (length (days (bookOf b) v))
   pub goes : backupBytes b pool spare v t list ≡ goesOn (bookOf b) pool v t list
 

@@ -98,7 +98,8 @@ pub fn allow(book: &[u8], pool: &[u8], spare: usize, v: u16, day: u16, list: &[u
     if full != 0 {
         return Allowed::Refused(full);
     }
-    let until = day + days;
+    let last = backups.last;
+    let until = last + days;
     let number = backups.count + 1;
     Allowed::Go(Plan {
         shape,

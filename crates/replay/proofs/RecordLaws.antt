@@ -13,8 +13,8 @@ use Rattle.book.specs.Book.{Rec, Book, noRec, recAt}
 use Rattle.journal.specs.Struct.{RecordIs}
 use Rattle.journal.specs.declared.record.Record.{Record}
 use Rattle.model.specs.Audit.{cellSound}
-use Rattle.replay.specs.Expiries.{Raised, untilOne, untilEach}
-use Rattle.replay.proofs.ExpiryLaws.{Raising, raising-start, raising-more, raising-end, until-more, until-end}
+use Rattle.due.specs.Expiries.{Raised, untilOne, untilEach}
+use Rattle.due.proofs.ExpiryLaws.{Raising, raising-start, raising-record, raising-records}
 use Rattle.replay.specs.Stamps.{firstsSound, stamped}
 use Rattle.replay.specs.Table.{rowSize, cellsAfter, cellsBefore}
 use Rattle.replay.specs.declared.records.Taking.{Taking}
@@ -64,9 +64,7 @@ module _ (x : Book) (t : Taking) (n₀ : Notes) (rs₀ : List Rec) where
             ∙ rw (c, add-one q, s .test, s .cells, s .stamps)
             (ap (λ (b : Bool). good && b) (and-swap same befores first firsts) ∙ sym (and-assoc good (same && first) (befores && firsts)));
         cells = w .cells ∙ rw (c, add-one q, s .cells);
-        expiries =
-            raising-more (untilOne (t .until) (r .before)) (untilEach (t .until) (slice (q + 1) e rs))
-            (until-more (t .until) rs q e h k) (s .expiries) (w .expiries);
+        expiries = raising-record (t .until) rs q e h k (s .expiries) refl (w .expiries);
         stamps = w .stamps ∙ rw (c, add-one q, s .stamps);
       }
 
@@ -77,6 +75,6 @@ module _ (x : Book) (t : Taking) (n₀ : Notes) (rs₀ : List Rec) where
       record {
         test = sym (w .test ∙ rw z (and-yes good));
         cells = sym (w .cells ∙ rw z);
-        expiries = raising-end (until-end (t .until) rs q e h) (w .expiries);
+        expiries = raising-records (t .until) rs q e h (w .expiries);
         stamps = sym (w .stamps ∙ rw z);
       }

@@ -12,46 +12,43 @@ use borrow.Author.Tests.{ltb-true, ltb-false, le-leb, lt-leb}
 use Rattle.words.proofs.ChoiceLaws.{and-assoc, and-swap, and-yes}
 use Rattle.words.specs.Lists.{all}
 use Rattle.words.proofs.Places.{all-take, all-drop}
-use Rattle.book.specs.Book.{Book, slotAt, retentionOf}
+use Rattle.book.specs.Book.{Book, slotAt}
 use Rattle.book.specs.Form.{recOk}
 use Rattle.book.specs.FormFacts.{FormFacts}
 use Rattle.book.specs.Layout.{bookOf}
 use Rattle.journal.specs.Struct.{SlotIs}
 use Rattle.journal.specs.declared.slot.Slot as read
-use Rattle.model.specs.Audit.{dueOf, untilIn}
+use Rattle.model.specs.Audit.{untilIn}
 use Rattle.model.specs.Journal.{Backup, journal}
 use Rattle.model.specs.JournalAt.{backupAt}
-use Rattle.model.proofs.kept.JournalAtLaws.{journal-next, journal-end}
+use Rattle.model.proofs.kept.JournalAtLaws.{journal-next, journal-end, volume-at}
 use Rattle.model.specs.JournalAt.{takenSound}
-use Rattle.replay.specs.Expiries.{untilEach}
-use Rattle.replay.proofs.ExpiryLaws.{Raising, raising-start, raising-more, raising-end, until-next}
-use Rattle.replay.proofs.JournalRead.{readBackup, backup-read}
+use Rattle.due.specs.Lasts.{dueIn}
+use Rattle.due.proofs.ExpiryLaws.{Raising, raising-start, raising-slot, raising-journal}
+use Rattle.due.proofs.SlotReads.{records-read}
 use Rattle.replay.specs.Records.{Notes, notes, RecordsTaken}
 use Rattle.replay.specs.Stamps.{firstsSound}
 use Rattle.replay.proofs.StampLaws.{firsts-past, firsts-fresh, stamped-low, length-stamped}
 use Rattle.replay.specs.Table.{rowSize, cellsAfter, cellsBefore, tableAfter, tableBefores}
 use Rattle.replay.specs.Slots.{SlotTaken, JournalTaken}
+use Rattle.replay.specs.declared.records.Taking.{Taking}
 
 module _ (x : Book) (b : Backup) where
-  -- the last day that keeps what the backup replaced
-  abbrev due : ℕ
-  due = dueOf (retentionOf x (b .volume)) b
-
   -- fresh stamps find the first records, and a backup whose day is past is not asked
-  firsts-taken : (past : Bool) → past ≡ ltb due (x .day) → (k : ℕ) (a : List ℕ) → x .sizes .l ≤ rowSize
+  firsts-taken : (past : Bool) → past ≡ ltb (dueIn x b) (x .day) → (k : ℕ) (a : List ℕ) → x .sizes .l ≤ rowSize
       → length a ≡ rowSize → ((l : ℕ) → getD a l 0 ≤ k)
       → all (recOk (x .sizes)) (b .records) ≡ true → firstsSound x past (k + 1) a (b .records) ≡ takenSound x b
   unfolding takenSound
   firsts-taken true e k a small long low ok =
-      firsts-past x (k + 1) a (b .records) ∙ rw (lt-leb (x .day) due (ltb-true due (x .day) (sym e)))
+      firsts-past x (k + 1) a (b .records) ∙ rw (lt-leb (x .day) (dueIn x b) (ltb-true (dueIn x b) (x .day) (sym e)))
   firsts-taken false e k a small long low ok =
       firsts-fresh x (k + 1) (b .records) (x .sizes) a (omega arith) ok (λ l. omega (arith, low l))
-      ∙ rw (le-leb (x .day) due (ltb-false due (x .day) (sym e)))
+      ∙ rw (le-leb (x .day) (dueIn x b) (ltb-false (dueIn x b) (x .day) (sym e)))
 
-  taken-slot : (k : ℕ) {n n′ : Notes} {good past : Bool} → past ≡ ltb due (x .day) → x .sizes .l ≤ rowSize
+  taken-slot : (k : ℕ) {n n′ : Notes} {good past : Bool} → past ≡ ltb (dueIn x b) (x .day) → x .sizes .l ≤ rowSize
       → length (n .stamps) ≡ rowSize
       → ((l : ℕ) → getD (n .stamps) l 0 ≤ k) → all (recOk (x .sizes)) (b .records) ≡ true
-      → RecordsTaken x (record { volume = b .volume; until = due; past = past; stamp = k + 1 }) (b .records) good n
+      → RecordsTaken x (record { volume = b .volume; until = dueIn x b; past = past; stamp = k + 1 }) (b .records) good n
       n′ → SlotTaken x b (k + 1) good n n′
   taken-slot k {n} {n′} {good} {past} e small long low ok w =
       record {
@@ -64,21 +61,31 @@ module _ (x : Book) (b : Backup) where
         low = λ l. rw (w .stamps) (stamped-low (k + 1) (n .stamps) (b .records) (λ j. omega (arith, low j)) l);
       }
 
--- the same of a slot as the code has it
+-- the same of a slot as the code has it; t is what its records were taken with
 pub slot-taken : {b : List ℕ} → FormFacts b → (q : ℕ) → q < length (bookOf b .slots) → {r : read.Slot}
-    → SlotIs (slotAt (bookOf b .slots) q) r → {n n′ : Notes} {good : Bool} {u d : ℕ}
-    → length (n .stamps) ≡ rowSize → ((l : ℕ) → getD (n .stamps) l 0 ≤ q) → u ≡ retentionOf (bookOf b) (r .volume) → d ≡ bookOf b .day
-    → RecordsTaken (bookOf b) (record
-    { volume = r .volume; until = r .day + u; past = ltb (r .day + u) d; stamp = q + 1 }) (slice (r .first)
-    (r .first + r .number) (bookOf b .records)) good n n′
+    → SlotIs (slotAt (bookOf b .slots) q) r → {n n′ : Notes} {good : Bool} {t : Taking}
+    → length (n .stamps) ≡ rowSize → ((l : ℕ) → getD (n .stamps) l 0 ≤ q)
+    → RecordsTaken (bookOf b) t (slice (r .first) (r .first + r .number) (bookOf b .records)) good n n′
+    → t .volume ≡ r .volume → t .until ≡ dueIn (bookOf b) (backupAt (bookOf b) q)
+    → t .past ≡ ltb (dueIn (bookOf b) (backupAt (bookOf b) q)) (bookOf b .day) → t .stamp ≡ q + 1
     → SlotTaken (bookOf b) (backupAt (bookOf b) q) (q + 1) good n n′
-slot-taken {b} f q h {r} i long low eu ed w =
+slot-taken {b} f q h {r} i {t = t} long low w v u past stamp =
     let x = bookOf b in
-    let ok : all (recOk (x .sizes)) (slice (r .first) (r .first + r .number) (x .records)) ≡ true =
-    all-drop (recOk (x .sizes)) (r .first) (take (r .first + r .number) (x .records))
-    (all-take (recOk (x .sizes)) (r .first + r .number) (x .records) (f .parts .records))
+    let volume : t .volume ≡ backupAt x q .volume = v ∙ i .volume ∙ sym (volume-at x q) in
+    let records = records-read (f .holds) (f .parts) q h i in
+    let ok : all (recOk (x .sizes)) (backupAt x q .records) ≡ true =
+    rw records (all-drop (recOk (x .sizes)) (r .first) (take (r .first + r .number) (x .records))
+    (all-take (recOk (x .sizes)) (r .first + r .number) (x .records) (f .parts .records)))
     in
-    rw (backup-read f q h i) (taken-slot x (readBackup (x .records) (backupAt x q .prev) r) q refl (f .holds .l) long low ok (rw (eu, ed) at w))
+    let same : t ≡ record {
+      volume = backupAt x q .volume;
+      until = dueIn x (backupAt x q);
+      past = ltb (dueIn x (backupAt x q)) (x .day);
+      stamp = q + 1;
+    } =
+    λ j. record { volume = volume j; until = u j; past = past j; stamp = stamp j }
+    in
+    taken-slot x (backupAt x q) q refl (f .holds .l) long low ok (rw (same, ← records) at w)
 
 -- ---- the whole journal
 
@@ -111,9 +118,7 @@ module _ (x : Book) (c₀ e₀ : List ℕ) where
             (ap (λ (f : Bool). good && f) (and-swap same befores (takenSound x b) (all (takenSound x) rest))
             ∙ sym (and-assoc good (same && takenSound x b) (befores && all (takenSound x) rest)));
         cells = w .cells ∙ rw (e, s .cells);
-        expiries =
-            raising-more (untilEach (dueOf (retentionOf x (b .volume)) b) (b .records)) (λ p. untilIn x p rest)
-            (until-next x b rest e refl) (s .expiries) (w .expiries);
+        expiries = raising-slot x q h (s .expiries) (w .expiries);
         long = s .long;
         low = s .low;
       }
@@ -122,4 +127,4 @@ module _ (x : Book) (c₀ e₀ : List ℕ) where
       → JournalTaken x good c₀ e₀ (n .cells) (n .expiries)
   slots-end {good} q h w =
       let z = journal-end x q h in
-      record { test = sym (w .test ∙ rw z (and-yes good)); cells = sym (w .cells ∙ rw z); expiries = raising-end (λ p. rw z) (w .expiries) }
+      record { test = sym (w .test ∙ rw z (and-yes good)); cells = sym (w .cells ∙ rw z); expiries = raising-journal x q h (w .expiries) }

@@ -8,7 +8,7 @@ use lib.Dec.{eqb}
 use lib.ListN.{getD, set}
 use Rattle.book.specs.Book.{Rec, Book}
 use Rattle.model.specs.Audit.{cellSound}
-use Rattle.replay.specs.Expiries.{Raised, untilOne, untilEach}
+use Rattle.due.specs.Expiries.{Raised, untilOne, untilEach}
 use Rattle.replay.specs.Stamps.{firstsSound, stamped}
 use Rattle.replay.specs.Table.{rowSize, cellsAfter, cellsBefore}
 use Rattle.replay.specs.declared.records.Taking.{Taking}

@@ -5,11 +5,12 @@ use mathlib.Core.Bool.{Bool, _&&_}
 use mathlib.Core.List.{List}
 use lib.ListN.{length, getD}
 use Rattle.words.specs.Lists.{all}
-use Rattle.book.specs.Book.{Book, retentionOf}
-use Rattle.model.specs.Audit.{dueOf, untilIn}
+use Rattle.book.specs.Book.{Book}
+use Rattle.model.specs.Audit.{untilIn}
 use Rattle.model.specs.Journal.{Backup, journal}
 use Rattle.model.specs.JournalAt.{takenSound}
-use Rattle.replay.specs.Expiries.{Raised, untilEach}
+use Rattle.due.specs.Expiries.{Raised, untilEach}
+use Rattle.due.specs.Lasts.{dueIn}
 use Rattle.replay.specs.Records.{Notes}
 use Rattle.replay.specs.Table.{rowSize, cellsAfter, cellsBefore, tableAfter, tableBefores}
 
@@ -17,7 +18,7 @@ use Rattle.replay.specs.Table.{rowSize, cellsAfter, cellsBefore, tableAf
 pub record SlotTaken (x : Book) (b : Backup) (k : ℕ) (good : Bool) (n n′ : Notes) : Type 0 where
   pub test : good ≡ (cellsBefore (b .volume * rowSize) (n .cells) (b .records) && takenSound x b)
   pub cells : n′ .cells ≡ cellsAfter (b .volume * rowSize) (n .cells) (b .records)
-  pub expiries : Raised (n .expiries) (untilEach (dueOf (retentionOf x (b .volume)) b) (b .records)) (n′ .expiries)
+  pub expiries : Raised (n .expiries) (untilEach (dueIn x b) (b .records)) (n′ .expiries)
   pub long : length (n′ .stamps) ≡ rowSize
   pub low : (l : ℕ) → getD (n′ .stamps) l 0 ≤ k
 

@@ -1,23 +1,11 @@
 -- Records replayed in one table of all cells: the cell of volume v at an LBN stands at v * 1024 + LBN.
 use Prim.Native.Nat.{ℕ, _+_, _*_}
-use mathlib.Core.Path.{_≡_}
 use mathlib.Core.Bool.{Bool, true, _&&_}
 use mathlib.Core.List.{List, [], _∷_}
 use lib.Dec.{eqb}
-use lib.ListN.{length, getD, set}
+use lib.ListN.{getD, set}
 use Rattle.book.specs.Book.{Rec}
 use Rattle.model.specs.Journal.{Backup}
-
--- the most blocks that a pool has
-abbrev pub poolBlocks : ℕ
-poolBlocks = 4096
-
--- a number for each of them
-abbrev pub OfPool : List ℕ → Type 0
-OfPool a = length a ≡ poolBlocks
-
-abbrev pub numberAt : List ℕ → ℕ → ℕ
-numberAt a p = getD a p 0
 
 -- the cells of a volume
 abbrev pub rowSize : ℕ

@@ -1,19 +1,14 @@
-// What audit notes of one record: the cell that it leaves, how long the block before is kept for, and that its LBN was
-// met.
+// What audit notes of one record: the cell that it leaves, and that its LBN was met.
 ghost use mathlib.Core.Path.{_≡_};
 ghost use Prim.Native.Nat.{_+_, _*_, _<_};
 ghost use lib.Dec.{eqb};
 ghost use lib.ListN.{getD, set};
 ghost use Rattle.book.specs.Book.{volumes};
-ghost use Rattle.replay.specs.Expiries.{Raised, untilOne};
-ghost use Rattle.replay.specs.Table.{rowSize, OfPool};
+ghost use Rattle.replay.specs.Table.{rowSize};
 use fields::offsets::VOLUMES;
 use journal::record::Record;
 use words::LBN;
-use words::PBN;
-use words::limits::MAX_BLOCKS;
 use words::limits::MAX_LBNS;
-use words::limits::Table;
 
 // The cells of all maps, a row for each volume.
 pub const CELLS: usize = VOLUMES * MAX_LBNS;
@@ -33,21 +28,6 @@ pub fn replace(cells: &mut Cells, v: u16, change: Record) -> bool
     let same = cells[at] == change.before.0;
     cells[at] = change.after.0;
     same
-}
-
-// The block's expiry becomes the larger of itself and `until`; unmapped has none.
-pub fn raise(expiries: &mut Table, p: PBN, until: u16)
-    requires { ⌜ OfPool (now expiries) ⌝ }
-    ensures { λ _. ⌜ Raised (now (expiries .entry)) (untilOne until (p .0)) (now (expiries .exit)) ⌝ }
-{
-    let at = p.0 as usize;
-    if at >= MAX_BLOCKS {
-        return;
-    }
-    if until <= expiries[at] {
-        return;
-    }
-    expiries[at] = until;
 }
 
 // Whether the LBN had the stamp. It has it now.

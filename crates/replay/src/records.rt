@@ -3,24 +3,28 @@
 // the first record of each LBN, a before that is unmapped or held.
 ghost use mathlib.Core.Path.{_≡_};
 ghost use mathlib.Core.Logic.{_⊎_};
-ghost use Prim.Native.Nat.{ℕ, _≤_, _<_};
+ghost use Prim.Native.Nat.{ℕ, _+_, _≤_, _<_};
 ghost use lib.ListN.{length, getD};
 ghost use Rattle.words.specs.Blocks.{unmapped};
 ghost use Rattle.book.specs.Book.{volumes};
 ghost use Rattle.book.specs.Layout.{told};
 ghost use Rattle.book.specs.FormFacts.{FormFacts};
 ghost use Rattle.model.specs.Audit.{cellSound};
+ghost use Rattle.due.specs.Lasts.{LastsAre};
+ghost use Rattle.due.specs.Pool.{OfPool};
 ghost use Rattle.replay.specs.Taking.{TakesRecord, TakesRecords, TakesSlot, TakesJournal};
-ghost use Rattle.replay.specs.Table.{rowSize, OfPool};
+ghost use Rattle.replay.specs.Table.{rowSize};
 use super::notes::Cells;
 use super::notes::Stamps;
 use super::notes::meet;
-use super::notes::raise;
 use super::notes::replace;
+use due::expiries::raise;
+use due::lasts::Lasts;
+use due::lasts::due_day;
 use entries::entry::is_held;
 use fields::header;
-use fields::header::retention;
 use fields::header::used_slots;
+use fields::offsets::VOLUMES;
 use journal::record::record_at;
 use journal::slot::slot_at;
 use words::PBN;
@@ -98,16 +102,18 @@ fn take_slot(
     cells: &mut Cells,
     expiries: &mut Table,
     stamps: &mut Stamps,
+    lasts: &mut Lasts,
     q: u16,
 ) -> bool
     requires { ⌜ FormFacts (now book) ⌝ }
-    requires { ⌜ (q < length (told book .slots)) × OfPool (now expiries) ⌝ }
+    requires { ⌜ (q < length (told book .slots)) × OfPool (now expiries) × LastsAre (told book) q (now lasts) ⌝ }
     requires { ⌜ (length (now stamps) ≡ rowSize) × ((l : ℕ) → getD (now stamps) l 0 ≤ q) ⌝ }
     ensures { λ r. ⌜ TakesSlot book cells expiries stamps q r ⌝ }
+    ensures { λ _. ⌜ LastsAre (told (book .entry)) (q + 1) (now (lasts .exit)) ⌝ }
 {
     let slot = slot_at(book, q);
     let volume = slot.volume;
-    let until = slot.day + retention(book, volume);
+    let until = due_day(book, lasts, q);
     let past = until < header::day(book);
     let stamp = q + 1;
     let end = slot.first + slot.number;
@@ -127,11 +133,12 @@ pub fn take_journal(book: &[u8], cells: &mut Cells, expiries: &mut Table) -> boo
     ensures { λ r. ⌜ TakesJournal book cells expiries r ⌝ }
 {
     let mut stamps = [0u16; MAX_LBNS];
+    let mut lasts = [0u16; VOLUMES];
     let used = used_slots(book);
     let mut good = true;
     let mut q = 0;
     while q < used {
-        let taken = take_slot(book, cells, expiries, &mut stamps, q);
+        let taken = take_slot(book, cells, expiries, &mut stamps, &mut lasts, q);
         good = good & taken;
         q += 1;
     }

@@ -15,10 +15,11 @@ use engine::read::read_number;
 use words::LBN;
 use words::refusals;
 
-// Backup k is the volume's newest, or the days since the next one aren't over.
+// Backup k is the volume's newest, or the days since it was taken aren't over.
 fn is_kept(sent: &[u16; SENT], v: u16, k: u16, today: u16) -> bool {
+    let taken = sent::day(sent, v, k);
     let next = sent::day(sent, v, k % ROWS + 1);
-    (next == 0) | (today as u32 <= next as u32 + retention(v) as u32)
+    (next == 0) | (today as u32 <= taken as u32 + retention(v) as u32)
 }
 
 // The number that a read should give.

@@ -28,6 +28,7 @@ const GIVES: [&[usize]; NAMES.len()] = [
     &[0, 19, 20],
     &[0, 1, 2, 4],
     &[0, 1, 2, 4, 22],
+    &[0, 1, 2, 4],
 ];
 
 /// The calls of lists among the names.

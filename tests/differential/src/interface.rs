@@ -2,9 +2,10 @@
 
 use reference_c::{
     reference_audit, reference_backup, reference_backups, reference_blocks, reference_cells,
-    reference_collect, reference_convert_1_2, reference_convert_2_1, reference_count,
-    reference_enrol, reference_form, reference_format, reference_play, reference_read,
-    reference_restore, reference_sizes, reference_used, reference_volume, reference_write_list,
+    reference_collect, reference_convert_1_2, reference_convert_2_1, reference_convert_2_3,
+    reference_count, reference_enrol, reference_form, reference_format, reference_play,
+    reference_read, reference_restore, reference_sizes, reference_used, reference_volume,
+    reference_write_list,
 };
 
 type Format = unsafe extern "C" fn(*mut u8, usize, u16, u16, u16, u16) -> u16;
@@ -95,6 +96,7 @@ pub struct Interface {
     pub write_list: WriteList,
     pub convert_1_2: Convert,
     pub convert_2_1: Convert,
+    pub convert_2_3: Convert,
 }
 
 mod archive {
@@ -214,6 +216,7 @@ mod archive {
         ) -> u16;
         pub fn aspen_convert_1_2(book: *const u8, len: usize, out: *mut u8, out_len: usize) -> u16;
         pub fn aspen_convert_2_1(book: *const u8, len: usize, out: *mut u8, out_len: usize) -> u16;
+        pub fn aspen_convert_2_3(book: *const u8, len: usize, out: *mut u8, out_len: usize) -> u16;
     }
 }
 
@@ -237,6 +240,7 @@ pub const ARCHIVE: Interface = Interface {
     write_list: archive::aspen_write_list,
     convert_1_2: archive::aspen_convert_1_2,
     convert_2_1: archive::aspen_convert_2_1,
+    convert_2_3: archive::aspen_convert_2_3,
 };
 
 pub const REFERENCE: Interface = Interface {
@@ -259,4 +263,5 @@ pub const REFERENCE: Interface = Interface {
     write_list: reference_write_list,
     convert_1_2: reference_convert_1_2,
     convert_2_1: reference_convert_2_1,
+    convert_2_3: reference_convert_2_3,
 };

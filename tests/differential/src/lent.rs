@@ -176,6 +176,7 @@ impl Lent {
         let convert = match way {
             Way::OneToTwo => side.convert_1_2,
             Way::TwoToOne => side.convert_2_1,
+            Way::TwoToThree => side.convert_2_3,
         };
         // SAFETY: the buffers are apart and as long as said.
         unsafe { convert(book.0, book.1, out.0, out.1) }

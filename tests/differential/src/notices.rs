@@ -4,6 +4,7 @@ use std::slice::from_raw_parts_mut;
 
 use reference::call::{Call, Stored};
 use reference::cases;
+use reference::layout_2;
 use reference::play::encode;
 use reference::prng::Prng;
 use reference::store::{Run, Way};
@@ -48,11 +49,11 @@ fn compared_run(archive: &Interface, room: usize) -> Result<(), String> {
     sent(archive, Request::Restore(restoring))
 }
 
-/// And of its book in layout 1 in an output of so many bytes.
-fn compared_book(archive: &Interface, room: usize) -> Result<(), String> {
+/// And of its book in layout 2, converted into an output of so many bytes.
+fn compared_book(archive: &Interface, way: Way, room: usize) -> Result<(), String> {
     let converting = &Converting {
-        book: &cases::after_d().book,
-        way: Way::TwoToOne,
+        book: &layout_2::after_d().book,
+        way,
         output: vec![7; room],
     };
     sent(archive, Request::Convert(converting))
@@ -290,21 +291,49 @@ unsafe extern "C" fn converts_more(
 
 #[test]
 fn a_book_that_is_written_elsewhere_is_noticed() {
+    let compared = |archive: &Interface, room| compared_book(archive, Way::TwoToOne, room);
     for room in [275, 276, 277] {
-        assert_eq!(compared_book(&REFERENCE, room), Ok(()));
+        assert_eq!(compared(&REFERENCE, room), Ok(()));
     }
     let first = Interface {
         convert_2_1: converts_first,
         ..REFERENCE
     };
-    assert_eq!(compared_book(&first, 276), Ok(()));
-    assert!(compared_book(&first, 275).is_err());
+    assert_eq!(compared(&first, 276), Ok(()));
+    assert!(compared(&first, 275).is_err());
     let more = Interface {
         convert_2_1: converts_more,
         ..REFERENCE
     };
-    assert_eq!(compared_book(&more, 276), Ok(()));
-    assert!(compared_book(&more, 277).is_err());
+    assert_eq!(compared(&more, 276), Ok(()));
+    assert!(compared(&more, 277).is_err());
+}
+
+/// Writes layout 3, with the expiries that it was given.
+unsafe extern "C" fn converts_the_number_alone(
+    book: *const u8,
+    length: usize,
+    out: *mut u8,
+    out_len: usize,
+) -> u16 {
+    let number = (REFERENCE.convert_2_3)(book, length, out, out_len);
+    if number == 0 {
+        std::ptr::copy_nonoverlapping(book.add(2), out.add(2), length - 2);
+    }
+    number
+}
+
+#[test]
+fn an_expiry_that_stays_is_noticed() {
+    let compared = |archive: &Interface, room| compared_book(archive, Way::TwoToThree, room);
+    let archive = Interface {
+        convert_2_3: converts_the_number_alone,
+        ..REFERENCE
+    };
+    for room in [279, 280, 281] {
+        assert_eq!(compared(&REFERENCE, room), Ok(()));
+        assert_eq!(compared(&archive, room).is_err(), room >= 280);
+    }
 }
 
 /// Collects, and then plays the list if there is room for it.
@@ -388,4 +417,5 @@ fn what_never_came_is_missing() {
     assert!(missing.contains(&"audit 2 in a list".into()));
     assert!(missing.contains(&"restore 21 in a list".into()));
     assert!(missing.contains(&"convert_2_1 22".into()));
+    assert!(missing.contains(&"convert_2_3 4".into()));
 }

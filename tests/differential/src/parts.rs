@@ -3,6 +3,7 @@
 mod books;
 mod converts;
 mod counts;
+mod days;
 mod faults;
 mod formats;
 mod lengths;
@@ -10,6 +11,7 @@ mod play;
 mod restores;
 mod runs;
 mod tested;
+mod upgrades;
 mod views;
 mod writer;
 
@@ -45,6 +47,12 @@ pub fn check() -> Vec<Job> {
             quick.extend(runs::jobs(shape, seed..seed + 1));
         }
     }
+    let mut upgraded = upgrades::jobs(Shape::AnySizes, 0..10);
+    for seed in 0..30 {
+        for shape in Shape::QUICK {
+            upgraded.extend(upgrades::jobs(shape, seed..seed + 1));
+        }
+    }
     for seed in 0..40 {
         for shape in Shape::QUICK {
             lists.extend(play::jobs(shape, seed..seed + 1));
@@ -58,6 +66,8 @@ pub fn check() -> Vec<Job> {
         runs::jobs(Shape::AnySizes, 0..40),
         runs::jobs(Shape::LongLists, 0..12),
         runs::jobs(Shape::Largest, 0..4),
+        upgraded,
+        upgrades::jobs(Shape::Largest, 0..1),
         formats::jobs(0..2_000),
         writer::jobs(0..10_000),
         books::vectors(),
@@ -65,7 +75,8 @@ pub fn check() -> Vec<Job> {
         lengths::jobs(),
         faults::jobs(),
     ];
-    mixed(parts.into(), counts::jobs())
+    let soon = [counts::jobs(), days::jobs()];
+    mixed(parts.into(), soon.into_iter().flatten().collect())
 }
 
 /// Where jobs of a few calls stand: some runs come before them.
@@ -101,6 +112,7 @@ pub fn more(index: u64) -> Vec<Job> {
         27..=35 => play::jobs(quick, seeds),
         36..=41 => runs::jobs(Shape::Pieces, seeds),
         42 => play::jobs(Shape::Pieces, seeds),
+        43..=49 => upgrades::jobs(quick, seeds),
         _ => runs::jobs(quick, seeds),
     }
 }

@@ -62,7 +62,7 @@ pub enum Request<'a> {
 }
 
 /// The names of the calls, in the order of the coverage table.
-pub const NAMES: [&str; 19] = [
+pub const NAMES: [&str; 20] = [
     "format",
     "enrol",
     "backup",
@@ -82,6 +82,7 @@ pub const NAMES: [&str; 19] = [
     "write_list",
     "convert_1_2",
     "convert_2_1",
+    "convert_2_3",
 ];
 
 pub fn call_name(call: &Call) -> &'static str {
@@ -131,6 +132,7 @@ impl<'a> Request<'a> {
             Request::Convert(converting) => match converting.way {
                 Way::OneToTwo => "convert_1_2",
                 Way::TwoToOne => "convert_2_1",
+                Way::TwoToThree => "convert_2_3",
             },
         }
     }

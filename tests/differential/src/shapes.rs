@@ -1,12 +1,16 @@
 //! What the calls that were compared came upon, each with a count: a shape that never came is a
 //! hole in the tests.
 
+mod afresh;
+mod audit;
 mod backup;
 mod buffers;
 mod convert;
+mod days;
 mod lists;
 mod others;
 mod play;
+mod replaced;
 mod restore;
 mod views;
 mod writer;
@@ -57,6 +61,7 @@ impl Shapes {
                 match converting.way {
                     Way::OneToTwo => self.count("convert_1_2", converted.longer_shapes()),
                     Way::TwoToOne => self.count("convert_2_1", converted.shorter_shapes()),
+                    Way::TwoToThree => self.note_afresh(&converted, seen),
                 }
             }
             Request::WriteList(input) => {
@@ -78,13 +83,23 @@ impl Shapes {
         }
     }
 
+    fn note_afresh(&mut self, converted: &convert::Converted, seen: &Seen) {
+        self.count("convert_2_3", converted.other_layout_shapes());
+        if seen.number == 0 {
+            let afresh = afresh::Afresh::new(converted.book, seen.content(1));
+            self.count("convert_2_3", afresh.expiry_shapes());
+            self.count("convert_2_3", afresh.journal_shapes());
+            self.count("convert_2_3", afresh.kept_shapes());
+        }
+    }
+
     fn note_restore(&mut self, restoring: &Restoring, seen: &Seen) {
         self.count("restore", restore::refused_early(restoring, seen.number));
         if !matches!(seen.number, 1..=5) {
             let restored = restore::Restored::new(restoring, seen.number);
             self.count("restore", restored.run_shapes());
             self.count("restore", restored.found_shapes());
-            self.count("restore", restored.kept_shapes());
+            self.count("restore", restored.day_shapes());
             self.count("restore", restored.refused_shapes());
             self.count("restore", restored.room_shapes());
             self.count("restore", restored.unmapped_shapes());
@@ -121,6 +136,8 @@ impl Shapes {
                 self.count("backup", backup.change_shapes());
                 self.count("backup", backup.count_shapes());
                 self.count("backup", backup.accepted_shapes());
+                self.count("backup", backup.replaced().expiry_shapes());
+                self.count("backup", backup.replaced().previous_shapes());
                 self.count("backup", backup.list_shapes());
                 self.count("backup", backup.refused_shapes(pool));
             }
@@ -134,11 +151,12 @@ impl Shapes {
             } => {
                 let read = others::Read::new(book, *volume, *number, *lbn);
                 self.count("read", read.shapes(seen.number));
+                self.count("read", read.day_shapes(seen.number));
             }
             Call::Enrol { volume, retention } => {
                 self.count("enrol", others::enrol(*volume, *retention, seen.number));
             }
-            Call::Audit => self.count("audit", others::audit(book)),
+            Call::Audit => self.count("audit", audit::shapes(book)),
             Call::Restore(_) => unreachable!("a restore is sent with its output"),
         }
     }

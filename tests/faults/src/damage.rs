@@ -8,6 +8,7 @@ use std::os::unix::fs::MetadataExt;
 use std::path::Path;
 
 use reference::form;
+use reference::layout::LAYOUT;
 use reference::store;
 
 use crate::bench::{or_complain, Bench};
@@ -44,6 +45,8 @@ enum Wanted {
 enum Verdict {
     /// The book is out of form, by this number.
     Refused(u16),
+    /// It is in form in the layout before today's, which one bit of the layout number makes of it.
+    Older,
     /// It is in form, and something else is wrong with it.
     Faulty,
     Sound,
@@ -57,7 +60,7 @@ struct Line {
     takes_pool: bool,
 }
 
-const UPGRADE: Line = line("upgrade box", true, false);
+const UPGRADE: Line = line("upgrade box --force", true, false);
 const WRITERS: [Line; 5] = [
     line("enrol box 2 --keep 3", true, false),
     line("collect box --day-number 300 --ahead", true, false),
@@ -103,7 +106,7 @@ pub fn cases(whole: &Tree, all: bool) -> Vec<Case> {
     let mut cases = Cases(Vec::new());
     cases.add_changed_books(whole, all, |_| true);
     cases.add_changed_books(&made_first(whole), all, |verdict| {
-        !matches!(verdict, Verdict::Refused(_))
+        !matches!(verdict, Verdict::Refused(_) | Verdict::Older)
     });
     cases.add_books_of_other_lengths(whole);
     cases.add_books_of_others(whole);
@@ -147,7 +150,10 @@ fn verdict(tree: &Tree) -> Verdict {
     let parts = sealed::open(file(tree, BOOK));
     let lines = file(tree, LOCK).iter().filter(|&&byte| byte == b'\n');
     if let Err(refusal) = form::check(parts.book) {
-        return Verdict::Refused(refusal.number());
+        return match form::check_in(LAYOUT - 1, parts.book) {
+            Ok(_) => Verdict::Older,
+            Err(_) => Verdict::Refused(refusal.number()),
+        };
     }
     let sealed = match &parts.seal {
         Some(seal) => seal.fits,
@@ -184,6 +190,7 @@ impl Cases {
     fn add_judged(&mut self, what: &str, tree: &Tree, line: Line) {
         let wanted = match verdict(tree) {
             Verdict::Refused(number) => Wanted::Told(format!("refused {number}:")),
+            Verdict::Older => Wanted::Told("box/book is damaged: ".into()),
             Verdict::Faulty if line.writes => Wanted::Told("box/book is damaged: ".into()),
             Verdict::Faulty => Wanted::Warned,
             Verdict::Sound if line.writes => return,

@@ -20,6 +20,7 @@ mod first;
 mod heal;
 mod judge;
 mod level;
+mod older;
 mod parts;
 mod played;
 mod power;

@@ -368,7 +368,7 @@ impl Stage {
             |bench, case| upgrade::try_cuts(bench, case, self.level.bounds),
         );
         let words = format!(
-            "stores of layout 1: {} faults and {} states after power cuts in {} upgrades",
+            "stores of older layouts: {} faults and {} states after power cuts in {} upgrades",
             faults.faults,
             cuts.states,
             upgrades.len()

@@ -234,7 +234,7 @@ impl Story {
         };
         Story(vec![
             Command::Format,
-            Command::Enrol { volume: 0, keep: 2 },
+            Command::Enrol { volume: 0, keep: 7 },
             Command::Enrol { volume: 1, keep: 4 },
             backup(0, 1, "ABC"),
             backup(1, 2, "BCBD"),

@@ -1,8 +1,6 @@
-//! Stores of layout 1, which the command upgrade brings to today's. Whatever goes wrong, the book is
-//! the old one or the new one, bit for bit; the old one is there until the new one is so for good;
-//! and the same command, given again, ends well.
-
-use reference::store::{convert, Way};
+//! Stores of older layouts, which the command upgrade brings to today's. Whatever goes wrong, the
+//! book is the old one or the new one, bit for bit; the old one is there until the new one is so for
+//! good; and the same command, given again, ends well.
 
 use crate::bench::Bench;
 use crate::calls::Logged;
@@ -11,6 +9,7 @@ use crate::disk::Disk;
 use crate::fault::{Fault, How};
 use crate::first::made_first;
 use crate::judge::{BOOK, LOCK, POOL};
+use crate::older::{ends_one, store_in, LAYOUTS};
 use crate::played::Scene;
 use crate::program::{status, Ended};
 use crate::sealed;
@@ -18,13 +17,18 @@ use crate::story::{Standing, STORE};
 use crate::sweep;
 use crate::tree::Tree;
 
-/// Where the old book is kept, and where a new file is written.
-const KEPT: &str = "box/book.1";
+/// Where a new file is written.
 const WRITTEN: &str = "box/book.new";
 
-/// A store of layout 1, and what upgrade makes of it.
+/// The command, and as it has to be given where backups end by it.
+const UNFORCED: &str = "upgrade box";
+const LINE: &str = "upgrade box --force";
+
+/// A store of an older layout, and what upgrade makes of it.
 pub struct Upgrade {
     what: String,
+    /// Where the old book is kept.
+    kept: String,
     old: Tree,
     new: Tree,
     standing: Standing,
@@ -41,8 +45,8 @@ enum Book {
     New,
 }
 
-/// The store after the story's last command, with a seal and as the first version had it; where
-/// `all` are wanted, the stores after every command.
+/// The store after the story's last command in each older layout, and in layout 1 also as the first
+/// version had it, without a seal; where `all` are wanted, the stores after every command.
 pub fn upgrades(bench: &Bench, scenes: &[Scene], all: bool) -> Result<Vec<Upgrade>, String> {
     let mut upgrades = Vec::new();
     for (at, scene) in scenes.iter().enumerate() {
@@ -51,16 +55,16 @@ pub fn upgrades(bench: &Bench, scenes: &[Scene], all: bool) -> Result<Vec<Upgrad
         }
         let standing = bench.judge.story().standing(at + 1);
         let after = &scene.after;
-        let (sealed, first) = (made_old(after), made_first(&made_old(after)));
+        let first = made_first(&store_in(1, after));
         let resealed = without_lengths(after, &first);
-        for (old, new, lengths, kind) in [
-            (sealed, after.clone(), true, "store"),
-            (first, resealed, false, "first store"),
-        ] {
-            bench.store(&old)?;
+        let sealed = LAYOUTS.map(|layout| (layout, store_in(layout, after), after.clone(), true));
+        for (layout, old, new, lengths) in sealed.into_iter().chain([(1, first, resealed, false)]) {
+            let kind = if lengths { "store" } else { "first store" };
+            let what = format!("upgrade of the {kind} of layout {layout} after the");
             upgrades.push(Upgrade {
-                what: format!("upgrade of the {kind} after the {}", scene.command),
-                calls: bench.ask(LINE)?.calls,
+                what: format!("{what} {}", scene.command),
+                kept: format!("box/book.{layout}"),
+                calls: calls_of(bench, &old, &new)?,
                 old,
                 new,
                 standing,
@@ -71,21 +75,28 @@ pub fn upgrades(bench: &Bench, scenes: &[Scene], all: bool) -> Result<Vec<Upgrad
     Ok(upgrades)
 }
 
-const LINE: &str = "upgrade box";
+/// The calls of an upgrade. Where a backup ends by it, it has to be forced, and else nothing is
+/// written.
+fn calls_of(bench: &Bench, old: &Tree, new: &Tree) -> Result<Vec<Logged>, String> {
+    let ends = ends_one(sealed::open(file(new, BOOK)).book);
+    let (wanted, left) = match ends {
+        true => (status::USAGE, old),
+        false => (status::DONE, new),
+    };
+    bench.store(old)?;
+    let unforced = bench.ask(UNFORCED)?;
+    if unforced.status != Some(wanted) || bench.load()? != *left {
+        return Err(format!(
+            "upgrade without --force ends with {}",
+            unforced.words()
+        ));
+    }
+    bench.store(old)?;
+    Ok(bench.ask(LINE)?.calls)
+}
 
 fn file<'a>(tree: &'a Tree, name: &str) -> &'a [u8] {
     tree.file(name).expect("a whole store has this file")
-}
-
-/// The store with its book in layout 1.
-pub fn made_old(whole: &Tree) -> Tree {
-    let parts = sealed::open(file(whole, BOOK));
-    let id = parts.seal.as_ref().expect("a sealed book").id;
-    let mut book = vec![0; Way::TwoToOne.output_bytes(parts.book)];
-    convert(Way::TwoToOne, parts.book, &mut book).expect("a story has small counts");
-    let mut tree = whole.clone();
-    tree.put(BOOK, sealed::make(&book, &parts.lengths, id));
-    tree
 }
 
 /// The store of the first version once its book is sealed: no length was noted.
@@ -105,7 +116,7 @@ impl Upgrade {
                 return Err(format!("{name} was changed"));
             }
         }
-        let kept = tree.file(KEPT);
+        let kept = tree.file(&self.kept);
         if kept.is_some() && kept != self.old.file(BOOK) {
             return Err("what is kept isn't the old book".into());
         }
@@ -117,7 +128,7 @@ impl Upgrade {
     }
 
     fn has_old(&self, tree: &Tree) -> bool {
-        [BOOK, KEPT]
+        [BOOK, &self.kept]
             .iter()
             .any(|name| tree.file(name) == self.old.file(BOOK))
     }
@@ -228,8 +239,9 @@ fn nothing_left(case: &Case, ended: &Ended, book: Book, tree: &Tree) -> Result<(
     if tree.file(WRITTEN).is_some() && !may_leave {
         return Err(format!("{WRITTEN} is left"));
     }
-    if tree.file(KEPT).is_some() && !may_leave && !unsure && case.call != "unlink" {
-        return Err(format!("{KEPT} is left"));
+    let kept = &case.upgrade.kept;
+    if tree.file(kept).is_some() && !may_leave && !unsure && case.call != "unlink" {
+        return Err(format!("{kept} is left"));
     }
     Ok(())
 }

@@ -1,6 +1,7 @@
-/* aspen_convert_1_2 and aspen_convert_2_1, both of them on any book, and back again. An odd first
- * number asks for the book in layout 1. The spare stands for the output: it is as long as the book
- * to write, and as much longer as the control says. */
+/* aspen_convert_1_2, aspen_convert_2_1 and aspen_convert_2_3, all of them on any book; what the first
+ * two write goes back again. The first number asks for a layout: a multiple of 4 for layout 2, one
+ * more for layout 1, others leave the book as it is. The spare stands for the output: it is as long
+ * as the book to write, and as much longer as the control says. */
 #include "../fuzz.h"
 
 #include <stdio.h>
@@ -19,15 +20,18 @@ struct way {
 
 static const struct way to_2 = { aspen_convert_1_2, reference_convert_1_2, 2 };
 static const struct way to_1 = { aspen_convert_2_1, reference_convert_2_1, 1 };
+static const struct way to_3 = { aspen_convert_2_3, reference_convert_2_3, 3 };
 
-/* How many books were written in each layout, and how many not, by 4 and by 22; printed at the
- * end. */
-static unsigned long written[3], no_room, wide;
+enum { ENTRIES = 36, ENTRY = 21, EXPIRY = 3 };
+
+/* How many books were written in each layout, with how many expiries that weren't as given, and how
+ * many not, by 4 and by 22; printed at the end. */
+static unsigned long written[4], moved, no_room, wide;
 
 static void print_books(void)
 {
-    fprintf(stderr, "books: 1_2=%lu 2_1=%lu 4=%lu 22=%lu\n", written[2], written[1], no_room,
-            wide);
+    fprintf(stderr, "books: 1_2=%lu 2_1=%lu 2_3=%lu moved=%lu 4=%lu 22=%lu\n", written[2],
+            written[1], written[3], moved, no_room, wide);
 }
 
 static void note_book(uint16_t number, uint16_t to)
@@ -49,10 +53,16 @@ static uint16_t call(convert_call *convert, struct side *side)
     return convert(book->bytes, book->length, out->bytes, out->length);
 }
 
+/* Today's layout number becomes that of layout 2, whose books are as long. */
+static void make_older(struct buffer *book)
+{
+    if (aspen_layout(book->bytes, book->length) == ASPEN_LAYOUT)
+        book->bytes[0] = 2;
+}
+
 /* Drops the high bytes of the counts, if the book is as long as its sizes ask in layout 2. */
 static void make_narrow(struct buffer *book)
 {
-    enum { ENTRIES = 36, ENTRY = 21 };
     size_t blocks = book->length < ENTRIES ? 0 : aspen_u16(book->bytes + 2), i;
     size_t length = aspen_converted_size(2, book->bytes, book->length);
     uint8_t *to = book->bytes + ENTRIES;
@@ -116,6 +126,35 @@ static void check_back(const struct way *back, const struct buffer *other,
     buffer_free(&out);
 }
 
+/* In layout 3 the book is in form, and every byte is as given but the number and the expiries. */
+static void check_afresh(const struct buffer *other, const struct buffer *book)
+{
+    struct buffer rest = buffer_copy(other);
+    size_t blocks = aspen_u16(book->bytes + 2), i;
+
+    CHECK_EQ(aspen_form(other->bytes, other->length), ASPEN_OK);
+    CHECK_EQ(aspen_layout(other->bytes, other->length), 3);
+    rest.bytes[0] = book->bytes[0];
+    for (i = 0; i < blocks; i++) {
+        size_t at = ENTRIES + ENTRY * i + EXPIRY;
+
+        moved += aspen_u16(rest.bytes + at) != aspen_u16(book->bytes + at);
+        memcpy(rest.bytes + at, book->bytes + at, 2);
+    }
+    CHECK_BYTES(rest.bytes, book->bytes, book->length);
+    buffer_free(&rest);
+}
+
+/* The book in the layout that the first number asks for. */
+static void choose_layout(struct buffer *book, unsigned asked)
+{
+    if (asked % 4 <= 1)
+        make_older(book);
+    if (asked % 4 == 1)
+        make_narrow(book);
+}
+
+/* `back` is none from layout 3. */
 static void try_way(const struct way *way, const struct way *back, const uint8_t *input,
                     size_t length)
 {
@@ -123,12 +162,13 @@ static void try_way(const struct way *way, const struct way *back, const uint8_t
     struct sent sent = sent_of(input, length, 'v');
     struct buffer book, other;
 
-    if (control.number[0] % 2 == 1)
-        make_narrow(&sent.part[BOOK]);
+    choose_layout(&sent.part[BOOK], control.number[0]);
     book = buffer_copy(&sent.part[BOOK]);
     other = converted(way, &sent, control.longer[SPARE]);
-    if (other.length != 0)
+    if (other.length != 0 && back != NULL)
         check_back(back, &other, &book);
+    else if (other.length != 0)
+        check_afresh(&other, &book);
     buffer_free(&book);
     buffer_free(&other);
 }
@@ -137,5 +177,6 @@ int LLVMFuzzerTestOneInput(const uint8_t *input, size_t length)
 {
     try_way(&to_2, &to_1, input, length);
     try_way(&to_1, &to_2, input, length);
+    try_way(&to_3, NULL, input, length);
     return 0;
 }

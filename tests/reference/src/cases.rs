@@ -106,7 +106,7 @@ pub fn two_records_in_a_slot() -> Stored {
     view.set_slot(4, UNUSED_SLOT);
     view.set_header(Header::SlotsUsed, 4);
     for pbn in [Pbn(0), Pbn(2)] {
-        view.edit_entry(pbn, |entry| entry.expiry = 20);
+        view.edit_entry(pbn, |entry| entry.expiry = 15);
     }
     stored
 }

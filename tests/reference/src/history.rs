@@ -4,6 +4,7 @@ use std::rc::Rc;
 
 use crate::call::{Answer, Call};
 use crate::change_list;
+use crate::keeping::is_kept;
 use crate::layout::{Block, Lbn, BLOCK_BYTES, VOLUMES};
 use crate::refusal::{require, Refusal};
 use crate::store::Run;
@@ -117,10 +118,9 @@ impl History {
             .checked_sub(1)
             .and_then(|index| volume.backups.get(index))
             .ok_or(Refusal::Number)?;
-        if let Some((replaced, _)) = volume.backups.get(number) {
-            let last_day = u32::from(*replaced) + u32::from(volume.retention);
-            require(last_day >= u32::from(self.day), Refusal::NotKept)?;
-        }
+        let days: Vec<u16> = volume.backups.iter().map(|(day, _)| *day).collect();
+        let kept = is_kept(&days, number, volume.retention, self.day);
+        require(kept, Refusal::NotKept)?;
         Ok(image)
     }
 

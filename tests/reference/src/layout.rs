@@ -7,7 +7,7 @@ pub use book::Book;
 use std::ops::{Range, RangeInclusive};
 
 /// The layout that `format` makes and that the calls take.
-pub const LAYOUT: u16 = 2;
+pub const LAYOUT: u16 = 3;
 pub const VOLUMES: u8 = 8;
 pub const BLOCK_BYTES: usize = 512;
 pub const FINGERPRINT_BYTES: usize = 16;

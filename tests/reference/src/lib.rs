@@ -1,4 +1,4 @@
-//! The backup box written a second time, from document 01 and the header's words alone: the
+//! The backup box written a second time, from documents 01 and 02 and the header's words alone: the
 //! model that the differential tests compare with.
 
 pub mod agreement;
@@ -7,7 +7,9 @@ pub mod cases;
 pub mod change_list;
 pub mod form;
 pub mod history;
+pub mod keeping;
 pub mod layout;
+pub mod layout_2;
 pub mod plain;
 pub mod play;
 pub mod prng;

@@ -5,6 +5,7 @@ mod backup;
 use std::rc::Rc;
 
 use crate::change_list;
+use crate::keeping::{self, IsKept};
 use crate::layout::{
     Block, Fingerprint, Lbn, Pbn, Sizes, DAY_MAX, RETENTION_RANGE, UNMAPPED, VOLUMES,
 };
@@ -34,16 +35,14 @@ struct Volume {
 }
 
 impl Volume {
-    fn is_kept(&self, number: usize, day: u16) -> bool {
-        match self.backups.get(number) {
-            None => true,
-            Some((next, _)) => u32::from(*next) + u32::from(self.retention) >= u32::from(day),
-        }
+    fn days(&self) -> Vec<u16> {
+        self.backups.iter().map(|(day, _)| *day).collect()
     }
 
     /// The maps of the backups kept at `day`; the newest one is the current map.
-    fn kept_maps(&self, day: u16) -> impl Iterator<Item = &Map> {
-        let kept = move |number: &usize| self.is_kept(*number, day);
+    fn kept_maps(&self, is_kept: IsKept, day: u16) -> impl Iterator<Item = &Map> {
+        let days = self.days();
+        let kept = move |number: &usize| is_kept(&days, *number, self.retention, day);
         (1..=self.backups.len())
             .filter(kept)
             .map(|number| &self.backups[number - 1].1)
@@ -58,6 +57,7 @@ pub struct Plain {
     volumes: [Option<Volume>; VOLUMES as usize],
     /// Changes of all accepted backups so far.
     changes: usize,
+    is_kept: IsKept,
 }
 
 impl Plain {
@@ -70,7 +70,13 @@ impl Plain {
             blocks: vec![None; usize::from(sizes.blocks)],
             volumes: Default::default(),
             changes: 0,
+            is_kept: keeping::is_kept,
         }
+    }
+
+    /// From now on backups are kept by this rule; a store whose book was converted began by another.
+    pub fn keep_by(&mut self, is_kept: IsKept) {
+        self.is_kept = is_kept;
     }
 
     pub fn sizes(&self) -> Sizes {
@@ -91,13 +97,13 @@ impl Plain {
     /// A volume's retention, and the days of its backups.
     pub fn volume(&self, volume: u16) -> Result<(u16, Vec<u16>), Refusal> {
         let volume = self.enrolled(volume)?;
-        let days = volume.backups.iter().map(|(day, _)| *day);
-        Ok((volume.retention, days.collect()))
+        Ok((volume.retention, volume.days()))
     }
 
     /// Whether backup `number`, from 1, is kept at `day`.
     pub fn is_kept(&self, volume: u16, number: usize, day: u16) -> Result<bool, Refusal> {
-        Ok(self.enrolled(volume)?.is_kept(number, day))
+        let (retention, days) = self.volume(volume)?;
+        Ok((self.is_kept)(&days, number, retention, day))
     }
 
     /// The held blocks in order.
@@ -153,7 +159,8 @@ impl Plain {
     pub fn collect(&mut self, day: u16) -> Result<u16, Refusal> {
         self.check_day(day)?;
         let mut marked = vec![false; self.blocks.len()];
-        for map in self.volumes.iter().flatten().flat_map(|v| v.kept_maps(day)) {
+        let volumes = self.volumes.iter().flatten();
+        for map in volumes.flat_map(|volume| volume.kept_maps(self.is_kept, day)) {
             for cell in map.iter().filter(|&&cell| cell != UNMAPPED) {
                 marked[cell.index()] = true;
             }
@@ -189,12 +196,13 @@ impl Plain {
 
     /// The map of a backup that is kept.
     fn kept_map(&self, volume: u16, number: u16) -> Result<&Map, Refusal> {
-        let volume = self.enrolled(volume)?;
+        let backups = &self.enrolled(volume)?.backups;
         let number = usize::from(number);
-        let taken = 1..=volume.backups.len();
+        let taken = 1..=backups.len();
         require(taken.contains(&number), Refusal::Number)?;
-        require(volume.is_kept(number, self.day), Refusal::NotKept)?;
-        Ok(&volume.backups[number - 1].1)
+        let kept = self.is_kept(volume, number, self.day)?;
+        require(kept, Refusal::NotKept)?;
+        Ok(&backups[number - 1].1)
     }
 
     fn bytes_of(&self, pbn: Pbn) -> Result<&Block, Refusal> {

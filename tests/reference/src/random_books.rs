@@ -5,7 +5,9 @@ use crate::layout::{
     Book, Entry, Header, Lbn, Pbn, Slot, EXPIRY_MAX, FREE, HEADER_BYTES, HELD, UNMAPPED,
     UNUSED_SLOT, VOLUMES,
 };
+use crate::layout_2;
 use crate::prng::Prng;
+use crate::store::settle_expiries;
 
 /// Changes up to three fields of a book in form; now and then merges slots or flips a bit.
 pub fn disturb(prng: &mut Prng, bytes: &mut [u8]) {
@@ -179,19 +181,5 @@ fn merge_slots(prng: &mut Prng, book: &mut Book<&mut [u8]>) {
     }
     book.set_slot(slots.len(), UNUSED_SLOT);
     book.set_header(Header::SlotsUsed, slots.len() as u16);
-    settle_expiries(book);
-}
-
-fn settle_expiries(book: &mut Book<&mut [u8]>) {
-    let mut expiries = vec![0; usize::from(book.sizes().blocks)];
-    for slot in book.used_slots() {
-        let expiry = slot.day + book.retention(slot.volume);
-        let befores = slot.records().map(|index| book.record(index).before);
-        for before in befores.filter(|&before| before != UNMAPPED) {
-            expiries[before.index()] = expiry.max(expiries[before.index()]);
-        }
-    }
-    for (pbn, expiry) in book.pbns().zip(expiries) {
-        book.edit_entry(pbn, |entry| entry.expiry = expiry);
-    }
+    settle_expiries(book, layout_2::days_of(book.header(Header::Layout)));
 }

@@ -7,16 +7,17 @@ mod convert;
 mod restore;
 mod views;
 
-pub use audit::Fault;
+pub use audit::{expiries, settle_expiries, Days, Fault, FROM_TAKING};
 pub use backup::backup;
 pub use convert::{convert, Way};
 pub use restore::{restore, Run};
 pub use views::{backups, blocks, cells, sizes, used, volume, Used, VolumeFacts, NO_END};
 
 use crate::form;
+use crate::keeping::is_kept;
 use crate::layout::{
-    self, Book, Entry, Header, Lbn, Pbn, Sizes, Slot, DAY_MAX, HELD, LAYOUT, RETENTION_RANGE,
-    UNMAPPED, VOLUMES,
+    self, Book, Entry, Header, Lbn, Pbn, Sizes, Slot, DAY_MAX, HELD, RETENTION_RANGE, UNMAPPED,
+    VOLUMES,
 };
 use crate::refusal::{require, Refusal};
 
@@ -106,8 +107,8 @@ fn kept_backup<'a>(
     let slots = book.used_slots_of(volume);
     let number = usize::from(number);
     require((1..=slots.len()).contains(&number), Refusal::Number)?;
-    let day = book.header(Header::Day);
-    let kept = is_kept(&slots, number, book.retention(volume), day);
+    let (days, day) = (book.days_of(volume), book.header(Header::Day));
+    let kept = is_kept(&days, number, book.retention(volume), day);
     require(kept, Refusal::NotKept)?;
     let later = slots[number..].to_vec();
     Ok(KeptBackup {
@@ -129,19 +130,18 @@ impl KeptBackup<'_> {
 /// Whether the book is sound.
 pub fn audit(book: &[u8]) -> Result<bool, Refusal> {
     let book = form::check(book)?;
-    Ok(!Fault::ALL.iter().any(|fault| fault.is_in(&book)))
+    let fault = faults_of(&book).next();
+    Ok(fault.is_none())
 }
 
 /// All that audit finds wrong.
 pub fn faults(book: &[u8]) -> Result<Vec<Fault>, Refusal> {
-    faults_in(LAYOUT, book)
+    let book = form::check(book)?;
+    Ok(faults_of(&book).collect())
 }
 
-/// All that audit would find wrong with a book in this layout.
-pub fn faults_in(layout: u16, book: &[u8]) -> Result<Vec<Fault>, Refusal> {
-    let book = form::check_in(layout, book)?;
-    let faults = Fault::ALL.into_iter();
-    Ok(faults.filter(|fault| fault.is_in(&book)).collect())
+fn faults_of<'a>(book: &'a Book<&[u8]>) -> impl Iterator<Item = Fault> + 'a {
+    Fault::all_in(book, FROM_TAKING)
 }
 
 fn volume_number(volume: u16) -> Result<u8, Refusal> {
@@ -158,14 +158,6 @@ fn enrolled(book: &Book<&[u8]>, volume: u16) -> Result<u8, Refusal> {
 fn check_day(book: &Book<&[u8]>, day: u16) -> Result<(), Refusal> {
     let holds = day <= DAY_MAX && day >= book.header(Header::Day);
     require(holds, Refusal::Day)
-}
-
-/// Whether backup `number`, from 1, of a volume with these slots is kept at `day`.
-fn is_kept(slots: &[Slot], number: usize, retention: u16, day: u16) -> bool {
-    match slots.get(number) {
-        None => true,
-        Some(next) => u32::from(next.day) + u32::from(retention) >= u32::from(day),
-    }
 }
 
 /// Read's rule: the before of the LBN's first record in the later slots, else the map.

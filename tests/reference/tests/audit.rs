@@ -3,7 +3,7 @@
 use reference::call::{Answer, Call, Stored};
 use reference::cases::{after_d, fingerprint, two_records_in_a_slot};
 use reference::form;
-use reference::layout::{Book, Entry, Header, Lbn, Pbn, Record, HELD, UNMAPPED, VOLUMES};
+use reference::layout::{Book, Entry, Header, Lbn, Pbn, Record, Slot, HELD, UNMAPPED, VOLUMES};
 use reference::prng::Prng;
 use reference::random_books::disturb;
 use reference::random_calls::{RandomCalls, Shape};
@@ -11,16 +11,19 @@ use reference::store;
 
 type View<'a> = Book<&'a [u8]>;
 
-/// Volume, slot day and record of every used record, in order.
+/// Volume, day and record of every used record, in order. The day is that of the volume's slot before
+/// the record's, 0 if there is none.
 fn records(book: &View) -> Vec<(u8, u16, Record)> {
-    let slots = book.used_slots();
-    slots
-        .flat_map(|slot| {
-            slot.records()
-                .map(move |index| (slot.volume, slot.day, index))
-        })
-        .map(|(volume, day, index)| (volume, day, book.record(index)))
-        .collect()
+    let slots: Vec<Slot> = book.used_slots().collect();
+    let mut records = Vec::new();
+    for (index, slot) in slots.iter().enumerate() {
+        let mut before = slots[..index].iter().rev();
+        let previous = before.find(|other| other.volume == slot.volume);
+        let day = previous.map_or(0, |previous| previous.day);
+        let of_slot = slot.records().map(|record| book.record(record));
+        records.extend(of_slot.map(|record| (slot.volume, day, record)));
+    }
+    records
 }
 
 /// The last after at a cell among records, unmapped if there is none.
@@ -74,8 +77,8 @@ fn kept_blocks_held(book: &View) -> bool {
     cells(book).all(|(volume, lbn)| {
         let slots = book.used_slots_of(volume);
         let kept = |number: &usize| {
-            let next = slots.get(*number);
-            next.is_none_or(|n| n.day + book.retention(volume) >= book.header(Header::Day))
+            let own = slots[*number - 1].day + book.retention(volume);
+            *number == slots.len() || own >= book.header(Header::Day)
         };
         let mut kept_numbers = (1..=slots.len()).filter(kept);
         held(book.cell(volume, lbn))
@@ -162,7 +165,7 @@ fn the_first_of_two_records_in_a_backup_counts() {
 
 #[test]
 fn a_kept_backup_needs_its_blocks() {
-    for (day, sound) in [(9, false), (18, false), (19, true)] {
+    for (day, sound) in [(9, false), (15, false), (16, true), (18, true)] {
         let audit = audit_after(|book| {
             book.edit_entry(Pbn(0), Entry::set_free);
             book.set_header(Header::Day, day);

@@ -1,4 +1,4 @@
-//! Cases a to j of document 01 as one run, with every number that it gives.
+//! Cases a to j as one run, with every number that documents 01 and 02 give.
 
 use reference::call::{Answer, Call, Stored};
 use reference::cases::{after_d, backup, block, fingerprint, list_of, SIZES};
@@ -111,9 +111,10 @@ impl Run {
         self.map_is(1, [65_535, 65_535, 65_535, 0]);
         self.backs_up(backup(0, 8, &[(0, "C")]), 2, 1, 2);
         self.map_is(0, [2, 1, 65_535, 65_535]);
-        self.entry_is(0, 1, 1, 18, 'A');
+        self.entry_is(0, 1, 1, 15, 'A');
         self.backs_up(backup(1, 9, &[(3, "B")]), 2, 0, 2);
-        self.entry_is(0, 0, 1, 18, 'A');
+        // Not 9, which volume 1's previous backup comes to.
+        self.entry_is(0, 0, 1, 15, 'A');
         self.entry_is(1, 2, 1, 0, 'B');
         self.entry_is(2, 1, 1, 0, 'C');
         self.entry_is(3, 0, 0, 0, '\0');
@@ -125,19 +126,19 @@ fn cases_a_to_j() {
     let mut run = Run::start();
     run.cases_a_to_d();
     // e
-    run.answers(Call::Collect { day: 18 }, Answer::Freed(0));
-    run.reads(0, 1, 0, 'A');
+    run.answers(Call::Collect { day: 18 }, Answer::Freed(1));
+    run.read_refuses(0, 1, 0, Refusal::NotKept);
+    run.entry_is(0, 0, 0, 15, '\0');
     // f
     run.read_refuses(1, 1, 3, Refusal::NotKept);
     // g
-    run.answers(Call::Collect { day: 19 }, Answer::Freed(1));
+    run.answers(Call::Collect { day: 19 }, Answer::Freed(0));
     run.read_refuses(0, 1, 0, Refusal::NotKept);
-    run.entry_is(0, 0, 0, 18, '\0');
     // h
     run.backs_up(backup(0, 20, &[(2, "DE")]), 3, 2, 2);
     run.map_is(0, [2, 1, 3, 0]);
     run.entry_is(3, 1, 1, 0, 'D');
-    run.entry_is(0, 1, 1, 18, 'E');
+    run.entry_is(0, 1, 1, 15, 'E');
     assert_eq!(run.book().header(Header::Cursor), 1);
     // i
     run.refuses(backup(1, 21, &[(0, "F")]), 12);
@@ -151,11 +152,23 @@ fn cases_a_to_j() {
     run.refuses(call, 11);
 }
 
+/// After d volume 0's first backup, of day 5, is kept to day 15, and block 0 with it.
+#[test]
+fn block_0_waits_to_day_15() {
+    let mut run = Run::start();
+    run.cases_a_to_d();
+    run.answers(Call::Collect { day: 15 }, Answer::Freed(0));
+    run.reads(0, 1, 0, 'A');
+    run.answers(Call::Collect { day: 16 }, Answer::Freed(1));
+    run.read_refuses(0, 1, 0, Refusal::NotKept);
+    run.reads(0, 2, 0, 'C');
+}
+
 #[test]
 fn header_and_records_after_d() {
     let stored = after_d();
     let book = form::check(&stored.book).unwrap();
-    let fields = [2, 4, 4, 6, 8, 4, 5, 9, 3, 0];
+    let fields = [3, 4, 4, 6, 8, 4, 5, 9, 3, 0];
     let header: Vec<u16> = stored.book[..20]
         .chunks(2)
         .map(|pair| u16::from_le_bytes([pair[0], pair[1]]))

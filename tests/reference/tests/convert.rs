@@ -1,9 +1,11 @@
-//! The converters: every field equal, there and back, their numbers and the order of the checks.
+//! The converters between layouts 1 and 2: every field equal, there and back, their numbers and the
+//! order of the checks.
 
 use reference::call::{Call, Stored};
-use reference::cases::{after_d, backup, block, fingerprint, list_of};
+use reference::cases::{backup, block, fingerprint, list_of};
 use reference::form;
 use reference::layout::{Book, Header, Lbn, Pbn, Sizes, HELD, VOLUMES};
+use reference::layout_2::{after_d, faults, renumbered, OldBox};
 use reference::prng::Prng;
 use reference::random_books::disturb;
 use reference::random_calls::{RandomCalls, Shape};
@@ -81,9 +83,8 @@ fn many_books(mut each: impl FnMut(&[u8])) {
     let mut prng = Prng::seeded(3);
     for seed in 0..240 {
         let shape = Shape::QUICK[seed as usize % Shape::QUICK.len()];
-        let book = RandomCalls::shaped(shape, seed)
-            .run(20 + prng.index(80))
-            .book;
+        let mut calls = RandomCalls::shaped(shape, seed);
+        let book = OldBox::run(&mut calls, 20 + prng.index(80)).stored().book;
         each(&book);
         for _ in 0..4 {
             let mut book = book.clone();
@@ -97,9 +98,9 @@ fn many_books(mut each: impl FnMut(&[u8])) {
 fn there_and_back_is_the_same_book() {
     let (mut returned, mut wide, mut unsound) = (0, 0, 0);
     many_books(|book| {
-        let Ok(view) = form::check(book) else {
-            assert_eq!(to_1(book).err(), form::check(book).err());
-            return;
+        let view = match form::check_in(2, book) {
+            Ok(view) => view,
+            Err(refusal) => return assert_eq!(to_1(book), Err(refusal)),
         };
         if view.pbns().any(|pbn| view.entry(pbn).count > 255) {
             assert_eq!(to_1(book), Err(Refusal::CountWide));
@@ -110,10 +111,10 @@ fn there_and_back_is_the_same_book() {
         assert_eq!(other, by_hand(book));
         fields_are_equal(book, &other);
         assert_eq!(to_2(&other).as_deref(), Ok(book));
-        let faults = store::faults(book).unwrap();
-        assert_eq!(store::faults_in(1, &other), Ok(faults.clone()));
+        let found = faults(2, book).unwrap();
+        assert_eq!(faults(1, &other).as_ref(), Ok(&found));
         returned += 1;
-        unsound += u32::from(!faults.is_empty());
+        unsound += u32::from(!found.is_empty());
     });
     assert!(
         returned > 500 && wide > 50 && unsound > 100,
@@ -136,7 +137,7 @@ fn a_damaged_layout_1_book_comes_back_too() {
         );
         let Ok(wide) = wide else { return };
         fields_are_equal(&narrow, &wide);
-        assert_eq!(store::faults(&wide), store::faults_in(1, &narrow));
+        assert_eq!(faults(2, &wide), faults(1, &narrow));
         assert_eq!(to_1(&wide), Ok(narrow));
         returned += 1;
     });
@@ -166,7 +167,7 @@ fn counts_above_255_have_no_room_in_layout_1() {
 
 /// What happens to a clinic that met 14: its book has room for one cell more, and then no way back.
 #[test]
-fn a_full_count_goes_on_in_layout_2() {
+fn a_full_count_goes_on_in_later_layouts() {
     let sizes = Sizes {
         blocks: 2,
         lbns: 256,
@@ -183,17 +184,15 @@ fn a_full_count_goes_on_in_layout_2() {
         list,
     };
     stored.call(&first);
-    let old = to_1(&stored.book).unwrap();
+    let old = to_1(&renumbered(&stored.book)).unwrap();
     assert_eq!(Book::over(&old[..]).entry(Pbn(0)).count, 255);
-    stored.book = to_2(&old).unwrap();
+    stored.book = converted(Way::TwoToThree, &to_2(&old).unwrap()).unwrap();
     stored.call(&backup(0, 2, &[(255, "A")]));
     let view = form::check(&stored.book).unwrap();
     assert_eq!(view.cell(0, Lbn(255)), Pbn(0));
     assert_eq!(view.entry(Pbn(0)).count, 256);
     assert_eq!(store::audit(&stored.book), Ok(true));
-    assert_eq!(to_1(&stored.book), Err(Refusal::CountWide));
-    stored.call(&backup(0, 3, &[(9, "B")]));
-    assert_eq!(to_2(&to_1(&stored.book).unwrap()), Ok(stored.book));
+    assert_eq!(to_1(&renumbered(&stored.book)), Err(Refusal::CountWide));
 }
 
 #[test]
@@ -230,7 +229,7 @@ fn converters_check_in_order() {
             view.set_header(Header::Zero, 1);
         }
         if from <= 1 {
-            view.set_header(Header::Layout, 3);
+            view.set_header(Header::Layout, 4);
         }
         let mut output = vec![7; if from <= 4 { 275 } else { 276 }];
         let before = output.clone();
@@ -268,8 +267,10 @@ fn each_call_takes_its_own_layout() {
     for (bytes, layout) in [
         (&wide, 1),
         (&narrow, 2),
+        (&narrow, 3),
         (&wide, 0),
-        (&wide, 3),
+        (&wide, 4),
+        (&wide, 258),
         (&narrow, 257),
     ] {
         let mut book = bytes.clone();
@@ -280,6 +281,13 @@ fn each_call_takes_its_own_layout() {
         assert_eq!(form::check(&book).err(), Some(Refusal::Layout));
     }
     assert_eq!(output, vec![7; 400]);
+}
+
+/// Layout 1 is for the converters alone.
+#[test]
+fn no_call_takes_layout_1() {
+    let mut narrow = to_1(&after_d().book).unwrap();
+    let mut output = vec![7; 400];
     for length in [0, 1, 2, 19, 20, 36, 275, 277] {
         let mut book = narrow.clone();
         book.resize(length, 0);
@@ -288,7 +296,6 @@ fn each_call_takes_its_own_layout() {
             Err(Refusal::Layout)
         );
     }
-    let mut narrow = narrow;
     assert_eq!(form::check(&narrow).err(), Some(Refusal::Layout));
     assert_eq!(store::audit(&narrow), Err(Refusal::Layout));
     assert_eq!(store::enrol(&mut narrow, 5, 1), Err(Refusal::Layout));

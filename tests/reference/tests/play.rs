@@ -64,11 +64,12 @@ fn played(stored: &mut Stored, calls: &[u8], room: usize) -> Result<Vec<u8>, Ref
     result.map(|_| answers)
 }
 
-/// Cases a to j and an audit, with each answer as bytes.
+/// Cases a to j with a read before e and an audit at the end, each answer as bytes.
 fn cases_a_to_j() -> (Vec<Call>, Vec<u8>) {
     let other_bytes = list_of(&[(0, 1)], &[(fingerprint('B'), block('F'))]);
     let mut calls = calls_to_d();
     calls.extend([
+        read(0, 1, 0),
         Call::Collect { day: 18 },
         read(0, 1, 0),
         read(1, 1, 3),
@@ -87,11 +88,11 @@ fn cases_a_to_j() -> (Vec<Call>, Vec<u8>) {
     for [number, taken, touched] in [[1, 2, 2], [1, 0, 1], [2, 1, 2], [2, 0, 2]] {
         answers.extend([1, number, 0, taken, 0, touched, 0]);
     }
-    answers.extend([2, 0, 0]);
     answers.push(3);
     answers.extend([b'A'; 512]);
-    answers.extend([0, 16, 0]);
     answers.extend([2, 1, 0]);
+    answers.extend([0, 16, 0, 0, 16, 0]);
+    answers.extend([2, 0, 0]);
     answers.extend([0, 16, 0]);
     answers.extend([1, 3, 0, 2, 0, 2, 0]);
     answers.extend([0, 12, 0, 0, 11, 0]);
@@ -103,7 +104,7 @@ fn cases_a_to_j() -> (Vec<Call>, Vec<u8>) {
 fn cases_a_to_j_as_a_list() {
     let (calls, expected) = cases_a_to_j();
     let bytes = encode(&calls);
-    let room = 2 * 3 + 4 * 7 + 3 + 2 * 513 + 3 + 513 + 3 * 7 + 3;
+    let room = 2 * 3 + 4 * 7 + 513 + 3 + 2 * 513 + 3 + 513 + 3 * 7 + 3;
     assert_eq!(longest_answers(&calls), room);
     for room in [room, room + 1, 2 * room] {
         let mut stored = fresh();

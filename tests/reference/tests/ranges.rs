@@ -38,6 +38,8 @@ fn lengths_run_from_87_to_208_932() {
     assert_eq!(LARGEST.book_bytes(), 208_932);
     assert_eq!(SMALLEST.book_bytes_in(1), 86);
     assert_eq!(LARGEST.book_bytes_in(1), 204_836);
+    assert_eq!(SMALLEST.book_bytes_in(2), 87);
+    assert_eq!(LARGEST.book_bytes_in(2), 208_932);
     for sizes in [SMALLEST, LARGEST] {
         let mut book = vec![0xA5; sizes.book_bytes()];
         assert_eq!(store::format(&mut book, sizes), Ok(()));
@@ -51,7 +53,7 @@ fn format_leaves_all_zero_but_layout_sizes_and_maps() {
     let mut book = vec![0xA5; 280];
     store::format(&mut book, SIZES).unwrap();
     let mut expected = vec![0; 280];
-    expected[..10].copy_from_slice(&[2, 0, 4, 0, 4, 0, 6, 0, 8, 0]);
+    expected[..10].copy_from_slice(&[3, 0, 4, 0, 4, 0, 6, 0, 8, 0]);
     expected[120..184].fill(0xFF);
     assert_eq!(book, expected);
 }
@@ -125,15 +127,19 @@ fn days_run_from_the_headers_to_60_000() {
     assert!(backup(&mut stored, 1, 60_000, &[0, 0]).is_ok());
 }
 
+/// A backup before the last day of all is of day 59,999 at most. Form takes one day more.
 #[test]
-fn expiries_reach_65_000() {
+fn expiries_reach_64_999() {
     let mut stored = fresh(SIZES);
     store::enrol(&mut stored.book, 7, 5_000).unwrap();
     backup(&mut stored, 7, 59_999, &list(&[(0, "A")])).unwrap();
     backup(&mut stored, 7, 60_000, &list(&[(0, "B")])).unwrap();
     let view = form::check(&stored.book).unwrap();
-    assert_eq!(view.entry(Pbn(0)).expiry, 65_000);
+    assert_eq!(view.entry(Pbn(0)).expiry, 64_999);
     assert_eq!(store::audit(&stored.book), Ok(true));
+    let mut book = Book::over(&mut stored.book[..]);
+    book.edit_entry(Pbn(0), |entry| entry.expiry = 65_000);
+    assert_eq!(store::audit(&stored.book), Ok(false));
 }
 
 /// A list of these pairs, with as many changes as they say.
@@ -345,9 +351,9 @@ fn read_takes_kept_numbers_and_lbns_of_the_volume() {
     assert_eq!(read(&stored, 3, 0), Err(Refusal::Number));
     assert_eq!(read(&stored, 2, 3), Err(Refusal::Unmapped));
     assert_eq!(read(&stored, 2, 4), Err(Refusal::LbnAbove));
-    store::collect(&mut stored.book, 18).unwrap();
+    store::collect(&mut stored.book, 15).unwrap();
     assert_eq!(read(&stored, 1, 0), Ok(b'A'));
-    store::collect(&mut stored.book, 19).unwrap();
+    store::collect(&mut stored.book, 16).unwrap();
     assert_eq!(read(&stored, 1, 0), Err(Refusal::NotKept));
     assert_eq!(read(&stored, 2, 1), Ok(b'B'));
 }

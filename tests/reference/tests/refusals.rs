@@ -197,7 +197,7 @@ fn count_full() {
     let mut stored = full();
     assert_eq!(backup(&mut stored, &[(0, "C")]).unwrap().touched, 2);
     let entry = Book::over(&stored.book[..]).entry(Pbn(2));
-    assert_eq!((entry.count, entry.expiry), (65_535, 20));
+    assert_eq!((entry.count, entry.expiry), (65_535, 18));
     for count in [255, 256, 511, 65_534] {
         let mut stored = with_entry(2, |entry| entry.count = count);
         assert!(backup(&mut stored, &[(1, "C")]).is_ok());
@@ -260,5 +260,5 @@ fn a_held_zero_fingerprint_is_found_and_a_free_one_is_not() {
     let second = store::backup(book, pool, spare, 0, 11, &list).unwrap();
     assert_eq!((first.taken, second.taken), (1, 0));
     let entry = Book::over(&book[..]).entry(Pbn(3));
-    assert_eq!((entry.state, entry.count, entry.expiry), (HELD, 1, 21));
+    assert_eq!((entry.state, entry.count, entry.expiry), (HELD, 1, 20));
 }

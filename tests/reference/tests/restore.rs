@@ -76,10 +76,10 @@ fn cases_c_to_g_restored() {
     assert_eq!(exactly(&stored, run(0, 2, 0, 2)), letters("CB"));
     assert_eq!(exactly(&stored, run(1, 1, 3, 1)), letters("A"));
     assert_eq!(exactly(&stored, run(1, 2, 3, 1)), letters("B"));
-    assert_eq!(stored.call(&Call::Collect { day: 18 }), Answer::Freed(0));
+    assert_eq!(stored.call(&Call::Collect { day: 15 }), Answer::Freed(0));
     assert_eq!(exactly(&stored, run(0, 1, 0, 2)), letters("AB"));
     assert_eq!(exactly(&stored, run(1, 1, 3, 1)), Err(Refusal::NotKept));
-    assert_eq!(stored.call(&Call::Collect { day: 19 }), Answer::Freed(1));
+    assert_eq!(stored.call(&Call::Collect { day: 18 }), Answer::Freed(1));
     assert_eq!(exactly(&stored, run(0, 1, 0, 2)), Err(Refusal::NotKept));
     assert_eq!(exactly(&stored, run(0, 2, 0, 2)), letters("CB"));
 }

@@ -3,6 +3,7 @@
 use reference::call::Stored;
 use reference::cases::after_d;
 use reference::layout::{Book, Header, Pbn, Sizes, HELD};
+use reference::layout_2::renumbered;
 use reference::store::{convert, Way};
 use reference::tally::{counts, page};
 
@@ -80,9 +81,13 @@ fn a_longer_book_is_counted() {
 fn a_broken_layout_is_refused_1() {
     assert_eq!(page(b""), b"refused 1\n");
     assert_eq!(page(&after_d().book[..279]), b"refused 1\n");
-    let mut other = vec![0; 276];
-    convert(Way::TwoToOne, &after_d().book, &mut other).unwrap();
-    assert_eq!(page(&other), b"refused 1\n");
+    let mut older = renumbered(&after_d().book);
+    assert_eq!(page(&older), b"refused 1\n");
+    let mut oldest = vec![0; 276];
+    convert(Way::TwoToOne, &older, &mut oldest).unwrap();
+    assert_eq!(page(&oldest), b"refused 1\n");
+    convert(Way::TwoToThree, &older.clone(), &mut older).unwrap();
+    assert!(page(&older).starts_with(b"blocks 4"));
 }
 
 #[test]

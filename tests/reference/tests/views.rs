@@ -87,12 +87,12 @@ fn after_cases_a_to_d() {
     assert_eq!(store::used(book), used(4, 5, 9));
     assert_eq!(store::volume(book, 0), facts(10, 2));
     assert_eq!(store::volume(book, 1), facts(3, 2));
-    assert_eq!(backups(book, 0), [[5, 2, 18, 1], [8, 1, NONE, 1]]);
-    assert_eq!(backups(book, 1), [[6, 1, 12, 1], [9, 1, NONE, 1]]);
+    assert_eq!(backups(book, 0), [[5, 2, 15, 1], [8, 1, NONE, 1]]);
+    assert_eq!(backups(book, 1), [[6, 1, 9, 1], [9, 1, NONE, 1]]);
     assert_eq!(cells(book, 0), [2, 1, NONE, NONE]);
     assert_eq!(cells(book, 1), [NONE, NONE, NONE, 1]);
     let rows = [
-        ([1, 0, 18], fingerprint('A')),
+        ([1, 0, 15], fingerprint('A')),
         ([1, 2, 0], fingerprint('B')),
         ([1, 1, 0], fingerprint('C')),
         ([0, 0, 0], [0; 16]),
@@ -106,18 +106,18 @@ fn after_cases_e_to_j() {
     // e and f
     stored.call(&Call::Collect { day: 18 });
     assert_eq!(store::used(&stored.book), used(4, 5, 18));
-    assert_eq!(backups(&stored.book, 0)[0], [5, 2, 18, 1]);
-    assert_eq!(backups(&stored.book, 1)[0], [6, 1, 12, 0]);
+    assert_eq!(backups(&stored.book, 0), [[5, 2, 15, 0], [8, 1, NONE, 1]]);
+    assert_eq!(backups(&stored.book, 1)[0], [6, 1, 9, 0]);
+    assert_eq!(blocks(&stored.book)[0], ([0, 0, 15], [0; 16]));
     // g
     stored.call(&Call::Collect { day: 19 });
-    assert_eq!(backups(&stored.book, 0), [[5, 2, 18, 0], [8, 1, NONE, 1]]);
-    assert_eq!(blocks(&stored.book)[0], ([0, 0, 18], [0; 16]));
-    // h
+    assert_eq!(backups(&stored.book, 0), [[5, 2, 15, 0], [8, 1, NONE, 1]]);
+    // h: backup 2 isn't the newest any more, and its days have run out.
     stored.call(&backup(0, 20, &[(2, "DE")]));
-    let rows = [[5, 2, 18, 0], [8, 1, 30, 1], [20, 2, NONE, 1]];
+    let rows = [[5, 2, 15, 0], [8, 1, 18, 0], [20, 2, NONE, 1]];
     assert_eq!(backups(&stored.book, 0), rows);
     assert_eq!(cells(&stored.book, 0), [2, 1, 3, 0]);
-    assert_eq!(blocks(&stored.book)[0], ([1, 1, 18], fingerprint('E')));
+    assert_eq!(blocks(&stored.book)[0], ([1, 1, 15], fingerprint('E')));
     // i and j change nothing
     let before = View::all(0).map(|view| shown(&stored.book, view));
     let refused = stored.call(&backup(1, 21, &[(0, "F")]));
@@ -157,19 +157,19 @@ fn both_ends_of_sizes_days_and_retentions() {
     store::enrol(&mut stored.book, 2, 5_000).unwrap();
     stored.call(&backup(2, 59_999, &[]));
     stored.call(&backup(2, 60_000, &[]));
-    let rows = [[59_999, 0, 65_000, 1], [60_000, 0, NONE, 1]];
+    let rows = [[59_999, 0, 64_999, 1], [60_000, 0, NONE, 1]];
     assert_eq!(backups(&stored.book, 2), rows);
     assert_eq!(store::used(&stored.book), used(6, 5, 60_000));
 }
 
-/// The next backup's day plus the retention is the last day kept.
+/// A backup's own day plus the retention is the last day kept.
 #[test]
 fn kept_to_the_last_day() {
     let mut stored = after_d();
-    for (day, kept) in [(11, 1), (12, 1), (13, 0)] {
+    for (day, kept) in [(14, 1), (15, 1), (16, 0), (18, 0)] {
         stored.call(&Call::Collect { day });
-        assert_eq!(backups(&stored.book, 1)[0], [6, 1, 12, kept]);
-        let read = store::read(&stored.book, &stored.pool, 1, 1, 3);
+        assert_eq!(backups(&stored.book, 0)[0], [5, 2, 15, kept]);
+        let read = store::read(&stored.book, &stored.pool, 0, 1, 0);
         assert_eq!(read.is_ok(), kept == 1);
     }
 }

@@ -9,7 +9,7 @@ mod convert;
 mod make;
 mod views;
 
-pub use convert::{reference_convert_1_2, reference_convert_2_1};
+pub use convert::{reference_convert_1_2, reference_convert_2_1, reference_convert_2_3};
 pub use make::{reference_make, Made};
 pub use views::{
     reference_backups, reference_blocks, reference_cells, reference_sizes, reference_used,

@@ -48,11 +48,12 @@ fn replay() -> Vec<Faulty> {
         }),
         faulty("before-of-an-unmapped-cell", alone, |book| {
             book.edit_record(1, |record| record.before = Pbn(3));
-            set_expiry(book, 3, 15);
+            // The first backup of its volume has none before it to wait for.
+            set_expiry(book, 3, 10);
         }),
         faulty("before-isnt-the-cell", alone, |book| {
             book.edit_record(4, |record| record.before = Pbn(2));
-            set_expiry(book, 2, 12);
+            set_expiry(book, 2, 9);
         }),
         faulty("after-isnt-met", alone, |book| {
             book.edit_record(2, |record| record.after = Pbn(2));
@@ -83,9 +84,11 @@ fn counts() -> Vec<Faulty> {
 
 fn expiries() -> Vec<Faulty> {
     let wrong = [
-        ("overwritten", 0, 12),
-        ("below", 0, 17),
-        ("above", 0, 19),
+        ("overwritten", 0, 9),
+        ("below", 0, 14),
+        ("above", 0, 16),
+        ("from-the-backup-that-replaces", 0, 18),
+        ("from-day-0", 0, 10),
         ("lost", 0, 0),
         ("without-record", 1, 1),
         ("of-free", 3, 1),
@@ -121,7 +124,7 @@ fn fingerprints() -> Vec<Faulty> {
     ]
 }
 
-/// Block 0 is what backup 1 of volume 0 has at LBN 0, kept to day 18.
+/// Block 0 is what backup 1 of volume 0, of day 5, has at LBN 0, kept to day 15.
 fn freed() -> Vec<Faulty> {
     let alone = &[Fault::FreeButNamed];
     let freed_on = |day| {
@@ -133,8 +136,9 @@ fn freed() -> Vec<Faulty> {
     let both = &[Fault::Count, Fault::FreeButNamed];
     vec![
         faulty("freed-while-kept", alone, freed_on(9)),
-        faulty("freed-on-the-last-day-kept", alone, freed_on(18)),
-        faulty("freed-on-the-day-after", &[], freed_on(19)),
+        faulty("freed-on-the-last-day-kept", alone, freed_on(15)),
+        faulty("freed-on-the-day-after", &[], freed_on(16)),
+        faulty("freed-while-layout-2-kept-it", &[], freed_on(18)),
         faulty("freed-in-the-current-map", both, |book| {
             book.edit_entry(Pbn(2), |entry| entry.count = 0);
             book.edit_entry(Pbn(2), Entry::set_free);

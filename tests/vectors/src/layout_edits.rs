@@ -2,6 +2,7 @@
 
 use reference::cases;
 use reference::layout::{self, Book, Header, Sizes};
+use reference::layout_2;
 use reference::store::{convert, Way};
 
 use crate::vector::{Edit, Meant, Vector};
@@ -69,19 +70,27 @@ fn layout_numbers() -> Vec<Edit> {
             book.set_header(Header::Layout, layout);
         })
     };
-    [0, 1, 3, 256, 258, 65_535].into_iter().map(edit).collect()
+    [0, 1, 2, 4, 256, 259, 65_535]
+        .into_iter()
+        .map(edit)
+        .collect()
 }
 
-/// The book after case d in layout 1, and with the number of the one over the bytes of the other.
-fn other_layouts() -> [Vector; 2] {
-    let book = cases::after_d().book;
+/// The book after case d in layouts 1 and 2, and the bytes of layout 1 with a later number.
+fn other_layouts() -> [Vector; 4] {
+    let older = layout_2::after_d().book;
     let mut narrow = vec![0; cases::SIZES.book_bytes_in(1)];
-    convert(Way::TwoToOne, &book, &mut narrow).expect("small counts");
-    let mut said_2 = narrow.clone();
-    Book::over(&mut said_2[..]).set_header(Header::Layout, 2);
+    convert(Way::TwoToOne, &older, &mut narrow).expect("small counts");
+    let said = |layout| {
+        let mut book = narrow.clone();
+        Book::over(&mut book[..]).set_header(Header::Layout, layout);
+        book
+    };
     [
+        refused("layout-1-said-to-be-2", said(2)),
+        refused("layout-1-said-to-be-3", said(3)),
         refused("after-d-in-layout-1", narrow),
-        refused("layout-1-said-to-be-2", said_2),
+        refused("after-d-in-layout-2", older),
     ]
 }
 

@@ -1,5 +1,7 @@
-//! Books that seeded runs of calls leave, as they are and disturbed.
+//! Books that seeded runs of calls leave, as they are and disturbed; and some that runs under the
+//! rule of layout 2 left, which the converters take.
 
+use reference::layout_2::OldBox;
 use reference::prng::Prng;
 use reference::random_books::disturb;
 use reference::random_calls::RandomCalls;
@@ -7,11 +9,20 @@ use reference::random_calls::RandomCalls;
 use crate::vector::{Meant, Vector};
 
 const RUNS: u64 = 30;
+const OLD_RUNS: u64 = 12;
 const CALLS: usize = 100;
 const DISTURBED: usize = 4;
 
 pub fn vectors() -> Vec<Vector> {
-    (0..RUNS).flat_map(run).collect()
+    let old = (0..OLD_RUNS).map(|seed| {
+        let old = OldBox::run(&mut RandomCalls::seeded(seed), CALLS);
+        Vector::new(
+            format!("run-{seed}-in-layout-2"),
+            old.stored().book,
+            Meant::Refused1,
+        )
+    });
+    (0..RUNS).flat_map(run).chain(old).collect()
 }
 
 fn run(seed: u64) -> Vec<Vector> {

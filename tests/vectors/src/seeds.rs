@@ -67,6 +67,14 @@ pub fn all() -> Vec<(String, Vec<u8>)> {
         ));
     }
     seeds.push(("marks-1024".into(), marks(&[&[1; 128]], 8)));
+    seeds.extend(lists());
+    seeds.extend(outputs());
+    seeds
+}
+
+/// Lists of calls, as they are and to be mended.
+fn lists() -> Vec<(String, Vec<u8>)> {
+    let mut seeds = Vec::new();
     for calls in 0..3 {
         for mended in 0..2 {
             let mut input = control(calls, calls, 0, 0, [mended, 0, 0, 0]);
@@ -75,6 +83,27 @@ pub fn all() -> Vec<(String, Vec<u8>)> {
         }
     }
     seeds
+}
+
+/// Outputs of the converters, a byte short and a byte longer.
+fn outputs() -> Vec<(String, Vec<u8>)> {
+    let mut seeds = Vec::new();
+    for asked in 0..2 {
+        for longer in [-1, 1] {
+            let name = format!("output-{asked}-{longer}");
+            seeds.push((name, output(asked, longer)));
+        }
+    }
+    seeds
+}
+
+/// The book after case d, in the layout that the first number asks for, and so much more room.
+fn output(asked: u16, longer: i16) -> Vec<u8> {
+    const SPARE: usize = 2;
+    let mut input = given(&cases::after_d().book, [asked, 0, 0, 0]);
+    input[5] = 1 << SPARE;
+    input[14 + 2 * SPARE..][..2].copy_from_slice(&longer.to_le_bytes());
+    input
 }
 
 /// A list of calls with every kind of answer: the cases to g on a fresh book, or calls that boxes of

@@ -31,7 +31,7 @@ room c = omega (arith, c .before .size-in .ensures)
 
 returns : tie.Need-returns
 unfolding toTwo
-returns c = misformed 1 2 (λ x. 0) _ _ (c .before .form-as .ensures) (c .if1 .taken)
+returns c = misformed 1 2 (λ x. 0) (λ x. x) _ _ (c .before .form-as .ensures) (c .if1 .taken)
 
 size-in-requires : tie.Need-size-in-requires
 size-in-requires c κs = layout-facts 1 _ (form-parts 1 _ (in-form c) .0) .header
@@ -40,7 +40,7 @@ returns-2 : tie.Need-returns-2
 unfolding toTwo
 returns-2 c =
     let k = c .before in
-    short 1 2 (λ x. 0) _ _ (in-form (k .before)) (omega (arith, k .size-in .ensures))
+    short 1 2 (λ x. 0) (λ x. x) _ _ (in-form (k .before)) (omega (arith, k .size-in .ensures))
 
 rewrite-requires : tie.Need-rewrite-requires
 unfolding bookOf
@@ -53,7 +53,7 @@ unfolding toTwo
 returns-3 c =
     let w = c .before .before in
     let d = w .before .before in
-    done 1 2 (λ x. 0) _ _ (in-form (d .before .before)) (room d) refl (w .rewrite .ensures)
+    done 1 2 (λ x. 0) (λ x. x) _ _ (in-form (d .before .before)) (room d) refl refl (w .rewrite .ensures)
 
 pub convert-1-2-spec : {M : Type 1} → statement M
 convert-1-2-spec =

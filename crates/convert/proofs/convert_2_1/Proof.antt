@@ -1,7 +1,7 @@
 -- `convert::convert_2_1`: each way out is one of the definition.
 use Prim.Native.Nat.{_≤_}
 use mathlib.Core.Bool.{true}
-use mathlib.Core.Path.{_≡_, sym, _∙_}
+use mathlib.Core.Path.{_≡_, refl, sym, _∙_}
 use native.Mathlib.Omega.{arith}
 use denote.Ref.{now}
 use lib.ListN.{length}
@@ -34,7 +34,7 @@ room c = omega (arith, c .before .size-in .ensures)
 
 returns : tie.Need-returns
 unfolding toOne
-returns c = misformed 2 1 narrowNumber _ _ (c .before .form-as .ensures) (c .if1 .taken)
+returns c = misformed 2 1 narrowNumber (λ x. x) _ _ (c .before .form-as .ensures) (c .if1 .taken)
 
 size-in-requires : tie.Need-size-in-requires
 size-in-requires c κs = layout-facts 2 _ (form-parts 2 _ (in-form c) .0) .header
@@ -43,13 +43,13 @@ returns-2 : tie.Need-returns-2
 unfolding toOne
 returns-2 c =
     let k = c .before in
-    short 2 1 narrowNumber _ _ (in-form (k .before)) (omega (arith, k .size-in .ensures))
+    short 2 1 narrowNumber (λ x. x) _ _ (in-form (k .before)) (omega (arith, k .size-in .ensures))
 
 returns-3 : tie.Need-returns-3
 unfolding toOne
 returns-3 c =
     let d = c .before .before in
-    asked 2 1 narrowNumber _ _ (in-form (d .before .before)) (room d) (too-wide _ (failed (c .before .all-narrow .ensures) (c .if3 .taken)))
+    asked 2 1 narrowNumber (λ x. x) _ _ (in-form (d .before .before)) (room d) (too-wide _ (failed (c .before .all-narrow .ensures) (c .if3 .taken)))
     (λ e. omega arith)
 
 all-narrow-requires : tie.Need-all-narrow-requires
@@ -72,7 +72,7 @@ returns-4 c =
     let w = c .before .before in
     let k = w .before .before in
     let d = k .before .before in
-    done 2 1 narrowNumber _ _ (in-form (d .before .before)) (room d) (narrow-enough _ (narrow k)) (w .rewrite .ensures)
+    done 2 1 narrowNumber (λ x. x) _ _ (in-form (d .before .before)) (room d) refl (narrow-enough _ (narrow k)) (w .rewrite .ensures)
 
 pub convert-2-1-spec : {M : Type 1} → statement M
 convert-2-1-spec =

@@ -18,9 +18,9 @@ use Rattle.runs.proofs.Laws.{length-changes, changes-rise}
 use Rattle.book.specs.Book.{volumes, Sizes, Slot, Rec, Book, entryAt, retentionOf}
 use Rattle.book.specs.Next.{withDay, withSlot}
 use Rattle.book.proofs.Clauses.{book-parts}
-use Rattle.model.specs.Journal.{Backup, journalOf, journal, backupsIn}
-use Rattle.model.specs.Audit.{applied, replayed, noMaps, untilIn, printsSound}
-use Rattle.model.specs.Backup.{Work, closed}
+use Rattle.model.specs.Journal.{Backup, journalOf, journal, backupsIn, backups, days}
+use Rattle.model.specs.Audit.{applied, replayed, noMaps, hasBefore, dueOf, untilIn, printsSound}
+use Rattle.model.specs.Backup.{Work, untilNext, closed}
 use Rattle.model.specs.Plain
 use Rattle.model.specs.Plain.{Image, Volume, Plain, volumeAt, noMap, withBlocks, withVolume}
 use Rattle.model.specs.PlainBackup
@@ -29,7 +29,7 @@ use Rattle.model.proofs.kept.Sound.{SoundAll, Days, Rising, AllRise}
 use Rattle.model.proofs.agreement.Agree.{Fit, Agree, imagesOf, named, reaches}
 use Rattle.model.proofs.kept.JournalLaws.{added, journal-append, backupsIn-append, replayed-append, soundAll-append, days-append}
 use Rattle.model.proofs.kept.JournalLaws.{allRise-append, untilIn-append, untilIn-book, reaches-append}
-use Rattle.model.proofs.kept.Replays.{mapAfter, imagesOf-append}
+use Rattle.model.proofs.kept.Replays.{mapAfter, imagesOf-append, last-day}
 use Rattle.model.proofs.agreement.AgreeLaws.{map-after}
 use Rattle.model.proofs.kept.Reaches.{reached-earlier}
 use Rattle.model.proofs.form.BackupAllowed.{Allowed}
@@ -50,7 +50,7 @@ rising-from a (r ∷ rs) low up = (
 
 module _ {x : Book} {pool : List ℕ} {q : Plain} (g : Agree x pool q) (v t : ℕ) (list : List ℕ) (ok : Allowed x v t list)
     (inside : v < volumes)
-    (w : Work) (u : PlainWork) (a : Level x v w u) (r : Trail x v (t + retentionOf x v) (changes list) w u) where
+    (w : Work) (u : PlainWork) (a : Level x v w u) (r : Trail x v (untilNext x v) (changes list) w u) where
   -- our book and the store after
   abbrev pub y : Book
   y = closed x v t (changeCount list) w .book
@@ -175,10 +175,16 @@ module _ {x : Book} {pool : List ℕ} {q : Plain} (g : Agree x pool q) (v t : �
   unfolding closed withDay withSlot
   retained = a .retentions
 
+  -- the new backup counts from the volume's last one before it
+  due-new : dueOf (retentionOf x v) b ≡ untilNext x v
+  unfolding days backups journal
+  due-new = ap (λ (d : ℕ). d + retentionOf x v) (last-day v [] (x .slots) (x .records))
+
   expiry-after : (p : ℕ) → p < x .sizes .n → entryAt (w .book .entries) p .expiry ≡ untilIn y p (journal y)
   expiry-after p h =
       r .expiries p h
       ∙ omega (
+        ap (λ (u : ℕ). if hasBefore p (r .new) then u else 0) due-new,
         arith,
         g .expiries p h,
         ap (λ (bs : List Backup). untilIn y p bs) journal-after,

@@ -1,6 +1,6 @@
 -- A backup on both sides, from where they agree: refused by the same number, which is never 1 to 4, 13 or 14, or accepted with the
 -- same answer, and then both agree again. Entries that the changes don't name stay.
-use Prim.Native.Nat.{ℕ, zero, suc, _+_, _<_}
+use Prim.Native.Nat.{ℕ, zero, suc, _<_}
 use mathlib.Core.Path.{_≡_, refl, sym, ap, subst, _∙_}
 use mathlib.Core.Bool.{false, _&&_}
 use mathlib.Core.List.{List}
@@ -8,9 +8,9 @@ use Rattle.words.proofs.Accepted.{refused-not, accepted-same}
 use Rattle.words.specs.Lists.{someOf}
 use Rattle.words.specs.Outcome.{Outcome, refused, accepted, andThen, unless}
 use Rattle.runs.specs.Changes.{changes, changeCount, lbns}
-use Rattle.book.specs.Book.{volumes, Book, entryAt, retentionOf}
+use Rattle.book.specs.Book.{volumes, Book, entryAt}
 use Rattle.book.proofs.SizesIn.{sizes-facts}
-use Rattle.model.specs.Backup.{Work, Backed, begun, closed, runChanges, backupNumber, backup}
+use Rattle.model.specs.Backup.{Work, Backed, untilNext, begun, closed, runChanges, backupNumber, backup}
 use Rattle.model.specs.Plain.{Plain}
 use Rattle.model.specs.PlainBackup
 use Rattle.model.specs.PlainBackup.{PlainWork, PlainBacked}
@@ -43,7 +43,7 @@ pub data BothBacked (x : Book) (q : Plain) (v : ℕ) (list : List ℕ) : Outcome
 module _ {x : Book} {pool : List ℕ} {q : Plain} (g : Agree x pool q) (v t : ℕ) (list : List ℕ) where
   -- the changes are made, and the slot is added
   close-both : Allowed x v t list → v < volumes → (o : Outcome Work) (o′ : Outcome PlainWork)
-      → BothMoved x v (t + retentionOf x v) (changes list) o o′
+      → BothMoved x v (untilNext x v) (changes list) o o′
       → BothBacked x q v list (andThen o (λ w. accepted (closed x v t (changeCount list) w)))
       (andThen o′ (λ u. accepted (PlainBackup.closed q v t (changeCount list) u)))
   unfolding closed PlainBackup.closed
@@ -58,13 +58,13 @@ module _ {x : Book} {pool : List ℕ} {q : Plain} (g : Agree x pool q) (v t : �
       })
 
   run-agree : Allowed x v t list → BothBacked x q v list
-      (andThen (runChanges v (t + retentionOf x v) (changes list) (begun x pool)) (λ w. accepted (closed x v t (changeCount list) w)))
+      (andThen (runChanges v (untilNext x v) (changes list) (begun x pool)) (λ w. accepted (closed x v t (changeCount list) w)))
       (andThen (PlainBackup.runChanges (changes list) (PlainBackup.begun q v))
       (λ u. accepted (PlainBackup.closed q v t (changeCount list) u)))
   run-agree ok =
       let inside = volume-inside x v (ok .volume) in
       close-both ok inside _ _
-      (changes-both g v inside (t + retentionOf x v) (changes list)
+      (changes-both g v inside (untilNext x v) (changes list)
       (changes-fit (x .sizes .l) list (sizes-facts (x .sizes) (g .fit .sizes) .l) (ok .good)))
 
   pub backup-agree : BothBacked x q v list (backup x pool v t list) (PlainBackup.backup q v t list)
@@ -72,7 +72,7 @@ module _ {x : Book} {pool : List ℕ} {q : Plain} (g : Agree x pool q) (v t : �
   backup-agree = rw (number-agree g v t list) (go (backupNumber x v t list) refl)
     where
       ours : Outcome Backed
-      ours = andThen (runChanges v (t + retentionOf x v) (changes list) (begun x pool)) (λ w. accepted (closed x v t (changeCount list) w))
+      ours = andThen (runChanges v (untilNext x v) (changes list) (begun x pool)) (λ w. accepted (closed x v t (changeCount list) w))
 
       theirs : Outcome PlainBacked
       theirs =

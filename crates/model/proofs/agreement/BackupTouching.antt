@@ -1,5 +1,5 @@
 -- A backup whose changes were all made leaves every entry that they don't name.
-use Prim.Native.Nat.{ℕ, _+_, _<_}
+use Prim.Native.Nat.{ℕ, _<_}
 use mathlib.Core.Path.{_≡_, sym, ap, subst, _∙_}
 use mathlib.Core.Bool.{false, _||_}
 use mathlib.Core.List.{List, [], _∷_, map}
@@ -12,10 +12,10 @@ use Rattle.words.specs.Blocks.{unmapped}
 use Rattle.words.specs.Lists.{someOf, lastOf}
 use Rattle.runs.specs.Changes.{changes, changeCount, lbns}
 use Rattle.runs.proofs.Laws.{changes-lbns}
-use Rattle.book.specs.Book.{volumes, Rec, Book, entryAt, retentionOf}
+use Rattle.book.specs.Book.{volumes, Rec, Book, entryAt}
 use Rattle.book.specs.Next.{withDay, withSlot}
 use Rattle.model.specs.Audit.{applied}
-use Rattle.model.specs.Backup.{Work, closed}
+use Rattle.model.specs.Backup.{Work, untilNext, closed}
 use Rattle.model.specs.Plain
 use Rattle.model.specs.Plain.{Image, Plain, volumeAt, noMap, mapsOf, current, withBlocks, withVolume}
 use Rattle.model.specs.PlainBackup
@@ -31,7 +31,7 @@ use Rattle.model.proofs.agreement.BackupAfter.{rising-new}
 
 module _ {x : Book} {pool : List ℕ} {q : Plain} (g : Agree x pool q) (v t : ℕ) (list : List ℕ) (ok : Allowed x v t list)
     (inside : v < volumes)
-    (w : Work) (u : PlainWork) (a : Level x v w u) (r : Trail x v (t + retentionOf x v) (changes list) w u) where
+    (w : Work) (u : PlainWork) (a : Level x v w u) (r : Trail x v (untilNext x v) (changes list) w u) where
   -- the image that is added
   abbrev image : Image
   image = record { day = t; cells = u .copy; changed = changeCount list }

@@ -19,12 +19,12 @@ use Rattle.words.specs.Lists.{countOf, same}
 use Rattle.words.specs.Outcome.{refused, accepted, andThen}
 use Rattle.runs.specs.Changes.{Change, changes, changeCount}
 use Rattle.runs.proofs.Laws.{length-changes}
-use Rattle.book.specs.Book.{Entry, Rec, Book, entryAt, freeEntry, cellAt, retentionOf}
+use Rattle.book.specs.Book.{Entry, Rec, Book, entryAt, freeEntry, cellAt}
 use Rattle.book.specs.Next.{withDay, withCursor, withEntries, withMaps, withRecord, withSlot, countAs, expiryAs, heldAs}
 use Rattle.model.specs.Pool.{blockAt}
 use Rattle.model.specs.Backup.{Work, Placed, Backed, findHeld, findFree, takeBlock, placeFree, placeHeld, place, lowered, lower}
 use Rattle.model.specs.Backup.{raised, nameBlock, moveNumber, moved, moveTo, changeStep, runChanges, begun, closed, backupNumber}
-use Rattle.model.specs.Backup.{backup}
+use Rattle.model.specs.Backup.{untilNext, backup}
 use Rattle.model.specs.Claims.{heldIn}
 use Rattle.model.proofs.claims.FoundBlocks.{free-next}
 use Rattle.model.specs.Claims.{hadBefore, addedTo, Answered}
@@ -159,10 +159,10 @@ pub backup-counted : (x : Book) (pool : List ℕ) (v t : ℕ) (list : List ℕ) 
     → Answered x (changeCount list) d
 unfolding backup
 backup-counted x pool v t list d e =
-    let o = runChanges v (t + retentionOf x v) (changes list) (begun x pool) in
+    let o = runChanges v (untilNext x v) (changes list) (begun x pool) in
     let f = unless-accepted (backupNumber x v t list) (andThen o (λ w. accepted (closed x v t (changeCount list) w))) d e in
     let p = then-accepted o (λ w. accepted (closed x v t (changeCount list) w)) d (f .1) in
-    let a = run-counted v (t + retentionOf x v) (changes list) (begun x pool) (p .0) (p .1) in
+    let a = run-counted v (untilNext x v) (changes list) (begun x pool) (p .0) (p .1) in
     let q = accepted-same (closed x v t (changeCount list) (p .0)) d (p .2) in
     subst (Answered x (changeCount list)) q (closed-counted x pool v t (changeCount list) (p .0) (rw length-changes at a))
 

@@ -3,6 +3,7 @@ use Prim.Native.Nat.{ℕ, _+_}
 use mathlib.Core.Path.{_≡_, refl, sym, ap, subst, _∙_}
 use mathlib.Core.Bool.{true, false, not}
 use mathlib.Core.List.{List, [], _∷_, _++_}
+use native.Mathlib.Nat.{le-trans}
 use native.Mathlib.Omega.{arith}
 use lib.Dec.{leb, ltb}
 use lib.ListN.{length, length-append}
@@ -10,20 +11,21 @@ use borrow.Author.Tests.{le-leb, not-false}
 use Rattle.words.proofs.Accepted.{unless-accepted, then-accepted, accepted-same}
 use Rattle.words.proofs.Appends.{all-append}
 use Rattle.words.proofs.ChoiceLaws.{true-and}
-use Rattle.words.specs.Lists.{all}
+use Rattle.words.specs.Lists.{all, lastOf}
 use Rattle.words.specs.Outcome.{accepted, andThen}
 use Rattle.words.proofs.Tests.{or-neither}
 use Rattle.runs.specs.Changes.{changes, changeCount}
 use Rattle.runs.proofs.Laws.{length-changes}
-use Rattle.book.specs.Book.{Slot, Book, retentionOf}
+use Rattle.book.specs.Book.{Slot, Book}
 use Rattle.book.specs.Form.{enrolled, slotOk}
 use Rattle.book.specs.Next.{withDay, withSlot}
 use Rattle.book.proofs.SizesIn.{sizes-facts}
-use Rattle.model.specs.Journal.{noVolume}
+use Rattle.model.specs.Journal.{days, noVolume}
 use Rattle.model.specs.Pool.{poolSize}
-use Rattle.model.specs.Backup.{Work, Backed, runChanges, begun, closed, backupNumber, backup}
+use Rattle.model.specs.Backup.{Work, Backed, untilNext, runChanges, begun, closed, backupNumber, backup}
 use Rattle.model.proofs.agreement.Agree.{Fit}
 use Rattle.model.proofs.agreement.AgreeLaws.{volume-inside}
+use Rattle.model.proofs.kept.DayLaws.{last-before}
 use Rattle.model.proofs.form.BackupAllowed.{Allowed, number-zero}
 use Rattle.model.proofs.form.ChangesFit.{changes-fit}
 use Rattle.model.proofs.form.FitParts.{fit-parts, parts-fit}
@@ -99,12 +101,12 @@ pub backup-fit : {x : Book} → Fit x → (pool : List ℕ) (v t : ℕ) (list : 
     → backup x pool v t list ≡ accepted d → BackedFit x pool d
 unfolding backup closed withDay withSlot
 backup-fit {x} fit pool v t list d long e =
-    let o = runChanges v (t + retentionOf x v) (changes list) (begun x pool) in
+    let o = runChanges v (untilNext x v) (changes list) (begun x pool) in
     let a = unless-accepted (backupNumber x v t list) (andThen o (λ w. accepted (closed x v t (changeCount list) w))) d e in
     let p = then-accepted o (λ w. accepted (closed x v t (changeCount list) w)) d (a .1) in
     let ok = number-zero x v t list (a .0) in
     let f =
-    run-fit x v (t + retentionOf x v) (volume-inside x v (ok .volume)) (until-low fit v t (ok .last)) 0
+    run-fit x v (untilNext x v) (volume-inside x v (ok .volume)) (until-low fit v (lastOf 0 (days x v)) (le-trans (last-before (days x v) t (ok .after)) (ok .last))) 0
     (changes list) (begun x pool) (p .0)
     (changes-fit (x .sizes .l) list (sizes-facts (x .sizes) (fit .sizes) .l) (ok .good)) (start-fit fit pool long) (p .1) in
     let n : length (changes list) + 0 ≡ changeCount list = omega (arith, length-changes list) in

@@ -51,14 +51,18 @@ module _ (g : ℕ) (x : Book) where
   layout-ok = refl
 
   -- nor does audit
+  pub layout-expiries : all (expirySound (withLayout g x)) (upFrom 0 (withLayout g x .sizes .n)) ≡ all (expirySound x) (upFrom 0 (x .sizes .n))
+  unfolding withLayout expirySound journal
+  layout-expiries = λ i.
+      all (λ p. eqb (entryAt (x .entries) p .expiry) (untilIn-book x (withLayout g x) p (journal x) refl i)) (upFrom 0 (x .sizes .n))
+
   pub layout-audit : audit (withLayout g x) ≡ audit x
   unfolding
-      withLayout audit mapsSound noMaps countSound expirySound printsSound cellSound currentSound backupSound backupsSound journal backups
-      days image
+      withLayout audit mapsSound noMaps countSound printsSound cellSound currentSound backupSound backupsSound journal backups days image
   layout-audit = λ i.
       mapsSound x
       && all (countSound x) (upFrom 0 (x .sizes .n))
-      && all (λ p. eqb (entryAt (x .entries) p .expiry) (untilIn-book x (withLayout g x) p (journal x) refl i)) (upFrom 0 (x .sizes .n))
+      && layout-expiries i
       && printsSound x
       && currentSound x
       && backupsSound x
@@ -77,7 +81,7 @@ layout-sizes from to z e =
 -- ---- an accepted conversion
 
 -- what is made of a book stays well sized and in form, with the same sizes
-pub Keeps : (Book → Book) → Type 0
+unfoldable pub Keeps : (Book → Book) → Type 0
 Keeps f = (x : Book) → Sized x → bookOk x ≡ true → Sized (f x) × (f x .sizes ≡ x .sizes) × (bookOk (f x) ≡ true)
 
 pub keeps-same : Keeps (λ x. x)

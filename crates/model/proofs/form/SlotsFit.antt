@@ -45,10 +45,10 @@ days-more (t ∷ ts) s e k =
 
 module _ (v : ℕ) where
   -- the days of a volume's slots
-  abbrev daysIn : List Slot → List ℕ
+  abbrev pub daysIn : List Slot → List ℕ
   daysIn ts = map (λ (t : Slot). t .day) (those (λ (t : Slot). eqb (t .volume) v) ts)
 
-  days-journal : (gone ts : List Slot) (rs : List Rec) → map (λ (b : Backup). b .day) (backupsIn v (journalOf gone ts rs)) ≡ daysIn ts
+  pub days-journal : (gone ts : List Slot) (rs : List Rec) → map (λ (b : Backup). b .day) (backupsIn v (journalOf gone ts rs)) ≡ daysIn ts
   days-journal gone [] rs = refl
   days-journal gone (t ∷ ts) rs = go (eqb (t .volume) v) (days-journal (t ∷ gone) ts (drop (t .number) rs))
     where
@@ -68,7 +68,7 @@ module _ (v : ℕ) where
       go false ih = ih
 
   -- later slots have no earlier day
-  days-above : (t : Slot) (ts : List Slot) → all (laterOk t) ts ≡ true → all (leb (t .day)) (daysIn ts) ≡ true
+  pub days-above : (t : Slot) (ts : List Slot) → all (laterOk t) ts ≡ true → all (leb (t .day)) (daysIn ts) ≡ true
   unfolding laterOk
   days-above t ts e =
       all-map (leb (t .day)) (λ (u : Slot). u .day) (those (λ (u : Slot). eqb (u .volume) v) ts)

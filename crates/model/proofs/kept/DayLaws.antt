@@ -1,36 +1,35 @@
--- What days decide, in numbers (document 01, "kept", numbers 6 and 7).
+-- What days decide, in numbers (document 02, K4, "kept"; document 01, numbers 6 and 7).
 use Prim.Native.Nat.{ℕ, zero, suc, _+_, _≤_, _<_}
 use mathlib.Core.Path.{_≡_, refl}
 use mathlib.Core.Logic.{_↔_}
 use mathlib.Core.Bool.{true, false, _||_}
 use mathlib.Core.List.{List, [], _∷_}
 use native.Mathlib.Omega.{arith}
-use lib.ListN.{length, getD, drop}
+use lib.ListN.{length, getD, drop, drop-of-length-le}
 use lib.Dec.{ltb, eqb}
 use lib.Seq.{drop-cons}
 use borrow.Author.Tests.{leb-true, leb-false, ltb-true, ltb-false, eqb-false, le-ltb, ne-eqb}
 use Rattle.words.specs.Lists.{lastOf}
 use Rattle.words.proofs.Tests.{or-neither, surely, surely-not}
-use Rattle.model.specs.Days.{keptBefore, kept, badDay, notAfter, badRetention}
+use Rattle.model.specs.Days.{keptBy, kept, badDay, notAfter, badRetention}
 
--- "Backup k is kept at day D if it is the volume's newest"
+-- "backup k is kept at day D if it is the newest"
 pub kept-newest : (ds : List ℕ) (r d k : ℕ) → length ds ≤ k → kept ds r d k ≡ true
 unfolding kept
-kept-newest [] r d zero h = refl
-kept-newest [] r d (suc k) h = refl
-kept-newest (t ∷ ts) r d zero h = absurd (omega arith)
-kept-newest (t ∷ ts) r d (suc k) h = kept-newest ts r d k (omega arith)
+kept-newest ds r d zero h = refl
+kept-newest ds r d (suc k) h = rw (drop-of-length-le ds {i = suc k} h)
 
--- .. "or the day of backup k + 1 plus R is ≥ D": t is the next one's day
-pub kept-before : (t : ℕ) (ts : List ℕ) (r d : ℕ) → (keptBefore (t ∷ ts) r d ≡ true) ↔ (d ≤ t + r)
-kept-before t ts r d = (
+-- .. "or its own day plus retention is ≥ D": t is its own day, and others follow
+pub kept-own : (t u : ℕ) (us : List ℕ) (r d : ℕ) → (keptBy t (u ∷ us) r d ≡ true) ↔ (d ≤ t + r)
+kept-own t u us r d = (
   λ e. omega (arith, leb-true, ltb-true),
-  λ h. surely (keptBefore (t ∷ ts) r d) (λ e. omega (arith, leb-false, ltb-false)),
+  λ h. surely (keptBy t (u ∷ us) r d) (λ e. omega (arith, leb-false, ltb-false)),
 )
 
-pub kept-older : (ds : List ℕ) (r d k : ℕ) → k < length ds → (kept ds r d k ≡ true) ↔ (d ≤ getD ds k 0 + r)
+pub kept-older : (ds : List ℕ) (r d k : ℕ) → suc k < length ds → (kept ds r d (suc k) ≡ true) ↔ (d ≤ getD ds k 0 + r)
 unfolding kept
-kept-older ds r d k h = rw (drop-cons ds k 0 h) (kept-before (getD ds k 0) (drop (suc k) ds) r d)
+kept-older ds r d k h =
+    rw (drop-cons ds (suc k) 0 h) (kept-own (getD ds k 0) (getD ds (suc k) 0) (drop (suc (suc k)) ds) r d)
 
 -- number 7: "The day is above 60,000, below the header's"
 pub good-day : (now t : ℕ) → (badDay now t ≡ false) ↔ ((now ≤ t) × (t ≤ 60000))
@@ -53,6 +52,11 @@ unfolding notAfter
 later-backup ds t h =
     rw (ne-eqb (length ds) 0 (λ e. omega arith))
     (λ e. omega (arith, leb-false, ltb-false), λ g. surely-not _ (λ e. omega (arith, leb-true, ltb-true)))
+
+-- so a backup's day isn't before the volume's last one, 0 standing for none
+pub last-before : (ds : List ℕ) (t : ℕ) → notAfter ds t ≡ false → lastOf 0 ds ≤ t
+last-before [] t e = omega arith
+last-before (d ∷ ds) t e = let z = later-backup (d ∷ ds) t (omega arith) .0 e in omega arith
 
 -- number 6: "The retention is 0 or above 5,000"
 pub good-retention : (r : ℕ) → (badRetention r ≡ false) ↔ ((1 ≤ r) × (r ≤ 5000))

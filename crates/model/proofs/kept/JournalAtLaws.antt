@@ -17,10 +17,10 @@ use Rattle.words.specs.Choice.{if_then_else_}
 use Rattle.words.specs.Lists.{firstThat, joined}
 use Rattle.book.specs.Book.{Slot, Rec, Book, noSlot, slotAt, cellAt}
 use Rattle.book.specs.Form.{pairsOk}
-use Rattle.model.specs.Journal.{Backup, journalOf, journal, backups}
+use Rattle.model.specs.Journal.{Backup, lastDay, sinceOf, journalOf, journal, backups}
 use Rattle.model.specs.Read.{recordsOf, beforeOr, image}
 use Rattle.model.proofs.kept.JournalLaws.{backupsIn-append}
-use Rattle.model.specs.JournalAt.{noBackup, backupAt, backupsFrom, ownAt, firstBefore, imageFrom}
+use Rattle.model.specs.JournalAt.{noBackup, backupAt, goneAfter, lastBefore, backupsFrom, ownAt, firstBefore, imageFrom}
 
 -- ---- its parts are the slot's
 
@@ -50,6 +50,18 @@ records-in gone (t ∷ ts) rs at u (suc q) e h =
     rw (drop-drop (t .number) at rs)
     (records-in (t ∷ gone) ts rs (at + t .number) u q (and-true (eqb (t .first) at) (pairsOk (at + t .number) ts u) e .1) (le-of-suc-le-suc h))
 
+prev-in : (gone ts : List Slot) (rs : List Rec) (q : ℕ) → q < length ts
+    → getD (journalOf gone ts rs) q noBackup .prev ≡ lastDay (slotAt ts q .volume) (goneAfter gone (take q ts))
+prev-in gone [] rs q h = absurd (not-suc-le-zero h)
+prev-in gone (t ∷ ts) rs zero h = refl
+prev-in gone (t ∷ ts) rs (suc q) h = prev-in (t ∷ gone) ts (drop (t .number) rs) q (le-of-suc-le-suc h)
+
+-- slot q is the newest of those before slot q + 1
+gone-next : (gone ts : List Slot) (q : ℕ) → q < length ts → goneAfter gone (take (suc q) ts) ≡ slotAt ts q ∷ goneAfter gone (take q ts)
+gone-next gone [] q h = absurd (not-suc-le-zero h)
+gone-next gone (t ∷ ts) zero h = refl
+gone-next gone (t ∷ ts) (suc q) h = gone-next (t ∷ gone) ts q (le-of-suc-le-suc h)
+
 pub length-journal : (x : Book) → length (journal x) ≡ length (x .slots)
 unfolding journal
 length-journal x = length-journalOf [] (x .slots) (x .records)
@@ -69,6 +81,21 @@ module _ (x : Book) (q : ℕ) where
   pub day-at : backupAt x q .day ≡ slotAt (x .slots) q .day
   unfolding journal
   day-at = day-in [] (x .slots) (x .records) q
+
+  -- the day before it, and what becomes of the volumes' last days
+  pub since-at : q < length (x .slots) → sinceOf (backupAt x q .prev) ≡ lastBefore x q (slotAt (x .slots) q .volume)
+  unfolding journal
+  since-at h = ap sinceOf (prev-in [] (x .slots) (x .records) q h)
+
+  pub last-next : (v : ℕ) → q < length (x .slots)
+      → lastBefore x (q + 1) v ≡ (if eqb (slotAt (x .slots) q .volume) v then slotAt (x .slots) q .day else lastBefore x q v)
+  last-next v h =
+      rw (add-one q, gone-next [] (x .slots) q h) (go (eqb (slotAt (x .slots) q .volume) v))
+    where
+      go : (t : Bool) → sinceOf (if t then some (slotAt (x .slots) q .day) else lastDay v (goneAfter [] (take q (x .slots))))
+          ≡ (if t then slotAt (x .slots) q .day else lastBefore x q v)
+      go true = refl
+      go false = refl
 
   -- in a book in form, a slot's records stand where its pair says
   pub records-at : pairsOk 0 (x .slots) (length (x .records)) ≡ true → q < length (x .slots)

@@ -15,6 +15,7 @@ use Rattle.words.specs.Lists.{all}
 use Rattle.book.specs.Book.{Slot, Rec, Book, retentionOf}
 use Rattle.book.specs.Form.{pairsOk}
 use Rattle.model.specs.Journal.{Backup, lastDay, journalOf, journal, backupsIn}
+use Rattle.model.specs.JournalAt.{goneAfter}
 use Rattle.model.specs.Audit.{applied, replayed, hasBefore, dueOf, untilIn}
 use Rattle.model.proofs.agreement.Agree.{reaches}
 use Rattle.model.proofs.kept.Sound.{Sound, SoundAll, Days, Rising, AllRise}
@@ -27,11 +28,6 @@ pairs-end at [] u e = omega (arith, eqb-true at u e)
 pairs-end at (t ∷ ts) u e =
     let z = pairs-end (at + t .number) ts u (and-true (eqb (t .first) at) (pairsOk (at + t .number) ts u) e .1) in
     omega arith
-
--- the slots that are gone after some more
-abbrev pub goneAfter : List Slot → List Slot → List Slot
-goneAfter gone [] = gone
-goneAfter gone (t ∷ ts) = goneAfter (t ∷ gone) ts
 
 -- the backup that a slot adds behind slots ts, with its records
 abbrev pub added : List Slot → Slot → List Rec → Backup

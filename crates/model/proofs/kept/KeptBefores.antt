@@ -8,25 +8,26 @@ use mathlib.Core.List.{List, [], _∷_}
 use native.Mathlib.Omega.{arith}
 use lib.Dec.{leb, ltb, eqb}
 use lib.ListN.{length, getD, drop, replicate, length-map}
-use borrow.Author.Tests.{eqb-true, eq-eqb, ne-eqb, ltb-true}
+use borrow.Author.Tests.{eqb-true, eq-eqb, ltb-true}
 use Rattle.words.specs.Blocks.{unmapped}
 use Rattle.words.specs.Choice.{if_then_else_}
-use Rattle.words.proofs.ChoiceLaws.{and-true, true-and, and-false, or-cases, or-l, or-r, not-both, same-test}
+use Rattle.words.proofs.ChoiceLaws.{and-true, true-and, or-cases, or-l, or-r, not-both, same-test}
 use Rattle.words.proofs.Each.{each-at, all-each}
 use Rattle.words.specs.Lists.{all, upFrom}
-use Rattle.words.proofs.Places.{all-getD, all-upFrom, upFrom-all, getD-replicated}
+use Rattle.words.proofs.Places.{all-getD, all-upFrom, upFrom-all}
 use Rattle.book.specs.Book.{volumes, Book, cellAt, retentionOf}
-use Rattle.model.specs.Days.{keptBefore, kept}
+use Rattle.model.specs.Days.{kept}
 use Rattle.model.specs.Journal.{Backup, journal, backupsIn, backups, days}
 use Rattle.model.specs.Read.{recordsOf, image}
 use Rattle.model.specs.Audit.{dueOf, cellSound, currentSound, backupSound, backupsSound}
 use Rattle.model.specs.Plain.{Image, daysOf, mapsOf}
 use Rattle.model.proofs.agreement.Agree.{imagesOf}
 use Rattle.model.proofs.kept.Sound.{Days}
-use Rattle.model.proofs.kept.Replays.{mapAfter, Sounds, days-imagesOf, length-imagesOf}
+use Rattle.model.proofs.kept.Replays.{mapAfter, Sounds, days-imagesOf, length-imagesOf, backups-linked}
 use Rattle.model.specs.JournalAt.{firstBefore}
 use Rattle.model.proofs.kept.ReadRule.{read-rule}
-use Rattle.model.proofs.kept.KeptCells.{keptAt, takes, takenAt, kept-cell}
+use Rattle.model.proofs.kept.KeptOwn.{takes}
+use Rattle.model.proofs.kept.KeptCells.{keptAt, takenAt, kept-cell}
 use Rattle.model.proofs.kept.KeptNumbers.{kept-number, number-kept, takes-first, first-takes}
 use Rattle.model.specs.JournalAt.{takenSound}
 
@@ -137,11 +138,9 @@ module _ (x : Book) where
         → keptAt p (retentionOf x v) (x .day) l (images v)
         ≡ (eqb p (cellAt (x .maps) v l) || takenAt p (retentionOf x v) (x .day) l (backupsIn v (journal x)))
     kept-or-taken p v l hv n =
-        let bs = backupsIn v (journal x) in
-        let c = kept-cell p (retentionOf x v) (x .day) l 0 (x .day) none bs (g .sounds v hv) (g .days v) in
-        let no : eqb p (getD none l unmapped) ≡ false =
-        ne-eqb p (getD none l unmapped) (λ e. n (e ∙ getD-replicated (x .sizes .l) unmapped l)) in
-        rw (no, and-false (keptBefore (daysOf (images v)) (retentionOf x v) (x .day)), g .maps v hv) at c
+        rw (g .maps v hv) at
+        (kept-cell p (retentionOf x v) (x .day) l (x .sizes .l) (x .day) (backupsIn v (journal x)) n (g .sounds v hv) (g .days v)
+        (backups-linked x v))
 
     image-cell : (v k l : ℕ) → v < volumes → k < length (backupsIn v (journal x))
         → image x v (suc k) l ≡ getD (getD (mapsOf (images v)) k none) l unmapped
@@ -165,7 +164,6 @@ module _ (x : Book) where
     -- every image of a kept backup is sound, where the taken blocks are held
     image-sound : all (takenSound x) (journal x) ≡ true → (v k l : ℕ) → v < volumes → k < length (days x v) → l < x .sizes .l
         → kept (days x v) (retentionOf x v) (x .day) (suc k) ≡ true → cellSound x (image x v (suc k) l) ≡ true
-    unfolding kept
     image-sound ok v k l hv hk hl e =
         let p = image x v (suc k) l in
         let hk′ : k < length (images v) = omega (arith, count-images v) in
@@ -185,7 +183,7 @@ module _ (x : Book) where
 
     -- .. and the taken blocks are held, where every image of a kept backup is sound
     block-held : backupsSound x ≡ true → Held (journal x)
-    unfolding backupsSound backupSound kept
+    unfolding backupsSound backupSound
     block-held ok p v l hv hl n e =
         let r = retentionOf x v in
         let a = kept-or-taken p v l hv n ∙ or-r (eqb p (cellAt (x .maps) v l)) (takenAt p r (x .day) l (backupsIn v (journal x))) e in
@@ -196,7 +194,7 @@ module _ (x : Book) where
         let row = each-at (λ v. all (backupSound x v) (upFrom 1 (length (days x v)))) 0 volumes
         (sym (all-each (λ v. all (backupSound x v) (upFrom 1 (length (days x v)))) volumes) ∙ ok) v (omega arith) hv in
         let s = upFrom-all (backupSound x v) 1 (length (days x v)) row (suc k) (omega arith) (omega arith) in
-        let kept-here : keptBefore (drop (suc k) (days x v)) r (x .day) ≡ true = rw (days-images v) (w .2) in
+        let kept-here : kept (days x v) r (x .day) (suc k) ≡ true = rw (days-images v) (w .2) in
         let cells : all (λ j. cellSound x (image x v (suc k) j)) (upFrom 0 (x .sizes .l)) ≡ true = rw kept-here at s in
         let c = upFrom-all (λ j. cellSound x (image x v (suc k) j)) 0 (x .sizes .l) cells l (omega arith) (omega arith) in
         ap (cellSound x) (eqb-true p (getD (getD (mapsOf (images v)) k none) l unmapped) (w .3) ∙ sym (image-cell v k l hv hb)) ∙ c

@@ -58,7 +58,6 @@ module _ {x : Book} {pool : List ℕ} {q : Plain} (g : Agree x pool q) where
 
   pub kept-held : (v k l : ℕ) → v < volumes → k < length (days x v) → kept (days x v) (retentionOf x v) (x .day) (suc k) ≡ true
       → cellSound x (cell q v (suc k) l) ≡ true
-  unfolding kept
   kept-held v k l hv hk e = held-unless p ok bad
     where
       p : ℕ

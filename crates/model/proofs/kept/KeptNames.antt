@@ -10,7 +10,7 @@ use borrow.Author.Tests.{eqb-true}
 use Rattle.words.specs.Blocks.{unmapped}
 use Rattle.words.proofs.ChoiceLaws.{and-true, true-and, or-cases, or-l, or-r}
 use Rattle.words.proofs.Places.{some-place}
-use Rattle.model.specs.Days.{keptBefore}
+use Rattle.model.specs.Days.{keptBy}
 use Rattle.model.specs.Plain.{Image, daysOf, names, keptNames}
 use Rattle.model.proofs.kept.KeptCells.{keptAt}
 
@@ -26,12 +26,12 @@ cell-names p (suc l) (x ∷ m) n e = or-r (eqb p x) (names p m) (cell-names p l 
 pub kept-names-cell : (p r d : ℕ) (is : List Image) → keptNames p r d is ≡ true → (l : ℕ) × (keptAt p r d l is ≡ true)
 kept-names-cell p r d [] e = (0, e)
 kept-names-cell p r d (i ∷ is) e =
-    go (or-cases (keptBefore (daysOf is) r d && names p (i .cells)) (keptNames p r d is) e) (kept-names-cell p r d is)
+    go (or-cases (keptBy (i .day) (daysOf is) r d && names p (i .cells)) (keptNames p r d is) e) (kept-names-cell p r d is)
   where
-    go : ((keptBefore (daysOf is) r d && names p (i .cells)) ≡ true) ⊎ (keptNames p r d is ≡ true)
+    go : ((keptBy (i .day) (daysOf is) r d && names p (i .cells)) ≡ true) ⊎ (keptNames p r d is ≡ true)
         → (keptNames p r d is ≡ true → (l : ℕ) × (keptAt p r d l is ≡ true)) → (l : ℕ) × (keptAt p r d l (i ∷ is) ≡ true)
     go (inl a) ih =
-        let c = and-true (keptBefore (daysOf is) r d) (names p (i .cells)) a in
+        let c = and-true (keptBy (i .day) (daysOf is) r d) (names p (i .cells)) a in
         let w = names-cell p (i .cells) (c .1) in
         (w .0, search (or-l, true-and))
     go (inr b) ih = let w = ih b in (w .0, search or-r)
@@ -39,11 +39,11 @@ kept-names-cell p r d (i ∷ is) e =
 pub cell-kept-names : (p r d l : ℕ) (is : List Image) → p ≢ unmapped → keptAt p r d l is ≡ true → keptNames p r d is ≡ true
 cell-kept-names p r d l [] n e = e
 cell-kept-names p r d l (i ∷ is) n e =
-    go (or-cases (keptBefore (daysOf is) r d && eqb p (getD (i .cells) l unmapped)) (keptAt p r d l is) e) (cell-kept-names p r d l is n)
+    go (or-cases (keptBy (i .day) (daysOf is) r d && eqb p (getD (i .cells) l unmapped)) (keptAt p r d l is) e) (cell-kept-names p r d l is n)
   where
-    go : ((keptBefore (daysOf is) r d && eqb p (getD (i .cells) l unmapped)) ≡ true) ⊎ (keptAt p r d l is ≡ true)
+    go : ((keptBy (i .day) (daysOf is) r d && eqb p (getD (i .cells) l unmapped)) ≡ true) ⊎ (keptAt p r d l is ≡ true)
         → (keptAt p r d l is ≡ true → keptNames p r d is ≡ true) → keptNames p r d (i ∷ is) ≡ true
     go (inl a) ih =
-        let c = and-true (keptBefore (daysOf is) r d) (eqb p (getD (i .cells) l unmapped)) a in
+        let c = and-true (keptBy (i .day) (daysOf is) r d) (eqb p (getD (i .cells) l unmapped)) a in
         search (or-l, true-and, cell-names)
     go (inr b) ih = search or-r

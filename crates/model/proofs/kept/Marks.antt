@@ -8,20 +8,20 @@ use mathlib.Core.List.{List, []}
 use native.Mathlib.Omega.{arith}
 use lib.Dec.{leb, ltb, eqb, leb·zero}
 use lib.ListN.{getD}
-use borrow.Author.Tests.{eqb-true, ne-eqb, leb-true, leb-false, lt-ltb, le-ltb}
+use borrow.Author.Tests.{eqb-true, leb-true, leb-false, lt-ltb, le-ltb}
 use Rattle.words.specs.Blocks.{unmapped}
-use Rattle.words.proofs.ChoiceLaws.{and-false, same-test, not-both}
+use Rattle.words.proofs.ChoiceLaws.{same-test, not-both}
 use Rattle.words.specs.Lists.{someOf, joined}
-use Rattle.words.proofs.Places.{some-place, place-some, getD-replicated, countOf-none, someOf-joined}
+use Rattle.words.proofs.Places.{some-place, place-some, countOf-none, someOf-joined}
 use Rattle.book.specs.Book.{volumes, Book, entryAt, cellAt, retentionOf}
 use Rattle.book.specs.Form.{sizesOk}
 use Rattle.book.proofs.SizesIn.{sizes-facts}
 use Rattle.model.specs.Journal.{journal, backupsIn}
 use Rattle.model.specs.Audit.{noMaps}
 use Rattle.model.specs.Plain
-use Rattle.model.specs.Plain.{Plain, Volume, volumeAt, noMap, names, keptNames, marked}
+use Rattle.model.specs.Plain.{Plain, Volume, volumeAt, names, keptNames, marked}
 use Rattle.model.proofs.agreement.Agree.{Agree, named, reaches}
-use Rattle.model.proofs.kept.Replays.{backupsIn-days}
+use Rattle.model.proofs.kept.Replays.{backupsIn-days, backups-linked}
 use Rattle.model.proofs.agreement.AgreeLaws.{length-noMaps, sounds-agree, map-after, maps-agree}
 use Rattle.model.proofs.kept.KeptCells.{keptAt, takenAt, kept-cell}
 use Rattle.model.proofs.kept.KeptNames.{cell-names, kept-names-cell, cell-kept-names}
@@ -53,14 +53,9 @@ module _ {x : Book} {pool : List ℕ} {q : Plain} (g : Agree x pool q) where
       → keptAt p (retentionOf x v) d l (volumeAt q v .images)
       ≡ (eqb p (cellAt (x .maps) v l) || takenAt p (retentionOf x v) d l (backupsIn v (journal x)))
   kept-cell-agree d p v l n h =
-      let none : eqb p (getD (noMap (x .sizes)) l unmapped) ≡ false =
-      ne-eqb p (getD (noMap (x .sizes)) l unmapped) (λ e. n (e ∙ getD-replicated (x .sizes .l) unmapped l))
-      in
-      let law =
-      kept-cell p (retentionOf x v) d l 0 (x .day) (noMap (x .sizes)) (backupsIn v (journal x)) (sounds-agree g v h)
-      (backupsIn-days v 0 (x .day) (journal x) (g .days))
-      in
-      rw (g .images v h, map-after g v h) (simp (none, and-false) at law)
+      rw (g .images v h, map-after g v h)
+      (kept-cell p (retentionOf x v) d l (x .sizes .l) (x .day) (backupsIn v (journal x)) n (sounds-agree g v h)
+      (backupsIn-days v 0 (x .day) (journal x) (g .days)) (backups-linked x v))
 
   -- a cell of a current map, where no current map names p
   unnamed-cell : (p v l : ℕ) → p ≢ unmapped → v < volumes → someOf (names p) (x .maps) ≡ false → eqb p (cellAt (x .maps) v l) ≡ false

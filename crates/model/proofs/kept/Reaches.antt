@@ -15,7 +15,8 @@ use Rattle.book.specs.Book.{Rec, Book, retentionOf}
 use Rattle.model.specs.Journal.{Backup, backupsIn}
 use Rattle.model.specs.Audit.{applied, hasBefore, dueOf, untilIn}
 use Rattle.model.proofs.kept.Sound.{SoundAll, Rising, AllRise}
-use Rattle.model.proofs.kept.KeptCells.{takes, takenAt}
+use Rattle.model.proofs.kept.KeptOwn.{takes}
+use Rattle.model.proofs.kept.KeptCells.{takenAt}
 
 -- the backup reaches day d and has a record with before p
 abbrev pub reachesBy : Book → ℕ → ℕ → Backup → Bool

@@ -3,14 +3,17 @@ use Prim.Native.Nat.{ℕ, suc, _≤_, _<_}
 use mathlib.Core.Path.{_≡_, refl, sym, ap, _∙_}
 use mathlib.Core.Bool.{Bool, true, false}
 use mathlib.Core.List.{List, [], _∷_, _++_, map}
+use mathlib.Core.Option.{Option, none, some}
 use native.Mathlib.Omega.{arith}
 use lib.Dec.{eqb}
-use lib.ListN.{length, getD, set, length-set}
+use lib.ListN.{length, getD, set, take, drop, length-set}
 use lib.Seq.{getD-set-same, getD-set-other}
 use borrow.Author.Tests.{eqb-true, eqb-false}
 use Rattle.words.specs.Choice.{if_then_else_}
 use Rattle.words.specs.Lists.{lastOf}
-use Rattle.model.specs.Journal.{Backup, backupsIn}
+use Rattle.book.specs.Book.{Slot, Rec, Book}
+use Rattle.model.specs.Journal.{Backup, lastDay, sinceOf, journalOf, journal, backupsIn}
+use Rattle.model.specs.JournalAt.{goneAfter}
 use Rattle.model.specs.Audit.{applied, replayed}
 use Rattle.model.specs.Plain.{daysOf, mapsOf}
 use Rattle.model.proofs.agreement.Agree.{imagesOf}
@@ -26,6 +29,11 @@ mapAfter m (b ∷ bs) = mapAfter (applied m (b .records)) bs
 unfoldable pub Sounds : List ℕ → List Backup → Type 0
 Sounds m [] = Unit {0}
 Sounds m (b ∷ bs) = Sound m (b .records) × Sounds (applied m (b .records)) bs
+
+-- each backup notes the day of the one before it
+unfoldable pub Linked : Option ℕ → List Backup → Type 0
+Linked prev [] = Unit {0}
+Linked prev (b ∷ bs) = (b .prev ≡ prev) × Linked (some (b .day)) bs
 
 -- ---- images
 
@@ -96,3 +104,43 @@ backupsIn-days v d e (b ∷ bs) f = go (eqb (b .volume) v) (backupsIn-days v (b 
     go : (t : Bool) → Days (b .day) (backupsIn v bs) e → Days d (if t then b ∷ backupsIn v bs else backupsIn v bs) e
     go true ih = (f .0, ih)
     go false ih = days-sooner d (b .day) e (backupsIn v bs) (f .0) ih
+
+-- ---- the day before a backup
+
+pub journal-linked : (v : ℕ) (gone ts : List Slot) (rs : List Rec) → Linked (lastDay v gone) (backupsIn v (journalOf gone ts rs))
+unfolding Linked
+journal-linked v gone [] rs = tt
+journal-linked v gone (t ∷ ts) rs = go (eqb (t .volume) v) refl (journal-linked v (t ∷ gone) ts (drop (t .number) rs))
+  where
+    rest : List Backup
+    rest = backupsIn v (journalOf (t ∷ gone) ts (drop (t .number) rs))
+
+    b : Backup
+    b = record { volume = t .volume; day = t .day; prev = lastDay (t .volume) gone; records = take (t .number) rs }
+
+    go : (s : Bool) → eqb (t .volume) v ≡ s → Linked (if s then some (t .day) else lastDay v gone) rest
+        → Linked (lastDay v gone) (if s then b ∷ rest else rest)
+    go true e ih = (ap (λ (w : ℕ). lastDay w gone) (eqb-true (t .volume) v e), ih)
+    go false e ih = ih
+
+pub backups-linked : (x : Book) (v : ℕ) → Linked none (backupsIn v (journal x))
+unfolding journal
+backups-linked x v = journal-linked v [] (x .slots) (x .records)
+
+-- the last day of all slots is that of the volume's last backup
+pub last-day : (v : ℕ) (gone ts : List Slot) (rs : List Rec)
+    → sinceOf (lastDay v (goneAfter gone ts))
+    ≡ lastOf (sinceOf (lastDay v gone)) (map (λ (b : Backup). b .day) (backupsIn v (journalOf gone ts rs)))
+last-day v gone [] rs = refl
+last-day v gone (t ∷ ts) rs = last-day v (t ∷ gone) ts (drop (t .number) rs) ∙ go (eqb (t .volume) v)
+  where
+    rest : List Backup
+    rest = backupsIn v (journalOf (t ∷ gone) ts (drop (t .number) rs))
+
+    b : Backup
+    b = record { volume = t .volume; day = t .day; prev = lastDay (t .volume) gone; records = take (t .number) rs }
+
+    go : (s : Bool) → lastOf (sinceOf (if s then some (t .day) else lastDay v gone)) (map (λ (b : Backup). b .day) rest)
+        ≡ lastOf (sinceOf (lastDay v gone)) (map (λ (b : Backup). b .day) (if s then b ∷ rest else rest))
+    go true = refl
+    go false = refl

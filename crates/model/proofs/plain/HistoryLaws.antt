@@ -1,20 +1,20 @@
 -- What a history says of a block after one more backup, of the days that backups are kept, and of the bytes that a read gives.
-use Prim.Native.Nat.{ℕ, suc, _≤_}
+use Prim.Native.Nat.{ℕ, zero, suc, _≤_}
 use mathlib.Core.Path.{_≡_, refl, sym}
 use mathlib.Core.Bool.{Bool, true, false, not, _||_}
 use mathlib.Core.List.{List, [], _∷_, _++_, map, append-nil}
 use mathlib.Core.Option.{Option, none, some}
 use native.Mathlib.Omega.{arith}
 use lib.Dec.{leb, ltb, eqb}
-use lib.ListN.{length, take, drop, length-append}
+use lib.ListN.{length, getD, take, drop, length-append, List·getD-append}
 use lib.Seq.{take-append-le, take-all, take-length, drop-append-le}
 use Rattle.words.specs.Choice.{if_then_else_}
 use Rattle.words.specs.Lists.{orElse, joined}
 use Rattle.words.proofs.Appends.{map-append, joined-append}
 use Rattle.words.specs.Outcome.{accepted, unless}
 use Rattle.runs.specs.Changes.{Change}
-use Rattle.model.specs.Days.{keptBefore, kept}
-use Rattle.model.proofs.kept.DayLaws.{kept-before}
+use Rattle.model.specs.Days.{keptBy, kept}
+use Rattle.model.proofs.kept.DayLaws.{kept-own}
 use Rattle.model.specs.Calls.{block}
 use Rattle.model.specs.Sides.{readAnswer}
 use Rattle.model.specs.History.{Sent, History, withSent, lastBlock, sentBlock, isNone, blockOr, historyNumber, historyRead}
@@ -56,20 +56,22 @@ module _ (h : History) (s : Sent) where
 -- kept later, kept earlier
 pub kept-earlier : (ds : List ℕ) (r d t k : ℕ) → d ≤ t → kept ds r t k ≡ true → kept ds r d k ≡ true
 unfolding kept
-kept-earlier ds r d t k h e = go (drop k ds) e
+kept-earlier ds r d t zero h e = e
+kept-earlier ds r d t (suc k) h e = go (getD ds k 0) (drop (suc k) ds) e
   where
-    go : (ts : List ℕ) → keptBefore ts r t ≡ true → keptBefore ts r d ≡ true
-    go [] e = refl
-    go (x ∷ ts) e = kept-before x ts r d .1 (let z = kept-before x ts r t .0 e in omega arith)
+    go : (own : ℕ) (ts : List ℕ) → keptBy own ts r t ≡ true → keptBy own ts r d ≡ true
+    go own [] e = refl
+    go own (x ∷ ts) e = kept-own own x ts r d .1 (let z = kept-own own x ts r t .0 e in omega arith)
 
 -- one more backup makes no other kept longer
 pub kept-shorter : (ds : List ℕ) (x r d k : ℕ) → k ≤ length ds → kept (ds ++ (x ∷ [])) r d k ≡ true → kept ds r d k ≡ true
 unfolding kept
-kept-shorter ds x r d k h e = go (drop k ds) (rw (drop-append-le k ds (x ∷ []) h) at e)
+kept-shorter ds x r d zero h e = e
+kept-shorter ds x r d (suc k) h e = go (drop (suc k) ds) (rw (drop-append-le (suc k) ds (x ∷ []) h) at e)
   where
-    go : (ts : List ℕ) → keptBefore (ts ++ (x ∷ [])) r d ≡ true → keptBefore ts r d ≡ true
+    go : (ts : List ℕ) → keptBy (getD (ds ++ (x ∷ [])) k 0) (ts ++ (x ∷ [])) r d ≡ true → keptBy (getD ds k 0) ts r d ≡ true
     go [] e = refl
-    go (y ∷ ts) e = e
+    go (y ∷ ts) e = rw (List·getD-append ds (x ∷ []) 0 k (omega arith)) at e
 
 -- ---- the read
 

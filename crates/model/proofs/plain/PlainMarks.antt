@@ -9,7 +9,7 @@ use lib.ListN.{length, getD}
 use Rattle.words.proofs.ChoiceLaws.{true-and, or-l, or-r}
 use Rattle.words.specs.Lists.{someOf}
 use Rattle.words.proofs.Places.{place-some}
-use Rattle.model.specs.Days.{keptBefore, kept}
+use Rattle.model.specs.Days.{keptBy, kept}
 use Rattle.model.specs.Plain.{Block, free, Image, Volume, unenrolled, Plain, volumeAt, daysOf, mapsOf, currentMaps, names, keptNames}
 use Rattle.model.specs.Plain.{marked, swept}
 
@@ -21,10 +21,10 @@ image-named : (p r d k : ℕ) (z : List ℕ) (is : List Image) → k < length is
 unfolding kept
 image-named p r d k z [] h e n = absurd (omega arith)
 image-named p r d zero z (i ∷ is) h e n =
-    or-l (keptBefore (daysOf is) r d && names p (i .cells)) (keptNames p r d is)
-    (true-and (keptBefore (daysOf is) r d) (names p (i .cells)) e n)
+    or-l (keptBy (i .day) (daysOf is) r d && names p (i .cells)) (keptNames p r d is)
+    (true-and (keptBy (i .day) (daysOf is) r d) (names p (i .cells)) e n)
 image-named p r d (suc k) z (i ∷ is) h e n =
-    or-r (keptBefore (daysOf is) r d && names p (i .cells)) (keptNames p r d is) (image-named p r d k z is (omega arith) e n)
+    or-r (keptBy (i .day) (daysOf is) r d && names p (i .cells)) (keptNames p r d is) (image-named p r d k z is (omega arith) e n)
 
 pub kept-marked : (q : Plain) (d v k p : ℕ) (z : List ℕ) → v < length (q .volumes) → k < length (volumeAt q v .images)
     → kept (daysOf (volumeAt q v .images)) (volumeAt q v .retention) d (suc k) ≡ true

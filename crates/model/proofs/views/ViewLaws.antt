@@ -12,16 +12,16 @@ use Rattle.words.specs.Lists.{bit}
 use Rattle.words.specs.Numbers.{num}
 use Rattle.words.proofs.NumberLaws.{two-back}
 use Rattle.book.specs.Book.{Book, retentionOf}
-use Rattle.model.specs.Days.{keptBefore, kept}
+use Rattle.model.specs.Days.{keptBy, kept}
 use Rattle.model.specs.Journal.{Backup, backups, days}
 use Rattle.model.specs.JournalAt.{noBackup}
 use Rattle.model.specs.Views.{keptUntil, backupRow, backupRows, backupsOf}
 
 -- ---- the two columns of a row say the same of every day that two bytes can hold
 
-pub kept-until : (later : List ℕ) (r d : ℕ) → d ≤ 65535 → keptBefore later r d ≡ leb d (keptUntil later r)
-kept-until [] r d h = sym (le-leb d 65535 h)
-kept-until (t ∷ ts) r d h = refl
+pub kept-until : (t : ℕ) (later : List ℕ) (r d : ℕ) → d ≤ 65535 → keptBy t later r d ≡ leb d (keptUntil t later r)
+kept-until t [] r d h = sym (le-leb d 65535 h)
+kept-until t (u ∷ us) r d h = refl
 
 -- ---- eight bytes a row
 
@@ -34,6 +34,11 @@ num-past row rest i = rw (getD-append-add row rest i 0, add-assoc (length row) i
 
 abbrev daysOf : List Backup → List ℕ
 daysOf bs = map (λ (b : Backup). b .day) bs
+
+own-day : (bs : List Backup) (k : ℕ) → getD (daysOf bs) k 0 ≡ getD bs k noBackup .day
+own-day [] k = refl
+own-day (b ∷ bs) zero = refl
+own-day (b ∷ bs) (suc k) = own-day bs k
 
 module _ (r d : ℕ) where
   length-rows : (bs : List Backup) → length (backupRows r d bs) ≡ length bs * 8
@@ -58,20 +63,20 @@ module _ (x : Book) (v : ℕ) where
 
   -- backup k + 1 stands in row k
   module _ (k : ℕ) (h : k < length (backups x v)) where
-    pub until-shown : num (backupsOf x v) (k * 8 + 4) ≡ keptUntil (drop (suc k) (days x v)) (retentionOf x v)
+    pub until-shown : num (backupsOf x v) (k * 8 + 4) ≡ keptUntil (getD (days x v) k 0) (drop (suc k) (days x v)) (retentionOf x v)
     unfolding backupsOf days
     until-shown =
-        row-at (retentionOf x v) (x .day) (backups x v) k 4 h (omega arith)
-        ∙ two-back (keptUntil (drop (suc k) (daysOf (backups x v))) (retentionOf x v))
+        rw (own-day (backups x v) k) (row-at (retentionOf x v) (x .day) (backups x v) k 4 h (omega arith)
+        ∙ two-back (keptUntil (getD (backups x v) k noBackup .day) (drop (suc k) (daysOf (backups x v))) (retentionOf x v)))
 
     -- read's number 16 goes by the flag
     pub flag-shown : num (backupsOf x v) (k * 8 + 6) ≡ bit (kept (days x v) (retentionOf x v) (x .day) (suc k))
     unfolding backupsOf kept days
     flag-shown =
-        row-at (retentionOf x v) (x .day) (backups x v) k 6 h (omega arith)
-        ∙ two-back (bit (keptBefore (drop (suc k) (daysOf (backups x v))) (retentionOf x v) (x .day)))
+        rw (own-day (backups x v) k) (row-at (retentionOf x v) (x .day) (backups x v) k 6 h (omega arith)
+        ∙ two-back (bit (keptBy (getD (backups x v) k noBackup .day) (drop (suc k) (daysOf (backups x v))) (retentionOf x v) (x .day))))
 
     -- .. and the flag is 1 up to the day that stands beside it
     pub flag-until : x .day ≤ 65535 → num (backupsOf x v) (k * 8 + 6) ≡ bit (leb (x .day) (num (backupsOf x v) (k * 8 + 4)))
     unfolding kept
-    flag-until e = flag-shown ∙ rw until-shown (ap bit (kept-until (drop (suc k) (days x v)) (retentionOf x v) (x .day) e))
+    flag-until e = flag-shown ∙ rw until-shown (ap bit (kept-until (getD (days x v) k 0) (drop (suc k) (days x v)) (retentionOf x v) (x .day) e))

@@ -3,6 +3,7 @@
 use reference::call::{Call, Stored};
 use reference::cases;
 use reference::layout::{Book, Header, Pbn};
+use reference::layout_2::renumbered;
 use reference::play::encode;
 use reference::prng::Prng;
 use reference::random_books::narrowed;
@@ -26,8 +27,9 @@ const VOLUME: &[u16] = &[1, 2, 5];
 const VOLUME_ROWS: &[u16] = &[1, 2, 5, 20];
 const BLOCK_ROWS: &[u16] = &[1, 2, 20];
 const PLAY: &[u16] = &[19, 20];
-const CONVERT_1_2: &[u16] = &[1, 2, 4];
-const CONVERT_2_1: &[u16] = &[1, 2, 4, 22];
+/// To a later layout, and back.
+const CONVERT: &[u16] = &[1, 2, 4];
+const CONVERT_BACK: &[u16] = &[1, 2, 4, 22];
 
 const PART: &str = "sets of faults";
 
@@ -133,8 +135,8 @@ fn send_converts(outcome: &mut Outcome) {
     let mut prng = Prng::seeded(0);
     for way in Way::ALL {
         let numbers = match way {
-            Way::OneToTwo => CONVERT_1_2,
-            Way::TwoToOne => CONVERT_2_1,
+            Way::OneToTwo | Way::TwoToThree => CONVERT,
+            Way::TwoToOne => CONVERT_BACK,
         };
         for faults in sets(numbers) {
             for book in faults.books(way) {
@@ -199,7 +201,7 @@ impl Faults {
             book.edit_entry(Pbn(2), |entry| entry.count = 256);
         }
         if self.has(16) {
-            book.set_header(Header::Day, 13);
+            book.set_header(Header::Day, 10);
         }
         if self.has(2) {
             book.set_header(Header::Zero, 1);
@@ -229,7 +231,7 @@ impl Faults {
         }
     }
 
-    /// Volume 1's backup 1 is kept to day 12, and its newest one has a block at LBN 3 alone.
+    /// Volume 1's backup 1 is kept to day 9, and its newest one has a block at LBN 3 alone.
     fn read(&self) -> Call {
         Call::Read {
             volume: self.either(5, 2, 1),
@@ -269,10 +271,10 @@ impl Faults {
     /// The book in the layout that the converter takes, broken for 1 in each way.
     fn books(&self, way: Way) -> Vec<Vec<u8>> {
         let without_1 = Faults(self.0.iter().copied().filter(|&n| n != 1).collect());
-        let wide = without_1.stored().book;
+        let wide = renumbered(&without_1.stored().book);
         let book = match way {
             Way::OneToTwo => narrowed(&wide).expect("a book of layout 2"),
-            Way::TwoToOne => wide,
+            Way::TwoToOne | Way::TwoToThree => wide,
         };
         if !self.has(1) {
             return vec![book];
@@ -285,14 +287,10 @@ impl Faults {
         let mut longer = book.clone();
         longer.push(0);
         let shorter = book[..book.len() - 1].to_vec();
-        vec![
-            numbered(0),
-            numbered(way.to()),
-            numbered(3),
-            numbered(256 + way.from()),
-            longer,
-            shorter,
-        ]
+        let others = (0..5).filter(|&layout| layout != way.from());
+        let mut books: Vec<_> = others.map(numbered).collect();
+        books.extend([numbered(256 + way.from()), longer, shorter]);
+        books
     }
 
     fn enrol(&self) -> Call {

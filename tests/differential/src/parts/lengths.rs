@@ -2,6 +2,7 @@
 
 use reference::call::{Call, Stored};
 use reference::cases;
+use reference::layout_2;
 use reference::play::encode;
 use reference::prng::Prng;
 use reference::random_books::narrowed;
@@ -133,9 +134,13 @@ fn send_outputs(outcome: &mut Outcome) {
 /// The converters on the book after case d, with book and output resized.
 fn send_converts(outcome: &mut Outcome) {
     let mut prng = Prng::seeded(0);
-    let wide = cases::after_d().book;
+    let wide = layout_2::after_d().book;
     let narrow = narrowed(&wide).expect("a book of layout 2");
-    for (way, book) in [(Way::OneToTwo, &narrow), (Way::TwoToOne, &wide)] {
+    for (way, book) in [
+        (Way::OneToTwo, &narrow),
+        (Way::TwoToOne, &wide),
+        (Way::TwoToThree, &wide),
+    ] {
         let exact = way.output_bytes(book);
         for room in lengths(exact).into_iter().chain([book.len(), exact - 4]) {
             let label = || format!("lengths, a converter's output of {room} bytes");

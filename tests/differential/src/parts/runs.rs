@@ -49,37 +49,78 @@ fn run(outcome: &mut Outcome, shape: Shape, seed: u64) {
     let (sizes, pool) = (calls.sizes(), calls.first_pool());
     let label = || format!("run {shape:?} {seed}");
     let tested = Tested::format(outcome, &mut prng, &label, sizes, pool);
-    let Some(mut tested) = tested else { return };
-    let mut plain = Plain::new(sizes);
-    let mut history = History::new(sizes.lbns);
+    let Some(tested) = tested else { return };
     // Restores and converters have generators of their own, and the calls go on as they would.
-    let [mut drawn, mut converted] = [!seed, seed ^ 0xC0].map(Prng::seeded);
+    let [drawn, converted] = [!seed, seed ^ 0xC0].map(Prng::seeded);
+    let mut course = Course {
+        calls,
+        tested,
+        plain: Plain::new(sizes),
+        history: History::new(sizes.lbns),
+        prng,
+        drawn,
+        converted,
+    };
     for index in 0..shape.calls() {
         let label = || format!("run {shape:?} {seed}, call {index}");
-        let call = calls.next_call();
-        let view = calls.view(&mut prng);
-        let run = calls.restore(&mut drawn);
-        views::send_any(outcome, &mut prng, &label, &tested.0.book, view);
-        restores::send_past(outcome, &mut drawn, &label, (&tested.0, run), &history);
-        converts::send_any(outcome, &mut converted, &label, &tested.0.book);
-        if prng.once_in(2) {
-            send_disturbed(outcome, &mut prng, &label, &tested.0, (&call, view));
-            send_run_disturbed(outcome, &mut drawn, &label, (&tested.0, run));
-        }
-        let Some(seen) = tested.call(outcome, &mut prng, &label, &call) else {
+        let last = index + 1 == shape.calls();
+        if course.step(outcome, &label, last).is_none() {
             return;
-        };
-        let answer = plain.call(&call);
+        }
+    }
+}
+
+/// A run on its way, with all that it is in step with.
+pub struct Course {
+    pub calls: RandomCalls,
+    pub tested: Tested,
+    pub plain: Plain,
+    pub history: History,
+    pub prng: Prng,
+    /// Draws the restores.
+    pub drawn: Prng,
+    /// Draws the conversions.
+    pub converted: Prng,
+}
+
+impl Course {
+    /// The next call with all that comes beside it. Nothing if the archive wrote where it may not.
+    pub fn step(
+        &mut self,
+        outcome: &mut Outcome,
+        label: &dyn Fn() -> String,
+        last: bool,
+    ) -> Option<()> {
+        let call = self.calls.next_call();
+        self.send_beside(outcome, label, &call);
+        let seen = self.tested.call(outcome, &mut self.prng, label, &call)?;
+        let answer = self.plain.call(&call);
         let label = || format!("{}, plain store", label());
-        outcome.check(&label, answers_agree(&answer, &seen, &tested.0.pool));
+        let (prng, stored) = (&mut self.prng, &self.tested.0);
+        outcome.check(&label, answers_agree(&answer, &seen, &stored.pool));
         let volumes = match answer {
-            _ if index + 1 == shape.calls() => ALL_VOLUMES,
+            _ if last => ALL_VOLUMES,
             Answer::Freed(_) => &[prng.pick(ALL_VOLUMES)],
             _ => &[],
         };
-        send_plain(outcome, &mut prng, &label, (&tested.0, &plain), volumes);
-        calls.learn(&call, &answer);
-        history.note(&call, &answer);
+        send_plain(outcome, prng, &label, (stored, &self.plain), volumes);
+        self.calls.learn(&call, &answer);
+        self.history.note(&call, &answer);
+        Some(())
+    }
+
+    /// What changes nothing, on the box as it is and on damaged copies; the call on one of those too.
+    fn send_beside(&mut self, outcome: &mut Outcome, label: &dyn Fn() -> String, call: &Call) {
+        let (prng, drawn, stored) = (&mut self.prng, &mut self.drawn, &self.tested.0);
+        let view = self.calls.view(prng);
+        let run = self.calls.restore(drawn);
+        views::send_any(outcome, prng, label, &stored.book, view);
+        restores::send_past(outcome, drawn, label, (stored, run), &self.history);
+        converts::send_any(outcome, &mut self.converted, label, &stored.book);
+        if prng.once_in(2) {
+            send_disturbed(outcome, prng, label, stored, (call, view));
+            send_run_disturbed(outcome, drawn, label, (stored, run));
+        }
     }
 }
 

@@ -5,6 +5,7 @@ use reference::layout::{
     Book, Fingerprint, Header, Pbn, Record, DAY_MAX, FREE, HELD, UNMAPPED, VOLUMES,
 };
 
+use super::replaced::Replaced;
 use super::{lists, Shape};
 use crate::seen::Seen;
 
@@ -50,12 +51,11 @@ impl<'a> Backup<'a> {
     }
 
     /// Of the blocks and cells of an accepted backup.
-    pub fn change_shapes(&self) -> [Shape; 8] {
+    pub fn change_shapes(&self) -> [Shape; 7] {
         [
             ("1,024 changes", self.added.len() == 1_024),
             ("a block that another volume has too", self.shares()),
             ("a cell's own block again", self.added.iter().any(again)),
-            ("an expiry stays, being the larger", self.leaves_an_expiry()),
             ("the cursor goes round", self.goes_round()),
             ("a freed block is taken again", self.takes_again()),
             ("the last free block is taken", self.fills_the_pool()),
@@ -118,6 +118,11 @@ impl<'a> Backup<'a> {
         ]
     }
 
+    /// What it replaced.
+    pub fn replaced(&self) -> Replaced<'_> {
+        Replaced::new(&self.before, &self.after, self.volume, &self.added)
+    }
+
     /// Of the list's pairs.
     pub fn list_shapes(&self) -> impl IntoIterator<Item = Shape> {
         lists::shapes(self.bytes, self.before.sizes().lbns, self.number)
@@ -161,13 +166,6 @@ impl<'a> Backup<'a> {
         blocks.sort_unstable();
         let equal = blocks.chunk_by(|one, other| one == other);
         equal.map(<[u16]>::len).max().unwrap_or(0)
-    }
-
-    fn leaves_an_expiry(&self) -> bool {
-        let expiry = u32::from(self.day) + u32::from(self.before.retention(self.volume));
-        let befores = self.added.iter().map(|record| record.before);
-        let mut mapped = befores.filter(|&pbn| pbn != UNMAPPED);
-        mapped.any(|pbn| u32::from(self.before.entry(pbn).expiry) > expiry)
     }
 
     /// The blocks that were free before and are held after.

@@ -1,7 +1,9 @@
 //! Shapes of conversions.
 
 use reference::form;
-use reference::store::{self, Way};
+use reference::layout::{Book, HEADER_BYTES};
+use reference::layout_2;
+use reference::store::Way;
 
 use super::Shape;
 use crate::request::Converting;
@@ -11,7 +13,7 @@ const NARROW: u16 = 255;
 
 pub struct Converted<'a> {
     number: u16,
-    book: &'a [u8],
+    pub book: &'a [u8],
     way: Way,
     /// How many bytes the output has, and how many the book to write.
     room: usize,
@@ -29,7 +31,7 @@ impl<'a> Converted<'a> {
             counts.collect()
         });
         let looked_at = matches!(number, 0 | 22);
-        let faults = looked_at.then(|| store::faults_in(way.from(), book));
+        let faults = looked_at.then(|| layout_2::faults(way.from(), book));
         Converted {
             number,
             book,
@@ -45,14 +47,25 @@ impl<'a> Converted<'a> {
         self.counts.iter().max().copied()
     }
 
-    /// Of either converter.
+    /// Whether it is as long as its sizes ask in the layout that is taken.
+    fn has_its_length(&self) -> bool {
+        if self.book.len() < HEADER_BYTES {
+            return false;
+        }
+        let sizes = Book::over(self.book).sizes();
+        sizes.book_bytes_in(self.way.from()) == self.book.len()
+    }
+
+    fn says(&self) -> Option<u16> {
+        self.book.first_chunk().map(|two| u16::from_le_bytes(*two))
+    }
+
+    /// Of every converter.
     pub fn shapes(&self) -> Vec<Shape> {
         let (accepted, short) = (self.number == 0, self.number == 4);
         let (room, exact, blocks) = (self.room, self.exact, self.counts.len());
         let other = || form::check_in(self.way.to(), self.book).is_ok();
-        let says = self.book.first_chunk().map(|two| u16::from_le_bytes(*two));
-        let own_length = self.way.back().output_bytes(self.book) == self.book.len();
-        let renamed = says == Some(self.way.to()) && own_length;
+        let renamed = self.says() == Some(self.way.to()) && self.has_its_length();
         vec![
             ("a sound book", accepted && self.sound),
             ("an unsound book", accepted && !self.sound),
@@ -72,6 +85,19 @@ impl<'a> Converted<'a> {
             (
                 "1 for the other's number alone",
                 self.number == 1 && renamed,
+            ),
+        ]
+    }
+
+    /// Of the one that has a layout on either side.
+    pub fn other_layout_shapes(&self) -> [Shape; 2] {
+        let refused = self.number == 1;
+        let narrow = || form::check_in(1, self.book).is_ok();
+        [
+            ("1 for a book of layout 1", refused && narrow()),
+            (
+                "1 for a later number",
+                refused && self.says() > Some(3) && self.has_its_length(),
             ),
         ]
     }

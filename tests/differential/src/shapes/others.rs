@@ -1,8 +1,10 @@
 //! Shapes of the other calls of the box.
 
-use reference::layout::{Book, Header, Lbn, Sizes, Slot, DAY_MAX, HELD};
-use reference::store::{self, Fault};
+use reference::layout::{Book, Header, Lbn, Pbn, Sizes, Slot, DAY_MAX, HELD};
+use reference::layout_2::FROM_REPLACING;
+use reference::store::expiries;
 
+use super::days::{self, Days};
 use super::Shape;
 use crate::seen::Seen;
 
@@ -13,14 +15,20 @@ pub struct Collect {
     freed: usize,
     /// The expiries of held blocks with count 0.
     waiting: Vec<u16>,
+    /// A block is freed that the rule of layout 2 would keep.
+    sooner: bool,
 }
 
 impl Collect {
     pub fn new(book: &[u8], day: u16, seen: &Seen) -> Self {
-        let view = Book::over(book);
+        let (view, after) = (Book::over(book), Book::over(seen.content(0)));
         let entries = view.pbns().map(|pbn| view.entry(pbn));
         let waiting = entries.filter(|entry| entry.state == HELD && entry.count == 0);
+        let freed = |pbn: Pbn| view.entry(pbn).state == HELD && after.entry(pbn).state != HELD;
+        let by_old_rule = view.pbns().zip(expiries(&view, FROM_REPLACING));
+        let mut kept_by_it = by_old_rule.filter(|(_, expiry)| *expiry >= day);
         Collect {
+            sooner: kept_by_it.any(|(pbn, _)| freed(pbn)),
             day,
             day_before: view.header(Header::Day),
             number: seen.number,
@@ -29,7 +37,7 @@ impl Collect {
         }
     }
 
-    pub fn shapes(&self) -> [Shape; 10] {
+    pub fn shapes(&self) -> [Shape; 11] {
         let (accepted, refused) = (self.number == 0, self.number == 7);
         let (day, before, freed) = (self.day, self.day_before, self.freed);
         let waiting = self.waiting.len();
@@ -46,6 +54,7 @@ impl Collect {
             ),
             ("a block waits on its day of expiry", on_its_day),
             ("a block is freed on the day after", day_after),
+            ("frees what layout 2 would keep", self.sooner),
             ("the day stays", accepted && day == before),
             ("the day goes on", accepted && day > before),
             (
@@ -58,11 +67,9 @@ impl Collect {
 }
 
 pub struct Read {
-    newest: bool,
     /// Whether a later backup has a record of the LBN.
     by_record: bool,
-    /// How many days are left until the backup isn't kept.
-    days_left: Option<i32>,
+    days: Option<Days>,
 }
 
 impl Read {
@@ -71,30 +78,27 @@ impl Read {
         let slots = view.used_slots_of(volume as u8);
         let later = slots.get(usize::from(number)..).unwrap_or(&[]);
         let mut records = later.iter().flat_map(Slot::records);
-        let days_left = later.first().map(|next| {
-            let last = i32::from(next.day) + i32::from(view.retention(volume as u8));
-            last - i32::from(view.header(Header::Day))
-        });
         Read {
-            newest: usize::from(number) == slots.len(),
             by_record: records.any(|index| view.record(index).lbn == Lbn(lbn)),
-            days_left,
+            days: Days::new(&view, volume as u8, number),
         }
     }
 
-    pub fn shapes(&self, refusal: u16) -> [Shape; 7] {
+    pub fn shapes(&self, refusal: u16) -> [Shape; 5] {
         let (found, by_record) = (refusal == 0, self.by_record);
-        let older_by_map = found && !self.newest && !by_record;
-        let day_after = refusal == 16 && self.days_left == Some(-1);
+        let newest = self.days.as_ref().is_some_and(Days::is_newest);
+        let older_by_map = found && !newest && !by_record;
         [
-            ("the newest backup", found && self.newest),
+            ("the newest backup", found && newest),
             ("an older one, by a record", found && by_record),
             ("an older one, by the map", older_by_map),
-            ("on the last day kept", found && self.days_left == Some(0)),
-            ("refused on the day after", day_after),
             ("unmapped by a record", refusal == 18 && by_record),
             ("unmapped by the map", refusal == 18 && !by_record),
         ]
+    }
+
+    pub fn day_shapes(&self, refusal: u16) -> [Shape; 6] {
+        days::shapes(self.days.as_ref(), refusal)
     }
 }
 
@@ -112,20 +116,6 @@ pub fn enrol(volume: u16, days: u16, number: u16) -> [Shape; 8] {
         ("5,001 days", number == 6 && days == 5_001),
         ("volume 8", number == 5 && volume == 8),
         ("a volume that is enrolled", number == 5 && volume < 8),
-    ]
-}
-
-pub fn audit(book: &[u8]) -> [Shape; 7] {
-    let faults = store::faults(book).expect("a book in form");
-    let alone = |fault| faults == [fault];
-    [
-        ("yes", faults.is_empty()),
-        ("no, by the replay alone", alone(Fault::Replay)),
-        ("no, by a count alone", alone(Fault::Count)),
-        ("no, by an expiry alone", alone(Fault::Expiry)),
-        ("no, by a fingerprint alone", alone(Fault::Fingerprint)),
-        ("no, by a freed block alone", alone(Fault::FreeButNamed)),
-        ("no, by several", faults.len() > 1),
     ]
 }
 

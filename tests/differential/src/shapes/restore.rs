@@ -1,8 +1,9 @@
 //! Shapes of restores.
 
-use reference::layout::{Book, Header, Lbn, Pbn, Record, Slot, UNMAPPED};
+use reference::layout::{Book, Lbn, Pbn, Record, Slot, UNMAPPED};
 use reference::store::Run;
 
+use super::days::{self, Days};
 use super::{Shape, MOST};
 use crate::request::Restoring;
 
@@ -28,8 +29,7 @@ pub struct Restored {
     lbns: u32,
     room: usize,
     newest: bool,
-    /// How many days are left until the backup isn't kept.
-    days_left: Option<i32>,
+    days: Option<Days>,
     /// Those of the run's LBNs that the volume has.
     cells: Vec<Cell>,
 }
@@ -40,17 +40,13 @@ impl Restored {
         let volume = run.volume.min(7) as u8;
         let slots = view.used_slots_of(volume);
         let later = slots.get(usize::from(run.number)..).unwrap_or(&[]);
-        let days_left = later.first().map(|next| {
-            let last = i32::from(next.day) + i32::from(view.retention(volume));
-            last - i32::from(view.header(Header::Day))
-        });
         Restored {
             number,
             run,
             lbns: view.sizes().lbns.into(),
             room: restoring.output.len(),
             newest: usize::from(run.number) == slots.len(),
-            days_left,
+            days: Days::new(&view, volume, run.number),
             cells: cells(&view, volume, run, later),
         }
     }
@@ -134,13 +130,8 @@ impl Restored {
         ]
     }
 
-    /// The last day on which an older backup is kept, and the first on which it isn't.
-    pub fn kept_shapes(&self) -> [Shape; 2] {
-        let left = |days: i32| self.days_left == Some(days);
-        [
-            ("on the last day kept", self.accepted() && left(0)),
-            ("16 on the day after", self.number == 16 && left(-1)),
-        ]
+    pub fn day_shapes(&self) -> [Shape; 6] {
+        days::shapes(self.days.as_ref(), self.number)
     }
 
     /// By 21: the end, the room, or both.

@@ -45,7 +45,7 @@ pub fn shown(viewed: &Viewed, seen: &Seen) -> Vec<Shape> {
         View::Sizes => sizes(seen).into(),
         View::Used => used(viewed.book, seen).into(),
         View::Volume { .. } => facts(seen).into(),
-        View::Backups { .. } => backups(viewed.book, rows()).into(),
+        View::Backups { volume } => backups(viewed.book, volume, rows()).into(),
         View::Cells { .. } => cells(rows()).into(),
         View::Blocks => blocks(rows()).into(),
     }
@@ -88,8 +88,10 @@ fn facts(seen: &Seen) -> [Shape; 5] {
     ]
 }
 
-fn backups(book: &[u8], rows: &[u8]) -> [Shape; 8] {
-    let book_day = u32::from(Book::over(book).header(Header::Day));
+fn backups(book: &[u8], volume: u16, rows: &[u8]) -> [Shape; 11] {
+    let book = Book::over(book);
+    let book_day = u32::from(book.header(Header::Day));
+    let retention = u32::from(book.retention(volume as u8));
     let rows: Vec<[u16; 4]> = rows
         .chunks_exact(8)
         .map(|row| numbers(row).try_into().expect("four numbers"))
@@ -100,6 +102,8 @@ fn backups(book: &[u8], rows: &[u8]) -> [Shape; 8] {
     };
     let any = |is: fn(&[u16; 4]) -> bool| older.iter().any(is);
     let ended_on = |day: u32| older.iter().any(|row| u32::from(row[2]) == day);
+    let reaches = |row: &[u16; 4]| u32::from(row[0]) + retention >= book_day;
+    let gone = || rows.windows(2).filter(|pair| pair[0][3] == 0);
     [
         ("a volume without backups", rows.is_empty()),
         ("the newest", newest.is_some()),
@@ -107,6 +111,18 @@ fn backups(book: &[u8], rows: &[u8]) -> [Shape; 8] {
         ("one that isn't kept any more", any(|row| row[3] == 0)),
         ("on the last day kept", ended_on(book_day)),
         ("on the day after", ended_on(book_day.wrapping_sub(1))),
+        (
+            "one that is gone, though the next one's day reaches",
+            gone().any(|pair| reaches(&pair[1])),
+        ),
+        (
+            "one that is gone on the next one's very day",
+            gone().any(|pair| u32::from(pair[1][0]) == book_day),
+        ),
+        (
+            "the newest, long after",
+            newest.is_some_and(|row| !reaches(row)),
+        ),
         ("one without changes", any(|row| row[1] == 0)),
         ("one of 1,024 changes", any(|row| row[1] == 1_024)),
     ]

@@ -1,35 +1,41 @@
-//! Books of another layout: one of layout 1 is for upgrade alone, whole or damaged, and one of a
-//! layout that is yet to come for nobody.
+//! Books of another layout: one of an older layout is for upgrade alone, whole or damaged, and one of
+//! a layout that is yet to come for nobody.
 
 use reference::form;
-use reference::store::{convert, Way};
+use reference::store;
 
-use super::{
-    file, lines, masks, unsound_book, with, Cases, Wanted, RESTORE, RESTORE_TO_FILE, UPGRADE,
-};
+use super::{file, lines, masks, with, Cases, Wanted, RESTORE, RESTORE_TO_FILE, UPGRADE};
 use crate::judge::BOOK;
-use crate::sealed;
+use crate::older::{book_in, store_in, upgraded, LAYOUTS};
+use crate::sealed::{self, Parts};
 use crate::tree::Tree;
-use crate::upgrade::made_old;
 
 /// A layout that there isn't yet.
 const LATER: u16 = 7;
 
 impl Cases {
     pub(super) fn add_other_layouts(&mut self, whole: &Tree, all: bool) {
-        let old = made_old(whole);
-        for line in lines().filter(|line| line.line != UPGRADE.line) {
-            let says = "run aspenbox upgrade box";
-            self.add_told("book of layout 1", &old, line.line, says);
+        for layout in LAYOUTS {
+            self.add_older(layout, whole, all);
         }
-        self.add_changed_old_books(&old, all);
-        let unsound = with(whole, BOOK, unsound_old_book(whole));
         let later = with(whole, BOOK, later_book(whole));
         for line in lines() {
-            let says = "box/book is damaged: maps, counts or days";
-            self.add_told("unsound book of layout 1", &unsound, line.line, says);
             let says = "refused 1: box/book has layout 7 and";
             self.add_told("book of a later layout", &later, line.line, says);
+        }
+    }
+
+    fn add_older(&mut self, layout: u16, whole: &Tree, all: bool) {
+        let old = store_in(layout, whole);
+        let what = format!("book of layout {layout}");
+        for line in lines().filter(|line| line.line != UPGRADE.line) {
+            self.add_told(&what, &old, line.line, "run aspenbox upgrade box");
+        }
+        self.add_changed_old_books(layout, &old, all);
+        let unsound = with(whole, BOOK, unsound_old_book(layout, whole));
+        for line in lines() {
+            let says = "box/book is damaged: maps, counts or days";
+            self.add_told(&format!("unsound {what}"), &unsound, line.line, says);
         }
     }
 
@@ -43,7 +49,7 @@ impl Cases {
     }
 
     /// Each changed byte is shown to upgrade and to another command.
-    fn add_changed_old_books(&mut self, old: &Tree, all: bool) {
+    fn add_changed_old_books(&mut self, layout: u16, old: &Tree, all: bool) {
         let book = file(old, BOOK);
         let others: Vec<_> = lines().collect();
         let mut turn = 0;
@@ -51,28 +57,51 @@ impl Cases {
             for mask in masks(at, all) {
                 let mut changed = book.to_vec();
                 changed[at] ^= mask;
-                let what = format!("book of layout 1 with byte {at} changed by {mask:#04x}");
-                let says = match form::check_in(1, sealed::open(&changed).book) {
-                    Err(refusal) => format!("refused {}:", refusal.number()),
-                    Ok(_) => "box/book is damaged: ".into(),
-                };
+                let what = format!("book of layout {layout} with byte {at} changed by {mask:#04x}");
+                let said = says_of(layout, sealed::open(&changed).book);
                 let tree = with(old, BOOK, changed);
-                self.add_told(&what, &tree, UPGRADE.line, &says);
-                self.add_told(&what, &tree, others[turn % others.len()].line, &says);
+                for line in [UPGRADE, others[turn % others.len()]] {
+                    match &said {
+                        Some(says) => self.add_told(&what, &tree, line.line, says),
+                        None => self.add_judged(&what, &tree, line),
+                    }
+                }
                 turn += 1;
             }
         }
     }
 }
 
-/// The file of a book in layout 1 that is unsound, under a digest that fits.
-fn unsound_old_book(whole: &Tree) -> Vec<u8> {
+/// What every command says of a changed book; none where it is one of today's layout now.
+fn says_of(layout: u16, book: &[u8]) -> Option<String> {
+    if form::check(book).is_ok() {
+        return None;
+    }
+    Some(match form::check_in(layout, book) {
+        Err(refusal) => format!("refused {}:", refusal.number()),
+        Ok(_) => "box/book is damaged: ".into(),
+    })
+}
+
+/// The file of a book in an older layout that is unsound, under a digest that fits.
+fn unsound_old_book(layout: u16, whole: &Tree) -> Vec<u8> {
     let parts = sealed::open(file(whole, BOOK));
-    let unsound = unsound_book(&parts);
-    let mut book = vec![0; Way::TwoToOne.output_bytes(&unsound)];
-    convert(Way::TwoToOne, &unsound, &mut book).expect("a book in form with small counts");
     let id = parts.seal.as_ref().expect("a sealed book").id;
+    let book = book_in(layout, &unsound_when_upgraded(&parts));
     sealed::make(&book, &parts.lengths, id)
+}
+
+/// A changed book that the audit finds unsound, and also once its expiries are worked out afresh.
+fn unsound_when_upgraded(parts: &Parts) -> Vec<u8> {
+    let changed = (0..parts.book.len()).map(|at| {
+        let mut book = parts.book.to_vec();
+        book[at] ^= 1;
+        book
+    });
+    let mut unsound = changed.filter(|book| {
+        form::check(book).is_ok() && store::audit(&upgraded(&book_in(2, book))) == Ok(false)
+    });
+    unsound.next().expect("some byte that the audit looks at")
 }
 
 /// The file of a book that has some bytes more, of a layout with a higher number.

@@ -106,6 +106,12 @@ impl<B: Deref<Target = [u8]>> Book<B> {
             .collect()
     }
 
+    /// The days of a volume's backups.
+    pub fn days_of(&self, volume: u8) -> Vec<u16> {
+        let slots = self.used_slots().filter(|slot| slot.volume == volume);
+        slots.map(|slot| slot.day).collect()
+    }
+
     pub fn map(&self, volume: u8) -> Vec<Pbn> {
         self.lbns().map(|lbn| self.cell(volume, lbn)).collect()
     }

@@ -3,6 +3,7 @@
 use super::{check_day, enrolled, BackedUp};
 use crate::change_list::{self, Change};
 use crate::form;
+use crate::keeping::last_day;
 use crate::layout::{Block, Book, Fingerprint, Header, Pbn, Record, Slot, HELD, UNMAPPED};
 use crate::refusal::{require, Refusal};
 
@@ -19,8 +20,8 @@ pub fn backup(
     require(spare.len() >= book.len(), Refusal::Spare)?;
     let volume = enrolled(&view, volume)?;
     check_day(&view, day)?;
-    let last = view.used_slots_of(volume).pop();
-    require(last.is_none_or(|slot| day > slot.day), Refusal::Day)?;
+    let previous = view.days_of(volume).pop();
+    require(previous.is_none_or(|previous| day > previous), Refusal::Day)?;
     let list = change_list::read(list, view.sizes().lbns)?;
     let slots_used = view.header(Header::SlotsUsed);
     require(slots_used < view.sizes().slots, Refusal::SlotsFull)?;
@@ -48,6 +49,8 @@ struct Run<'s, 'l> {
     pool: &'s [u8],
     volume: u8,
     day: u16,
+    /// The last day of the volume's previous backup, which names what is replaced now.
+    expiry: u16,
     /// The blocks taken so far, with their bytes.
     taken: Vec<(Pbn, &'l Block)>,
     befores: u16,
@@ -55,7 +58,10 @@ struct Run<'s, 'l> {
 
 impl<'s, 'l> Run<'s, 'l> {
     fn start(book: Book<&'s mut [u8]>, pool: &'s [u8], volume: u8, day: u16) -> Self {
+        // Only in a damaged book has the first backup something to replace.
+        let previous = book.days_of(volume).pop().unwrap_or(0);
         Run {
+            expiry: last_day(previous, book.retention(volume)),
             book,
             pool,
             volume,
@@ -125,7 +131,7 @@ impl<'s, 'l> Run<'s, 'l> {
     fn lower(&mut self, before: Pbn) -> Result<(), Refusal> {
         let count = self.book.entry(before).count;
         require(count != 0, Refusal::BeforeUncounted)?;
-        let expiry = self.day + self.book.retention(self.volume);
+        let expiry = self.expiry;
         self.book.edit_entry(before, |entry| {
             entry.count -= 1;
             entry.expiry = entry.expiry.max(expiry);

@@ -1,5 +1,7 @@
-//! Books from one layout to another: every field is equal but the layout number.
+//! Books from one layout to another: every field is equal but the layout number, and, to layout 3,
+//! the expiries.
 
+use super::audit::{settle_expiries, FROM_TAKING};
 use crate::form;
 use crate::layout::{format_in, Book, Header, HEADER_BYTES, VOLUMES};
 use crate::refusal::{require, Refusal};
@@ -9,28 +11,35 @@ use crate::refusal::{require, Refusal};
 pub enum Way {
     OneToTwo,
     TwoToOne,
+    TwoToThree,
 }
 
 impl Way {
-    pub const ALL: [Way; 2] = [Way::OneToTwo, Way::TwoToOne];
+    pub const ALL: [Way; 3] = [Way::OneToTwo, Way::TwoToOne, Way::TwoToThree];
 
     /// The layout that is taken.
     pub fn from(self) -> u16 {
         match self {
             Way::OneToTwo => 1,
-            Way::TwoToOne => 2,
+            Way::TwoToOne | Way::TwoToThree => 2,
         }
     }
 
     /// The layout that is written.
     pub fn to(self) -> u16 {
-        self.back().from()
+        match self {
+            Way::OneToTwo => 2,
+            Way::TwoToOne => 1,
+            Way::TwoToThree => 3,
+        }
     }
 
-    pub fn back(self) -> Way {
+    /// The converter that gives the very same book back. The old expiries don't come back.
+    pub fn back(self) -> Option<Way> {
         match self {
-            Way::OneToTwo => Way::TwoToOne,
-            Way::TwoToOne => Way::OneToTwo,
+            Way::OneToTwo => Some(Way::TwoToOne),
+            Way::TwoToOne => Some(Way::OneToTwo),
+            Way::TwoToThree => None,
         }
     }
 
@@ -50,11 +59,15 @@ pub fn convert(way: Way, book: &[u8], output: &mut [u8]) -> Result<(), Refusal> 
     let room = book.sizes().book_bytes_in(way.to());
     require(output.len() >= room, Refusal::Spare)?;
     let is_wide = |pbn| book.entry(pbn).count > 255;
-    let fits = way == Way::OneToTwo || !book.pbns().any(is_wide);
+    let fits = way != Way::TwoToOne || !book.pbns().any(is_wide);
     require(fits, Refusal::CountWide)?;
     let mut other = vec![0; room];
     format_in(way.to(), &mut other, book.sizes());
-    copy_fields(&book, &mut Book::over(&mut other[..]));
+    let mut written = Book::over(&mut other[..]);
+    copy_fields(&book, &mut written);
+    if way == Way::TwoToThree {
+        settle_expiries(&mut written, FROM_TAKING);
+    }
     for (place, byte) in output.iter_mut().zip(&other) {
         *place = *byte;
     }

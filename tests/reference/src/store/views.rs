@@ -1,7 +1,8 @@
 //! What a host is shown of a book. Rows are written only once nothing can be refused.
 
-use super::{enrolled, is_kept};
+use super::enrolled;
 use crate::form;
+use crate::keeping::{is_kept, kept_until};
 use crate::layout::{Header, Sizes, HELD};
 use crate::refusal::{require, Refusal};
 
@@ -51,12 +52,12 @@ pub fn backups(book: &[u8], volume: u16, output: &mut [u8]) -> Result<u16, Refus
     let book = form::check(book)?;
     let volume = enrolled(&book, volume)?;
     let slots = book.used_slots_of(volume);
+    let days: Vec<u16> = slots.iter().map(|slot| slot.day).collect();
     let (retention, day) = (book.retention(volume), book.header(Header::Day));
     let mut rows = Vec::new();
     for (number, slot) in (1..).zip(&slots) {
-        let next = slots.get(number);
-        let until = next.map_or(NO_END, |next| next.day + retention);
-        let kept = is_kept(&slots, number, retention, day);
+        let until = kept_until(&days, number, retention).unwrap_or(NO_END);
+        let kept = is_kept(&days, number, retention, day);
         push(&mut rows, &[slot.day, slot.number, until, kept.into()]);
     }
     write(&rows, output)?;

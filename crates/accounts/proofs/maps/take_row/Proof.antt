@@ -7,7 +7,7 @@ use lib.Seq.{take-all}
 use Rattle.book.specs.Layout.{bookOf}
 use Rattle.accounts.specs.Counts.{Counted}
 use Rattle.accounts.proofs.CountLaws.{counted-none, counted-cell, counted-le}
-use Rattle.replay.proofs.MatchingLaws.{matching-none, matching-grow}
+use Rattle.accounts.proofs.MatchingLaws.{matching-none, matching-grow}
 use Rattle.replay.specs.Table.{rowSize}
 use Rattle.accounts.specs.TableMaps.{rowMatches}
 use borrow.Author.Needs.{needs}

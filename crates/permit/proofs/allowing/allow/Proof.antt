@@ -1,5 +1,5 @@
 -- Each way out by the number that it says, and what is known when there is none.
-use Prim.Native.Nat.{ℕ, suc, _+_}
+use Prim.Native.Nat.{ℕ, suc}
 use mathlib.Core.Path.{_≡_, sym, ap, _∙_}
 use mathlib.Core.Bool.{false}
 use native.Mathlib.Numerals.{add-one}
@@ -13,7 +13,9 @@ use Rattle.book.specs.Layout.{bookOf}
 use Rattle.book.specs.FormFacts.{FormFacts}
 use Rattle.book.proofs.FormFactLaws.{form-facts}
 use Rattle.model.specs.Backup.{backupNumber}
+use Rattle.model.specs.Journal.{days}
 use Rattle.model.proofs.form.BackupAllowed.{Allowed, number-zero}
+use Rattle.model.proofs.kept.DayLaws.{last-before}
 use Rattle.permit.specs.Allowing.{lentNumber, dayRefused, roomNumber, AllowedBy}
 use Rattle.permit.proofs.AllowLaws.{lent-facts, lent-refused, number-refused, goes-on, by-room, days-bound}
 use Rattle.permit.proofs.AllowLaws.{five-above, five-none, seven, eight}
@@ -162,8 +164,11 @@ add-until : tie.Need-add-until
 add-until c =
     let k = checked (c .before) in
     let l = opened k in
-    let days = retention-in (bookOf (start l .args .book .now)) (form l .parts) (start l .args .v) in
-    omega (arith, allowed c .last, owned (dated k) .before .retention .ensures, days)
+    let a = start l .args in
+    let x = bookOf (a .book .now) in
+    let kept = retention-in x (form l .parts) (a .v) in
+    let before = last-before (days x (a .v)) (a .day) (allowed c .after) in
+    omega (arith, allowed c .last, before, dated k .before .before .backups-of .ensures .last, owned (dated k) .before .retention .ensures, kept)
 
 add-number : tie.Need-add-number
 add-number c =
@@ -197,7 +202,7 @@ returns-7 c =
         room = l .records;
       };
       room = l .slots;
-      until = ap (λ (r : ℕ). a .day + r) (o .before .retention .ensures);
+      until = omega (arith, dated k .before .before .backups-of .ensures .last, o .before .retention .ensures);
       number = rw add-one (ap suc (dated k .before .before .backups-of .ensures .count));
       goes = goes-on (a .book .now) (a .pool .now) (a .spare) (a .v) (a .day) (a .list .now) (lent p)
           (number (c .before .before) ∙ c .before .if5 .left);

@@ -1,9 +1,9 @@
--- `super::notes::raise` meets its contract: a store at the block's expiry, or none.
-use Rattle.replay.proofs.ExpiryLaws.{raised-past, raised-kept, raised-set}
+-- `super::expiries::raise` meets its contract: a store at the block's expiry, or none.
+use Rattle.due.proofs.ExpiryLaws.{raised-past, raised-kept, raised-set}
 use native.Mathlib.Omega.{arith}
 use borrow.Author.Needs.{needs}
-use Rattle.replay.proofs.notes.raise.Statement.{statement}
-use Rattle.replay.proofs.notes.raise.Tie as tie
+use Rattle.due.proofs.expiries.raise.Statement.{statement}
+use Rattle.due.proofs.expiries.raise.Tie as tie
 
 returns : tie.Need-returns
 returns c = raised-past _ _ _ (omega arith)

@@ -7,7 +7,7 @@ use native.Mathlib.Omega.{arith}
 use lib.Dec.{eqb}
 use Rattle.words.specs.Lists.{each}
 use Rattle.words.proofs.Each.{each-none, each-grow, each-same}
-use Rattle.replay.specs.Matching.{matching}
+use Rattle.accounts.specs.Matching.{matching}
 
 module _ (f g : ℕ → ℕ) where
   pub matching-none : true ≡ matching f g 0

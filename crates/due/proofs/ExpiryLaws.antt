@@ -1,29 +1,26 @@
 -- Laws of specs/Expiries.antt.
 -- An expiry for each block of the pool, raised record by record.
 use Prim.Native.Nat.{ℕ, suc, _+_, _≤_, _<_, max}
-use mathlib.Core.Path.{_≡_, refl, sym, ap, _∙_}
+use mathlib.Core.Path.{_≡_, refl, _∙_}
 use mathlib.Core.Bool.{Bool, true, false, _||_}
-use mathlib.Core.List.{List, [], _∷_}
+use mathlib.Core.List.{List, []}
 use native.Mathlib.Numerals.{add-one}
 use native.Mathlib.Omega.{arith}
 use lib.Dec.{eqb}
-use lib.ListN.{length, getD, set, replicate, length-set, getD-replicate}
+use lib.ListN.{length, getD, drop, set, length-set}
 use lib.Seq.{slice, slice-cons, slice-empty}
 use borrow.Author.Tests.{eqb-true, ne-eqb}
 use Rattle.words.specs.Choice.{if_then_else_}
-use Rattle.words.proofs.Each.{all-each}
-use Rattle.words.specs.Lists.{all, upFrom}
 use Rattle.words.proofs.SetLaws.{getD-set}
 use Rattle.words.proofs.Tests.{eqb-swap}
-use Rattle.book.specs.Book.{Rec, Book, noRec, recAt, retentionOf}
-use Rattle.book.specs.Layout.{bookOf}
-use Rattle.book.specs.FormFacts.{FormFacts}
-use Rattle.model.specs.Journal.{Backup, journal}
-use Rattle.model.specs.Audit.{hasBefore, dueOf, untilIn, expirySound}
-use Rattle.replay.specs.Table.{poolBlocks, numberAt}
-use Rattle.replay.specs.Matching.{matching}
-use Rattle.replay.proofs.MatchingLaws.{matching-same}
-use Rattle.replay.specs.Expiries.{Raised, untilOne, untilEach, expiryOfBlock}
+use Rattle.book.specs.Book.{Rec, Book, noRec, recAt}
+use Rattle.model.specs.Audit.{hasBefore, untilIn}
+use Rattle.model.specs.Journal.{journal}
+use Rattle.model.specs.JournalAt.{backupAt}
+use Rattle.model.proofs.kept.JournalAtLaws.{journal-next, journal-end}
+use Rattle.due.specs.Pool.{poolBlocks}
+use Rattle.due.specs.Expiries.{Raised, untilOne, untilEach}
+use Rattle.due.specs.Lasts.{dueIn}
 
 pub raised-none : (a : List ℕ) (f : ℕ → ℕ) → ((p : ℕ) → p < poolBlocks → f p ≤ getD a p 0) → Raised a f a
 raised-none a f h = record { long = refl; at = λ p k. omega (arith, h p k) }
@@ -55,14 +52,14 @@ module _ {a₀ : List ℕ} {f₀ : ℕ → ℕ} where
   pub raising-start : Raising a₀ f₀ a₀ f₀
   raising-start = record { long = refl; at = λ p h. refl }
 
-  pub raising-more : {a a′ : List ℕ} {f : ℕ → ℕ} (g f′ : ℕ → ℕ) → ((p : ℕ) → f p ≡ max (g p) (f′ p)) → Raised a g a′
+  raising-more : {a a′ : List ℕ} {f : ℕ → ℕ} (g f′ : ℕ → ℕ) → ((p : ℕ) → f p ≡ max (g p) (f′ p)) → Raised a g a′
       → Raising a₀ f₀ a f → Raising a₀ f₀ a′ f′
   raising-more g f′ e r w = record { long = r .long ∙ w .long; at = λ p h. omega (arith, e p, r .at p h, w .at p h) }
 
-  pub raising-end : {a : List ℕ} {f : ℕ → ℕ} → ((p : ℕ) → f p ≡ 0) → Raising a₀ f₀ a f → Raised a₀ f₀ a
+  raising-end : {a : List ℕ} {f : ℕ → ℕ} → ((p : ℕ) → f p ≡ 0) → Raising a₀ f₀ a f → Raised a₀ f₀ a
   raising-end e w = record { long = w .long; at = λ p h. omega (arith, e p, w .at p h) }
 
-pub until-more : (u : ℕ) (rs : List Rec) (q e : ℕ) → q < e → e ≤ length rs → (p : ℕ)
+until-more : (u : ℕ) (rs : List Rec) (q e : ℕ) → q < e → e ≤ length rs → (p : ℕ)
     → untilEach u (slice q e rs) p ≡ max (untilOne u (recAt rs q .before) p) (untilEach u (slice (q + 1) e rs) p)
 until-more u rs q e h k p =
     rw (slice-cons q e rs noRec h k, add-one q) (go (eqb (recAt rs q .before) p) (hasBefore p (slice (suc q) e rs)))
@@ -72,25 +69,23 @@ until-more u rs q e h k p =
     go true false = omega arith
     go false t = omega arith
 
-pub until-end : (u : ℕ) (rs : List Rec) (q e : ℕ) → q ≡ e → (p : ℕ) → untilEach u (slice q e rs) p ≡ 0
-until-end u rs q e h p = let z : slice q e rs ≡ [] = rw h (slice-empty e rs) in rw z
+module _ {a₀ : List ℕ} {f₀ : ℕ → ℕ} {a : List ℕ} where
+  -- the next record of a backup, its before in c
+  pub raising-record : {a′ : List ℕ} (u : ℕ) (rs : List Rec) (q e : ℕ) {c : ℕ} → q < e → e ≤ length rs → Raised a (untilOne u c) a′ → c ≡ recAt rs q .before
+      → Raising a₀ f₀ a (untilEach u (slice q e rs)) → Raising a₀ f₀ a′ (untilEach u (slice (q + 1) e rs))
+  raising-record u rs q e {c} h k r i w =
+      raising-more (untilOne u c) (untilEach u (slice (q + 1) e rs)) (λ p. rw i (until-more u rs q e h k p)) r w
 
--- the next backup of a journal, its last day in u
-pub until-next : (x : Book) (b : Backup) {bs : List Backup} (bs′ : List Backup) {u : ℕ} → bs ≡ b ∷ bs′
-    → u ≡ dueOf (retentionOf x (b .volume)) b → (p : ℕ)
-    → untilIn x p bs ≡ max (untilEach u (b .records) p) (untilIn x p bs′)
-until-next x b bs′ e f p = rw (e, f)
+  pub raising-records : (u : ℕ) (rs : List Rec) (q e : ℕ) → q ≡ e → Raising a₀ f₀ a (untilEach u (slice q e rs)) → Raised a₀ f₀ a
+  raising-records u rs q e h w = let z : slice q e rs ≡ [] = rw h (slice-empty e rs) in raising-end (λ p. rw z) w
 
--- ---- "each expiry is the largest slot day plus retention over records with that before, 0 if none"
+  -- the next backup of a journal
+  pub raising-slot : {a′ : List ℕ} (x : Book) (q : ℕ) → q < length (x .slots)
+      → Raised a (untilEach (dueIn x (backupAt x q)) (backupAt x q .records)) a′
+      → Raising a₀ f₀ a (λ p. untilIn x p (drop q (journal x))) → Raising a₀ f₀ a′ (λ p. untilIn x p (drop (q + 1) (journal x)))
+  raising-slot x q h r w =
+      raising-more (untilEach (dueIn x (backupAt x q)) (backupAt x q .records)) (λ p. untilIn x p (drop (q + 1) (journal x)))
+      (λ p. rw (journal-next x q h)) r w
 
-pub expiries-sound : {b : List ℕ} → FormFacts b → {a : List ℕ} {t : Bool}
-    → Raised (replicate poolBlocks 0) (λ p. untilIn (bookOf b) p (journal (bookOf b))) a
-    → t ≡ matching (expiryOfBlock (bookOf b .entries)) (numberAt a) (bookOf b .sizes .n)
-    → t ≡ all (expirySound (bookOf b)) (upFrom 0 (bookOf b .sizes .n))
-unfolding expirySound
-expiries-sound {b} f {a} c e =
-    let x = bookOf b in
-    e ∙ matching-same (expiryOfBlock (x .entries)) (numberAt a) (λ p. untilIn x p (journal x)) (x .sizes .n)
-    (λ p h. let k : p < poolBlocks = omega (arith, f .holds .n) in
-    c .at p k ∙ ap (λ (z : ℕ). max z (untilIn x p (journal x))) (getD-replicate poolBlocks p 0 0 k) ∙ omega arith)
-    ∙ sym (all-each (expirySound x) (x .sizes .n))
+  pub raising-journal : (x : Book) (q : ℕ) → length (x .slots) ≤ q → Raising a₀ f₀ a (λ p. untilIn x p (drop q (journal x))) → Raised a₀ f₀ a
+  raising-journal x q h w = raising-end (λ p. rw (journal-end x q h)) w

@@ -5,9 +5,9 @@ use mathlib.Core.List.{List}
 use lib.Dec.{eqb}
 use lib.ListN.{length, getD}
 use Rattle.words.specs.Choice.{if_then_else_}
-use Rattle.book.specs.Book.{Entry, Rec, entryAt}
+use Rattle.book.specs.Book.{Rec}
 use Rattle.model.specs.Audit.{hasBefore}
-use Rattle.replay.specs.Table.{poolBlocks}
+use Rattle.due.specs.Pool.{poolBlocks}
 
 -- a′ is a with block p's expiry at least f p
 pub record Raised (a : List ℕ) (f : ℕ → ℕ) (a′ : List ℕ) : Type 0 where
@@ -21,8 +21,3 @@ untilOne u c p = if eqb c p then u else 0
 -- u for each before of the records
 abbrev pub untilEach : ℕ → List Rec → ℕ → ℕ
 untilEach u rs p = if hasBefore p rs then u else 0
-
--- ---- "each expiry is the largest slot day plus retention over records with that before, 0 if none"
-
-abbrev pub expiryOfBlock : List Entry → ℕ → ℕ
-expiryOfBlock es p = entryAt es p .expiry

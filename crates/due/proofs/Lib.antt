@@ -1,0 +1,3 @@
+pub mod SlotReads
+pub mod ExpiryLaws
+pub mod LastLaws
