@@ -83,7 +83,7 @@ pub fn convert_2_1(book: &[u8], out: &mut [u8]) -> u16
     0
 }
 
-// The expiries are worked out in the output, past which nothing is written.
+// The book is written first, and its expiries are worked out there. What follows it in the output stays.
 pub fn convert_2_3(book: &[u8], out: &mut [u8]) -> u16
     ensures { λ r. ⌜ WrittenInThree book out r ⌝ }
 {
