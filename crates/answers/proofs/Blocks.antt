@@ -22,14 +22,14 @@ use Rattle.book.specs.Layout.{bookOf}
 use Rattle.model.specs.Calls.{Call, enrol, backup, collect, read, audit}
 use Rattle.model.specs.OnBytes.{BackedBytes, CollectedBytes, numberOf, after, poolNumber, enrolBytes, backupBytes, collectBytes}
 use Rattle.model.specs.OnBytes.{readBytes, readNumberBytes, readPlaceBytes, restoreBytes, auditBytes}
-use Rattle.model.specs.Claims.{restoredAt}
+use Rattle.claims.specs.Claims.{restoredAt}
 use Rattle.model.specs.Kept.{keptNumber}
 use Rattle.model.specs.Pool.{blockAt}
 use Rattle.model.specs.Read
 use Rattle.model.specs.Read.{image, readNumber}
 use Rattle.model.specs.Restore
 use Rattle.model.specs.Restore.{runNumber, readsFrom}
-use Rattle.model.proofs.form.ImageIn.{image-in}
+use Rattle.claims.proofs.form.ImageIn.{image-in}
 use Rattle.model.specs.Sides.{Ours, ours, oursEnrolled, oursBacked, oursCollected, readAnswer, auditAnswer}
 use Rattle.buffers.proofs.BuffersLaws.{pool-size}
 use Rattle.calls.specs.Asked.{Asked, listed, restore, restoreReply, replyTo, nextAfter, repliesOf}

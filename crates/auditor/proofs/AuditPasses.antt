@@ -22,7 +22,7 @@ use Rattle.book.specs.FormFacts.{FormFacts}
 use Rattle.model.specs.Journal.{journal}
 use Rattle.model.specs.Audit.{mapsSound, countSound, expirySound, printsSound, cellSound, currentSound, backupsSound, audit}
 use Rattle.model.specs.JournalAt.{takenSound}
-use Rattle.model.proofs.kept.KeptBefores.{kept-befores}
+use Rattle.claims.proofs.kept.KeptBefores.{kept-befores}
 use Rattle.replay.proofs.JournalRead.{journal-in}
 use Rattle.auditor.proofs.MapsReplayed.{maps-replayed}
 use Rattle.replay.specs.Table.{rowSize, tableAfter, tableBefores}

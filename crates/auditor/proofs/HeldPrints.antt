@@ -13,7 +13,7 @@ use Rattle.words.proofs.Same.{same-self, same-equal}
 use Rattle.book.specs.Book.{Entry, Book, freeEntry, entryAt}
 use Rattle.finder.specs.Bucket.{hasPrint, apart}
 use Rattle.model.specs.Audit.{printsSound}
-use Rattle.model.proofs.claims.AuditMeans.{heldPrints}
+use Rattle.claims.proofs.claims.AuditMeans.{heldPrints}
 
 -- the held fingerprints from block p on differ
 unfoldable pub differFrom : List Entry → ℕ → Bool

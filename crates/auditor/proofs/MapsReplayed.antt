@@ -20,10 +20,10 @@ use Rattle.book.specs.Form.{enrolled, pbnOk, recOk, slotOk, laterOk, daysOk}
 use Rattle.book.specs.FormFacts.{BookParts}
 use Rattle.model.specs.Journal.{Backup, journalOf, journal, backupsIn}
 use Rattle.model.specs.Audit.{applied, replayed, beforesIn, befores, noMaps, sameMap, mapsSound}
-use Rattle.model.proofs.kept.Sound.{Sound, SoundAll, Days}
-use Rattle.model.proofs.kept.JournalLaws.{length-applied}
-use Rattle.model.proofs.kept.Replays.{mapAfter, backupsIn-replayed, backupsIn-sound, backupsIn-days}
-use Rattle.model.proofs.kept.KeptBefores.{Replayed}
+use Rattle.claims.proofs.kept.Sound.{Sound, SoundAll, Days}
+use Rattle.claims.proofs.kept.JournalLaws.{length-applied}
+use Rattle.claims.proofs.kept.Replays.{mapAfter, backupsIn-replayed, backupsIn-sound, backupsIn-days}
+use Rattle.claims.proofs.kept.KeptBefores.{Replayed}
 use Rattle.replay.proofs.JournalRead.{backupIn, journal-in}
 
 -- ---- the tests of befores as facts

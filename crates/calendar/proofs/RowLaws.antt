@@ -24,7 +24,7 @@ use Rattle.journal.specs.declared.slot.Slot.{Slot}
 use Rattle.model.specs.Days.{keptBy}
 use Rattle.model.specs.Journal.{Backup}
 use Rattle.model.specs.JournalAt.{backupAt, backupsFrom}
-use Rattle.model.proofs.kept.JournalAtLaws.{day-at, records-at, from-own, from-end}
+use Rattle.claims.proofs.kept.JournalAtLaws.{day-at, records-at, from-own, from-end}
 use Rattle.model.specs.Views.{keptUntil, backupRow}
 use Rattle.keeping.specs.After.{keptFrom}
 use Rattle.keeping.proofs.AfterLaws.{kept-from}

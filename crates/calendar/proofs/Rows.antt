@@ -10,7 +10,7 @@ use Rattle.book.specs.Book.{Book, slotAt, retentionOf}
 use Rattle.book.specs.Form.{pairsOk}
 use Rattle.model.specs.Journal.{Backup}
 use Rattle.model.specs.JournalAt.{backupsFrom}
-use Rattle.model.proofs.kept.JournalAtLaws.{from-start, from-own, from-end}
+use Rattle.claims.proofs.kept.JournalAtLaws.{from-start, from-own, from-end}
 use Rattle.model.specs.Views.{backupRows, backupsOf}
 use Rattle.calendar.specs.Own.{NextIs}
 use Rattle.calendar.specs.Row.{rowFrom}

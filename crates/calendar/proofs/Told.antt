@@ -11,7 +11,7 @@ use Rattle.words.proofs.Accepted.{unless-refused}
 use Rattle.book.specs.Layout.{bookOf}
 use Rattle.model.specs.Journal.{backups}
 use Rattle.model.specs.Views.{enrolledNumber, outputNumber, backupsOf, withRoom, backupsBytes}
-use Rattle.model.proofs.views.WrittenLaws.{written-refused, written-short, written-whole}
+use Rattle.claims.proofs.views.WrittenLaws.{written-refused, written-short, written-whole}
 use Rattle.calendar.specs.Contracts.{BackupsTold}
 
 module _ (book : Lent (List ℕ)) (v : ℕ) (out : Lent (List ℕ)) (n : Lent ℕ) where

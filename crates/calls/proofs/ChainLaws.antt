@@ -13,10 +13,10 @@ use Rattle.words.specs.Lists.{all, someOf, upFrom}
 use Rattle.words.specs.Outcome.{accepted, unless}
 use Rattle.book.specs.Book.{Sizes}
 use Rattle.model.specs.Calls.{Call, backup, collect}
-use Rattle.model.specs.Claims.{Fresh, begin, ourEnd, saysDamage}
+use Rattle.claims.specs.Claims.{Fresh, begin, ourEnd, saysDamage}
 use Rattle.model.specs.Days.{kept}
 use Rattle.model.specs.History.{Sent, History, sentBlock, isNone, historyOf, dayOf, historyRunNumber, historyRestore}
-use Rattle.model.proofs.claims.Proved.{lists, images, corollaries, end-append, next-alike}
+use Rattle.claims.proofs.claims.Proved.{lists, images, corollaries, end-append, next-alike}
 use Rattle.model.specs.Sides.{endOf, Ours, ours, oursShown}
 use Rattle.calls.specs.Asked.{Asked, listed, restore, Reply, answer, restoreReply, replyTo, nextAfter, repliesOf, leftBy}
 use Rattle.calls.specs.Doing.{DidAll}

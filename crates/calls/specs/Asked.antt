@@ -5,7 +5,7 @@ use mathlib.Core.List.{List, [], _∷_}
 use Rattle.words.specs.Blocks.{blockSize}
 use Rattle.words.specs.Outcome.{Outcome, refused, accepted}
 use Rattle.model.specs.Calls.{Call, Answer, number}
-use Rattle.model.specs.Claims.{restoredAt}
+use Rattle.claims.specs.Claims.{restoredAt}
 use Rattle.model.specs.Sides.{Ours, ours}
 
 pub data Asked : Type 0 where

@@ -13,7 +13,7 @@ use Rattle.runs.specs.Changes.{changeCount}
 use Rattle.book.specs.Book.{Sizes, isFree}
 use Rattle.book.specs.Layout.{bookSize}
 use Rattle.model.specs.Calls.{Call, backup, collect, read, audit, Answer, backed, freed, sound}
-use Rattle.model.specs.Claims.{entryIn, changesName, saysDamage, restoredAt}
+use Rattle.claims.specs.Claims.{entryIn, changesName, saysDamage, restoredAt}
 use Rattle.model.specs.History.{historyOf, dayOf, historyRead, historyRestore}
 use Rattle.model.specs.OnBytes.{numberOf, formatNumber}
 use Rattle.model.specs.Plain.{Plain, start, marked}

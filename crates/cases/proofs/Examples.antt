@@ -12,8 +12,8 @@ use Rattle.book.specs.Next.{fresh}
 use Rattle.model.specs.Plain.{marked}
 use Rattle.model.specs.Calls.{Call, backup, collect, read, audit, Answer, number, backed, freed, block, sound}
 use Rattle.model.specs.History.{Sent, historyOf, dayOf, historyRead}
-use Rattle.model.specs.Claims.{Fresh, ourAnswers, plainAnswers, ourAnswer, plainEnd, entryBefore, entryAfter, changesName}
-use Rattle.model.proofs.claims.Proved.{lists, images}
+use Rattle.claims.specs.Claims.{Fresh, ourAnswers, plainAnswers, ourAnswer, plainEnd, entryBefore, entryAfter, changesName}
+use Rattle.claims.proofs.claims.Proved.{lists, images}
 use Rattle.cases.proofs.Open.{model}
 use Rattle.cases.proofs.Letters.{B, C, E, blockOf, over, list}
 use Rattle.cases.proofs.Cases.{sizes, callOf, table, calls}

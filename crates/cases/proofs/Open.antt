@@ -21,7 +21,7 @@ use Rattle.model.specs.Plain
 use Rattle.model.specs.PlainBackup
 use Rattle.model.specs.Sides
 use Rattle.model.specs.History
-use Rattle.model.specs.Claims
+use Rattle.claims.specs.Claims
 
 unfoldable pub model : ℕ
 unfolding

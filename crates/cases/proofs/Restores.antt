@@ -9,7 +9,7 @@ use Rattle.book.proofs.AfterD.{afterD}
 use Rattle.model.specs.Calls.{Call, enrol, backup}
 use Rattle.model.specs.History.{historyOf, historyRestore}
 use Rattle.model.specs.OnBytes.{after, collectBytes, restoreBytes}
-use Rattle.model.specs.Claims.{restoredAt}
+use Rattle.claims.specs.Claims.{restoredAt}
 use Rattle.cases.proofs.Open.{model}
 use Rattle.cases.proofs.Letters.{A, B, C, blockOf, over, list, empty}
 use Rattle.cases.proofs.Cases.{callOf, table, calls}

@@ -17,7 +17,7 @@ use Rattle.book.specs.Book.{Sizes, Book, freeEntry, entryAt}
 use Rattle.book.specs.Form.{formAs}
 use Rattle.book.specs.Layout.{nOffset, bookSize, bytes, sizesOf, entryOf, bookOf}
 use Rattle.book.specs.Next.{sizesIn, withLayout}
-use Rattle.model.proofs.views.WrittenLaws.{written-refused, written-past}
+use Rattle.claims.proofs.views.WrittenLaws.{written-refused, written-past}
 use Rattle.model.specs.Convert.{roomNumber, converted, isNarrow, narrowNumber}
 use Rattle.model.specs.Written.{Written}
 

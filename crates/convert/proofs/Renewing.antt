@@ -13,8 +13,8 @@ use Rattle.book.specs.Book.{Book}
 use Rattle.book.specs.FormFacts.{BookParts, FormFactsAs}
 use Rattle.book.specs.Layout.{bookSize, bytes, sizesOf, bookOf, Is}
 use Rattle.book.specs.Next.{sizesIn, withLayout, withEntries}
-use Rattle.model.proofs.form.ConvertFit.{layout-sized, layout-ok}
-use Rattle.model.proofs.form.Refreshed.{refreshed-layout}
+use Rattle.claims.proofs.form.ConvertFit.{layout-sized, layout-ok}
+use Rattle.claims.proofs.form.Refreshed.{refreshed-layout}
 use Rattle.model.specs.Convert.{refreshed}
 
 module _ (b out : List ℕ) (f : FormFactsAs 2 b) {len : ℕ} (el : len ≡ bookSize (sizesIn 3 (sizesOf b))) (room : len ≤ length out)

@@ -17,7 +17,7 @@ use Rattle.book.specs.Book.{Rec, Book, noRec, recAt}
 use Rattle.model.specs.Audit.{hasBefore, untilIn}
 use Rattle.model.specs.Journal.{journal}
 use Rattle.model.specs.JournalAt.{backupAt}
-use Rattle.model.proofs.kept.JournalAtLaws.{journal-next, journal-end}
+use Rattle.claims.proofs.kept.JournalAtLaws.{journal-next, journal-end}
 use Rattle.due.specs.Pool.{poolBlocks}
 use Rattle.due.specs.Expiries.{Raised, untilOne, untilEach}
 use Rattle.due.specs.Lasts.{dueIn}

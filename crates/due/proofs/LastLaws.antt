@@ -16,7 +16,7 @@ use Rattle.book.specs.Book.{volumes, Book, slotAt, retentionOf}
 use Rattle.book.specs.FormFacts.{BookParts}
 use Rattle.book.proofs.Conditions.{slot-in}
 use Rattle.model.specs.JournalAt.{backupAt, lastBefore}
-use Rattle.model.proofs.kept.JournalAtLaws.{volume-at, since-at, last-next}
+use Rattle.claims.proofs.kept.JournalAtLaws.{volume-at, since-at, last-next}
 use Rattle.due.specs.Lasts.{LastsAre, dueIn}
 
 pub lasts-start : (x : Book) → LastsAre x 0 (replicate volumes 0)

@@ -16,7 +16,7 @@ use Rattle.book.proofs.Conditions.{slot-in, retention-in, pairs-in}
 use Rattle.journal.specs.Struct.{SlotIs}
 use Rattle.journal.specs.declared.slot.Slot as read
 use Rattle.model.specs.JournalAt.{backupAt}
-use Rattle.model.proofs.kept.JournalAtLaws.{records-at}
+use Rattle.claims.proofs.kept.JournalAtLaws.{records-at}
 
 -- a used slot of the book x
 pub record SlotIn (x : Book) (t : Slot) : Type 0 where

@@ -8,7 +8,7 @@ use Rattle.journal.specs.Struct.{SlotIs}
 use Rattle.journal.specs.declared.slot.Slot.{Slot}
 use Rattle.model.specs.Journal.{backups}
 use Rattle.model.specs.JournalAt.{backupsFrom}
-use Rattle.model.proofs.kept.JournalAtLaws.{from-start, from-own, from-other, from-end}
+use Rattle.claims.proofs.kept.JournalAtLaws.{from-start, from-own, from-other, from-end}
 
 -- so many of the volume's backups stand before slot q
 pub record Passed (x : Book) (v q count : ℕ) : Type 0 where

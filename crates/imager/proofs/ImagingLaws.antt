@@ -22,7 +22,7 @@ use Rattle.journal.specs.declared.record.Record.{Record}
 use Rattle.journal.specs.declared.slot.Slot.{Slot}
 use Rattle.model.specs.Read.{recordsOf, beforeOr}
 use Rattle.model.specs.JournalAt.{backupAt, ownAt, firstBefore, imageFrom}
-use Rattle.model.proofs.kept.JournalAtLaws.{volume-at, records-at, image-split, image-end}
+use Rattle.claims.proofs.kept.JournalAtLaws.{volume-at, records-at, image-split, image-end}
 use Rattle.imager.specs.Imaging.{imageSize, Imaged, Undone}
 
 -- ---- the current map, of which the first l cells are copied

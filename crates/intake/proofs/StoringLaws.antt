@@ -12,7 +12,7 @@ use Rattle.words.specs.Choice.{if_then_else_}
 use Rattle.runs.specs.Changes.{changeAt}
 use Rattle.book.specs.Book.{Entry, entryAt}
 use Rattle.model.specs.Pool.{poolSize, blockAt, withBlock}
-use Rattle.model.proofs.agreement.BlockLaws.{length-with}
+use Rattle.claims.proofs.agreement.BlockLaws.{length-with}
 use Rattle.placer.proofs.PoolLaws.{Known, block-with, is-now}
 use Rattle.placer.specs.Working.{heldBlock, blockNow, poolNow}
 use Rattle.intake.specs.Storing.{storedBlock}

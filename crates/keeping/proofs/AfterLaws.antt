@@ -18,7 +18,7 @@ use Rattle.journal.specs.declared.slot.Slot.{Slot}
 use Rattle.model.specs.Days.{keptBy, kept}
 use Rattle.model.specs.Journal.{Backup, backups, days}
 use Rattle.model.specs.JournalAt.{backupAt, backupsFrom}
-use Rattle.model.proofs.kept.JournalAtLaws.{day-at, from-start, from-own, from-other, from-end}
+use Rattle.claims.proofs.kept.JournalAtLaws.{day-at, from-start, from-own, from-other, from-end}
 use Rattle.keeping.specs.declared.After.{After}
 use Rattle.keeping.specs.After.{AfterIs, keptFrom}
 

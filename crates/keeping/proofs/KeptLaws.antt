@@ -8,11 +8,11 @@ use lib.ListN.{length}
 use borrow.Author.Tests.{eq-eqb, ne-eqb, lt-ltb, le-ltb}
 use Rattle.words.proofs.ChoiceLaws.{or-l, or-r}
 use Rattle.book.specs.Book.{volumes, Book, retentionOf}
-use Rattle.model.proofs.agreement.AgreeLaws.{volume-inside}
+use Rattle.claims.proofs.agreement.AgreeLaws.{volume-inside}
 use Rattle.model.specs.Days.{kept}
 use Rattle.model.specs.Journal.{days, noVolume}
 use Rattle.model.specs.Kept.{keptNumber}
-use Rattle.model.proofs.kept.ReadNumbers.{numbers}
+use Rattle.claims.proofs.kept.ReadNumbers.{numbers}
 use Rattle.keeping.specs.declared.After.{After}
 use Rattle.keeping.specs.declared.Kept.the-variants.{Before, Refused}
 use Rattle.keeping.specs.After.{AfterIs, keptFrom}

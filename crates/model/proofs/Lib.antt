@@ -2,9 +2,5 @@ pub mod ConvertCases
 pub mod CountCases
 pub mod DayCases
 pub mod RestoreCases
-pub mod kept
-pub mod claims
-pub mod views
-pub mod plain
-pub mod agreement
-pub mod form
+pub mod StepCases
+pub mod SweepCases

@@ -18,5 +18,4 @@ pub mod PlainBackup
 pub mod Calls
 pub mod Sides
 pub mod History
-pub mod Claims
 pub mod JournalAt

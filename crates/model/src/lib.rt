@@ -1,1 +1,1 @@
-// The model has no code: its definitions and claims are in specs/.
+// No code: the model's definitions are in specs/, closed cases of them in proofs/.

@@ -24,7 +24,7 @@ use Rattle.book.specs.Book.{Sizes, Book, entryAt, cellAt}
 use Rattle.book.specs.Form.{pbnOk}
 use Rattle.book.specs.Layout.{bookOf, told, Holds}
 use Rattle.book.specs.Next.{withEntries, withMaps, withRecord}
-use Rattle.model.proofs.agreement.Moving.{moved-held}
+use Rattle.claims.proofs.agreement.Moving.{moved-held}
 use Rattle.model.specs.Backup.{Work, Placed, place, lower, nameBlock, moveNumber, moved, moveTo, changeStep, runChanges}
 use Rattle.finder.specs.Indexed.{Indexed}
 use Rattle.placer.proofs.Indexing.{moved-indexed}

@@ -23,7 +23,7 @@ use Rattle.book.proofs.Holding.{is-then, is-same}
 use Rattle.book.specs.Form.{pbnOk}
 use Rattle.book.specs.Layout.{bookOf, Holds, Is}
 use Rattle.book.specs.Next.{withEntries, withEntry, withCell, withRecord, countAs, expiryAs}
-use Rattle.model.proofs.form.Bounds.{unmapped-ok}
+use Rattle.claims.proofs.form.Bounds.{unmapped-ok}
 use Rattle.model.specs.Backup.{lowered, lower, raised, nameBlock, moveNumber, moved, moveTo}
 use Rattle.placer.specs.Working.{workAt}
 use Rattle.mover.specs.Stepping.{LoweredBy}

@@ -19,7 +19,7 @@ use Rattle.book.specs.Form.{formNumber}
 use Rattle.model.specs.Days.{badDay, notAfter}
 use Rattle.model.specs.Journal.{Backup, journal, backups, days, noVolume}
 use Rattle.model.specs.Backup.{untilNext, Work, Backed, runChanges, begun, closed, backupNumber, backup}
-use Rattle.model.proofs.kept.JournalAtLaws.{length-journal}
+use Rattle.claims.proofs.kept.JournalAtLaws.{length-journal}
 use Rattle.model.specs.OnBytes.{spareNumber, BackedBytes, backedBytes, backupBytes}
 use Rattle.buffers.specs.Buffers.{buffersNumber}
 use Rattle.buffers.proofs.BuffersLaws.{or-first, or-zero, if-zero, unless-or, buffers-facts, buffers-order}

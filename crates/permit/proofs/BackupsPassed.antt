@@ -10,7 +10,7 @@ use Rattle.book.specs.Book.{Book, slotAt}
 use Rattle.journal.specs.Struct.{SlotIs}
 use Rattle.journal.specs.declared.slot.Slot.{Slot}
 use Rattle.model.specs.Journal.{Backup, backups, days}
-use Rattle.model.proofs.kept.JournalAtLaws.{day-at, from-start, from-own, from-other, from-end}
+use Rattle.claims.proofs.kept.JournalAtLaws.{day-at, from-start, from-own, from-other, from-end}
 use Rattle.model.specs.JournalAt.{backupsFrom}
 use Rattle.permit.specs.Backups.{BackupsAre}
 

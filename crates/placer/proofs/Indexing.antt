@@ -11,7 +11,7 @@ use Rattle.book.specs.Book.{Entry, Book, entryAt}
 use Rattle.book.specs.Layout.{bookOf, Is}
 use Rattle.book.specs.Next.{withCursor, countAs, expiryAs}
 use Rattle.model.specs.Backup.{lowered, lower, raised}
-use Rattle.model.proofs.agreement.Moving.{movedEntries}
+use Rattle.claims.proofs.agreement.Moving.{movedEntries}
 use Rattle.finder.specs.Indexed.{Indexed}
 use Rattle.index.proofs.Keeping.{indexed-alike, alike-set}
 

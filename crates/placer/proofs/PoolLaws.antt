@@ -21,7 +21,7 @@ use Rattle.words.specs.Sections.{part, flat}
 use Rattle.runs.specs.Changes.{changeAt}
 use Rattle.book.specs.Book.{Entry, entryAt}
 use Rattle.model.specs.Pool.{poolSize, blockAt, withBlock}
-use Rattle.model.proofs.agreement.BlockLaws.{length-with}
+use Rattle.claims.proofs.agreement.BlockLaws.{length-with}
 use Rattle.placer.specs.Working.{heldBlock, blockNow, poolNow}
 
 -- ---- a pool by its blocks

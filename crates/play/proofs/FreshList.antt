@@ -10,7 +10,7 @@ use Rattle.words.specs.Outcome.{accepted, unless}
 use Rattle.book.specs.Book.{Sizes}
 use Rattle.book.specs.Layout.{bookSize, bytes}
 use Rattle.book.specs.Next.{newSizes, fresh}
-use Rattle.model.specs.Claims.{Fresh}
+use Rattle.claims.specs.Claims.{Fresh}
 use Rattle.model.specs.OnBytes.{numberOf, formatNumber, formatBytes}
 use Rattle.model.specs.Pool.{poolSize}
 use Rattle.calls.proofs.BoundLaws.{played-did}

@@ -23,10 +23,10 @@ use Rattle.model.specs.Pool.{poolSize}
 use Rattle.model.specs.Read.{read}
 use Rattle.model.specs.Restore.{runNumber, readsFrom, restore}
 use Rattle.model.specs.Written.{Written}
-use Rattle.model.proofs.form.ImageIn.{image-from-in}
-use Rattle.model.proofs.kept.JournalAtLaws.{image-from}
-use Rattle.model.proofs.kept.RestoreLaws.{run-inside, restore-joined}
-use Rattle.model.proofs.views.WrittenLaws.{written-refused}
+use Rattle.claims.proofs.form.ImageIn.{image-from-in}
+use Rattle.claims.proofs.kept.JournalAtLaws.{image-from}
+use Rattle.claims.proofs.kept.RestoreLaws.{run-inside, restore-joined}
+use Rattle.claims.proofs.views.WrittenLaws.{written-refused}
 use Rattle.buffers.specs.Buffers.{buffersNumber}
 use Rattle.buffers.proofs.BuffersLaws.{buffers-order}
 use Rattle.imager.specs.Imaging.{imageSize, Imaged}

@@ -14,7 +14,7 @@ use Rattle.book.specs.Form.{recOk}
 use Rattle.book.specs.FormFacts.{BookParts}
 use Rattle.model.specs.Journal.{Backup, journal}
 use Rattle.model.specs.JournalAt.{noBackup, backupAt}
-use Rattle.model.proofs.kept.JournalAtLaws.{length-journal, volume-at, records-at}
+use Rattle.claims.proofs.kept.JournalAtLaws.{length-journal, volume-at, records-at}
 use Rattle.due.proofs.SlotReads.{slot-bounds}
 
 -- a backup in form: its volume, and its records

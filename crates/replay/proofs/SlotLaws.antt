@@ -21,7 +21,7 @@ use Rattle.journal.specs.declared.slot.Slot as read
 use Rattle.model.specs.Audit.{untilIn}
 use Rattle.model.specs.Journal.{Backup, journal}
 use Rattle.model.specs.JournalAt.{backupAt}
-use Rattle.model.proofs.kept.JournalAtLaws.{journal-next, journal-end, volume-at}
+use Rattle.claims.proofs.kept.JournalAtLaws.{journal-next, journal-end, volume-at}
 use Rattle.model.specs.JournalAt.{takenSound}
 use Rattle.due.specs.Lasts.{dueIn}
 use Rattle.due.proofs.ExpiryLaws.{Raising, raising-start, raising-slot, raising-journal}

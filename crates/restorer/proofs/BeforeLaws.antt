@@ -19,7 +19,7 @@ use Rattle.journal.specs.Struct.{SlotIs}
 use Rattle.journal.specs.declared.slot.Slot.{Slot}
 use Rattle.model.specs.Read.{recordsOf, beforeOr}
 use Rattle.model.specs.JournalAt.{backupAt, backupsFrom, ownAt, imageFrom}
-use Rattle.model.proofs.kept.JournalAtLaws.{volume-at, records-at, from-split, from-end, recordsOf-append}
+use Rattle.claims.proofs.kept.JournalAtLaws.{volume-at, records-at, from-split, from-end, recordsOf-append}
 use Rattle.restorer.specs.declared.image.Before.{Before}
 use Rattle.restorer.specs.declared.image.Before.the-variants.{At, Nothing}
 use Rattle.restorer.specs.Befores.{firstOf, beforeOf, beforeIn, beforeFrom}

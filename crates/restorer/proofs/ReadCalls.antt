@@ -18,7 +18,7 @@ use Rattle.book.proofs.FormBytes.{book-form}
 use Rattle.model.specs.OnBytes.{numberOf, poolNumber, readBytes, readNumberBytes, readPlaceBytes, blockAfter}
 use Rattle.model.specs.Pool.{blockAt}
 use Rattle.model.specs.Read.{image, readNumber, read}
-use Rattle.model.proofs.form.ImageIn.{image-in}
+use Rattle.claims.proofs.form.ImageIn.{image-in}
 use Rattle.buffers.specs.Buffers.{buffersNumber}
 use Rattle.buffers.proofs.BuffersLaws.{pool-size, buffers-order}
 use Rattle.restorer.specs.declared.read.Sought.{Sought}

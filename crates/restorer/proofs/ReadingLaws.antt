@@ -15,7 +15,7 @@ use Rattle.model.specs.Journal.{days, noVolume}
 use Rattle.model.specs.JournalAt.{imageFrom}
 use Rattle.model.specs.Kept.{keptNumber}
 use Rattle.model.specs.Read.{image, readNumber}
-use Rattle.model.proofs.kept.ReadNumbers.{numbers, numbers-then}
+use Rattle.claims.proofs.kept.ReadNumbers.{numbers, numbers-then}
 use Rattle.keeping.specs.Kept.{KeptIs}
 use Rattle.keeping.specs.declared.Kept.the-variants.{Before, Refused}
 use Rattle.restorer.specs.Reading.{mappedNumber, soughtFrom, soughtIn}

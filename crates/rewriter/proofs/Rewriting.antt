@@ -15,7 +15,7 @@ use Rattle.book.specs.Book.{Book}
 use Rattle.book.specs.FormFacts.{FormFactsAs}
 use Rattle.book.specs.Layout.{entrySize, entriesFrom, entryBytes, bookSize, bytes, bookOf}
 use Rattle.book.specs.Next.{sizesIn, withLayout}
-use Rattle.model.proofs.form.ConvertFit.{layout-sized}
+use Rattle.claims.proofs.form.ConvertFit.{layout-sized}
 
 module _ (g to : ℕ) (b : List ℕ) (f : FormFactsAs g b) where
   abbrev x : Book

@@ -10,7 +10,7 @@ use Rattle.book.specs.Form.{formNumber}
 use Rattle.book.specs.Layout.{bookOf}
 use Rattle.model.specs.Views.{enrolledNumber, blocksOf, cellsOf, withRoom, blocksBytes, cellsBytes}
 use Rattle.model.specs.Written.{Written}
-use Rattle.model.proofs.views.WrittenLaws.{written-refused, written-past, written-short, written-whole}
+use Rattle.claims.proofs.views.WrittenLaws.{written-refused, written-past, written-short, written-whole}
 
 -- ---- the blocks
 

@@ -14,7 +14,7 @@ use Rattle.words.specs.Numbers.{two}
 use Rattle.words.specs.Sections.{flat}
 use Rattle.book.specs.Book.{Entry, Book, freeEntry, entryAt, Sized}
 use Rattle.model.specs.Views.{blockRow, blocksOf}
-use Rattle.model.proofs.views.RowLaws.{row-length}
+use Rattle.claims.proofs.views.RowLaws.{row-length}
 
 -- three numbers and the fingerprint behind them are a row
 pub row-stored : {out out₁ out₂ print : List ℕ} {at h c d : ℕ} (e : Entry) → length (e .print) ≡ printSize

@@ -8,7 +8,7 @@ use lib.ListN.{length}
 use Rattle.words.proofs.ChoiceLaws.{failed, passed}
 use Rattle.book.specs.Layout.{told}
 use Rattle.model.specs.Restore.{runNumber}
-use Rattle.model.proofs.kept.RestoreLaws.{run-inside}
+use Rattle.claims.proofs.kept.RestoreLaws.{run-inside}
 use Rattle.recover.proofs.RunningLaws.{number-of}
 use Rattle.recover.proofs.Exits.{before-refused, before-gone, before-inside, before-done}
 use Rattle.recover.proofs.restore_before.Statement.{statement}

@@ -1,7 +1,7 @@
 -- `recover::run_number` meets its contract, by the two tests of number 21.
 use mathlib.Core.Path.{sym}
 use native.Mathlib.Omega.{arith}
-use Rattle.model.proofs.kept.RestoreLaws.{run-passes}
+use Rattle.claims.proofs.kept.RestoreLaws.{run-passes}
 use Rattle.recover.proofs.RunningLaws.{run-past, run-short}
 use Rattle.recover.proofs.run_number.Statement.{statement}
 use Rattle.recover.proofs.run_number.Tie as tie

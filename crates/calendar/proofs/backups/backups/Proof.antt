@@ -7,8 +7,8 @@ use denote.Ref.{now}
 use Rattle.book.specs.FormFacts.{FormFacts}
 use Rattle.book.proofs.FormFactLaws.{form-facts}
 use Rattle.book.specs.Layout.{told}
-use Rattle.model.proofs.views.EnrolledNumber.{passed-enrolled}
-use Rattle.model.proofs.views.ViewLaws.{length-backupsOf}
+use Rattle.claims.proofs.views.EnrolledNumber.{passed-enrolled}
+use Rattle.claims.proofs.views.ViewLaws.{length-backupsOf}
 use Rattle.model.specs.Views.{enrolledNumber, backupsOf}
 use Rattle.calendar.proofs.Told.{told-refused, told-short, told-whole}
 use borrow.Author.Needs.{needs}

@@ -4,7 +4,7 @@ use mathlib.Core.Path.{_≡_, refl, sym, _∙_}
 use native.Mathlib.Omega.{arith}
 use Rattle.book.specs.Layout.{bookOf, told}
 use Rattle.model.specs.JournalAt.{backupsFrom}
-use Rattle.model.proofs.kept.JournalAtLaws.{from-other}
+use Rattle.claims.proofs.kept.JournalAtLaws.{from-other}
 use Rattle.calendar.proofs.backups.next_own.Statement.{statement}
 use Rattle.calendar.proofs.backups.next_own.Tie as tie
 

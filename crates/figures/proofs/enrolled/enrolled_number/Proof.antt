@@ -5,7 +5,7 @@ use borrow.Author.Needs.{needs}
 use denote.Ref.{now}
 use Rattle.book.specs.Form.{formNumber}
 use Rattle.book.proofs.FormBytes.{holds-form}
-use Rattle.model.proofs.views.EnrolledNumber.{enrolled-misformed, enrolled-above, enrolled-not, enrolled-passed}
+use Rattle.claims.proofs.views.EnrolledNumber.{enrolled-misformed, enrolled-above, enrolled-not, enrolled-passed}
 use Rattle.figures.proofs.enrolled.enrolled_number.Statement.{statement}
 use Rattle.figures.proofs.enrolled.enrolled_number.Tie as tie
 

@@ -4,7 +4,7 @@ use borrow.Author.Needs.{needs}
 use denote.Ref.{now}
 use Rattle.book.proofs.FormBytes.{holds-form}
 use Rattle.book.specs.Layout.{Holds}
-use Rattle.model.proofs.views.EnrolledNumber.{passed-enrolled}
+use Rattle.claims.proofs.views.EnrolledNumber.{passed-enrolled}
 use Rattle.model.specs.Views.{enrolledNumber}
 use Rattle.figures.proofs.VolumeExits.{volume-refused, volume-told}
 use Rattle.figures.proofs.volume.volume.Statement.{statement}

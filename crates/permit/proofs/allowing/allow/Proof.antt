@@ -14,8 +14,8 @@ use Rattle.book.specs.FormFacts.{FormFacts}
 use Rattle.book.proofs.FormFactLaws.{form-facts}
 use Rattle.model.specs.Backup.{backupNumber}
 use Rattle.model.specs.Journal.{days}
-use Rattle.model.proofs.form.BackupAllowed.{Allowed, number-zero}
-use Rattle.model.proofs.kept.DayLaws.{last-before}
+use Rattle.claims.proofs.form.BackupAllowed.{Allowed, number-zero}
+use Rattle.claims.proofs.kept.DayLaws.{last-before}
 use Rattle.permit.specs.Allowing.{lentNumber, dayRefused, roomNumber, AllowedBy}
 use Rattle.permit.proofs.AllowLaws.{lent-facts, lent-refused, number-refused, goes-on, by-room, days-bound}
 use Rattle.permit.proofs.AllowLaws.{five-above, five-none, seven, eight}

@@ -9,7 +9,7 @@ use borrow.Author.Needs.{needs}
 use Rattle.book.specs.Form.{formNumber}
 use Rattle.book.proofs.FormBytes.{holds-form}
 use Rattle.book.specs.Layout.{Holds, bookOf}
-use Rattle.model.proofs.views.RowLaws.{blocks-length}
+use Rattle.claims.proofs.views.RowLaws.{blocks-length}
 use Rattle.model.specs.Views.{blocksOf}
 use Rattle.rows.proofs.Exits.{blocks-misformed, blocks-short, blocks-done}
 use Rattle.rows.proofs.blocks.blocks.Statement.{statement}

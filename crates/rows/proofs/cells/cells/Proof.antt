@@ -5,7 +5,7 @@ use denote.Ref.{now}
 use borrow.Author.Needs.{needs}
 use Rattle.book.specs.Layout.{Holds}
 use Rattle.book.proofs.FormBytes.{holds-form}
-use Rattle.model.proofs.views.EnrolledNumber.{passed-enrolled}
+use Rattle.claims.proofs.views.EnrolledNumber.{passed-enrolled}
 use Rattle.model.specs.Views.{enrolledNumber, cellsOf}
 use Rattle.rows.proofs.Exits.{cells-refused, cells-short, cells-done}
 use Rattle.rows.proofs.cells.cells.Statement.{statement}

@@ -6,7 +6,7 @@ use Rattle.book.specs.Layout.{told, Holds}
 use Rattle.book.specs.Form.{formNumber}
 use Rattle.book.proofs.FormBytes.{holds-form}
 use Rattle.model.specs.Enrol.{enrolNumber}
-use Rattle.model.proofs.agreement.EnrolAgree.{enrol-volume}
+use Rattle.claims.proofs.agreement.EnrolAgree.{enrol-volume}
 use Rattle.setup.proofs.EnrolExits.{enrol-misformed, enrol-refused, enrol-done}
 use Rattle.setup.proofs.enrol.enrol.Statement.{statement}
 use Rattle.setup.proofs.enrol.enrol.Tie as tie

@@ -1,0 +1,66 @@
+-- Where our book and pool and the plain store stand alike (the abstraction relation): what every call keeps.
+use Prim.Native.Nat.{ℕ, _<_}
+use mathlib.Core.Path.{_≡_}
+use mathlib.Core.Bool.{Bool, true, false, _&&_}
+use mathlib.Core.List.{List, [], _∷_}
+use lib.ListN.{length}
+use lib.Dec.{leb, eqb}
+use Rattle.words.specs.Lists.{someOf, countOf, joined}
+use Rattle.book.specs.Book.{volumes, Book, entryAt, retentionOf, Sized}
+use Rattle.book.specs.Form.{sizesOk, bookOk}
+use Rattle.model.specs.Pool.{poolSize}
+use Rattle.model.specs.Journal.{Backup, journal, backupsIn}
+use Rattle.model.specs.Audit.{applied, replayed, noMaps, hasBefore, dueOf, untilIn, printsSound}
+use Rattle.model.specs.Plain.{Image, Plain, volumeAt, noMap}
+use Rattle.model.specs.Sides.{blocksIn}
+use Rattle.claims.proofs.kept.Sound.{SoundAll, Days, AllRise}
+
+-- a book whose bytes are in form
+pub record Fit (x : Book) : Type 0 where
+  pub sized : Sized x
+  pub sizes : sizesOk (x .sizes) ≡ true
+  pub form : bookOk x ≡ true
+
+-- the plain store's images of a volume's backups, from the map before them
+abbrev pub imagesOf : List ℕ → List Backup → List Image
+imagesOf m [] = []
+imagesOf m (b ∷ bs) =
+    record { day = b .day; cells = applied m (b .records); changed = length (b .records) }
+    ∷ imagesOf (applied m (b .records)) bs
+
+-- the maps whose cells the counts count
+abbrev pub countedMaps : Book → List (List ℕ)
+countedMaps x = x .maps
+
+-- how many of their cells name block p
+unfoldable pub named : Book → ℕ → ℕ
+named x p = countOf (eqb p) (joined (countedMaps x))
+
+-- some backup that reaches day D has a record with before p
+unfoldable pub reaches : Book → ℕ → ℕ → Bool
+reaches x d p = someOf (λ (b : Backup). leb d (dueOf (retentionOf x (b .volume)) b) && hasBefore p (b .records)) (journal x)
+
+pub record Agree (x : Book) (pool : List ℕ) (q : Plain) : Type 0 where
+  pub fit : Fit x
+  pub poolLong : length pool ≡ poolSize (x .sizes .n)
+  -- the two sides
+  pub sizes : q .sizes ≡ x .sizes
+  pub day : q .day ≡ x .day
+  pub cursor : q .cursor ≡ x .cursor
+  pub blocks : q .blocks ≡ blocksIn (x .entries) pool
+  pub volumeCount : length (q .volumes) ≡ volumes
+  pub retentions : (v : ℕ) → v < volumes → volumeAt q v .retention ≡ retentionOf x v
+  pub images : (v : ℕ) → v < volumes → volumeAt q v .images ≡ imagesOf (noMap (x .sizes)) (backupsIn v (journal x))
+  -- the journal
+  pub maps : x .maps ≡ replayed (noMaps x) (journal x)
+  pub sound : SoundAll (noMaps x) (journal x)
+  pub days : Days 0 (journal x) (x .day)
+  pub rising : AllRise (journal x)
+  -- the entries
+  pub counts : (p : ℕ) → p < x .sizes .n → entryAt (x .entries) p .count ≡ named x p
+  pub expiries : (p : ℕ) → p < x .sizes .n → entryAt (x .entries) p .expiry ≡ untilIn x p (journal x)
+  -- on day 0 a held block that no map names was a before: collect on day 0 needs it
+  pub used : x .day ≡ 0 → (p : ℕ) → p < x .sizes .n → entryAt (x .entries) p .held ≡ true → named x p ≡ 0 → reaches x 0 p ≡ true
+  -- a free block is in no current map, and no record that still counts has it as its before
+  pub free : (p : ℕ) → p < x .sizes .n → entryAt (x .entries) p .held ≡ false → (named x p ≡ 0) × (reaches x (x .day) p ≡ false)
+  pub prints : printsSound x ≡ true

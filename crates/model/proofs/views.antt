@@ -1,5 +1,0 @@
--- What a host is shown: laws of specs/Views.antt and of outputs.
-pub mod WrittenLaws
-pub mod EnrolledNumber
-pub mod ViewLaws
-pub mod RowLaws
