@@ -12,6 +12,7 @@
 
 static const double goal = 1.2;
 static const double lookups_goal = 200000;
+static const double salted_goal = 1.3;
 
 /* Every scene is sat through several times, so that a busy minute of the machine is a small part of each. */
 enum { SITTINGS = 5 };
@@ -20,7 +21,7 @@ static struct {
     struct scene scene;
     struct rounds rounds;
     struct times times;
-} points[ROWS + 2 * LOOKUPS + GROWTH_POINTS * GROWTHS];
+} points[ROWS + 2 * LOOKUPS + 2 * ALIKES + GROWTH_POINTS * GROWTHS];
 static int number;
 
 /* The point of a scene; one more if it isn't there yet. */
@@ -52,6 +53,10 @@ static void list_scenes(void)
     for (int i = 0; i < LOOKUPS; i++) {
         times_of(lookups[i].scene);
         times_of(without_changes(lookups[i].scene));
+    }
+    for (int i = 0; i < ALIKES; i++) {
+        times_of(alikes[i].scene);
+        times_of(at_random(alikes[i].scene));
     }
     for (int i = 0; i < GROWTHS; i++)
         for (int k = 0; k < GROWTH_POINTS; k++)
@@ -138,6 +143,25 @@ static void lookup_rates(void)
     printf("\n%d of %d pass %.0f lookups a second over the whole call.\n", passed, LOOKUPS, lookups_goal);
 }
 
+static void alike_fingerprints(void)
+{
+    int salted = 0, within = 0;
+    printf("\nFingerprints alike: a backup of 1,024 changes where nothing else is said.\n\n");
+    printf("| fingerprints | proved, µs | C, µs | C hash, µs | Rust, µs | memcpy, µs | proved / C | of random |\n");
+    printf("|---|---|---|---|---|---|---|---|\n");
+    for (int i = 0; i < ALIKES; i++) {
+        const struct scene *scene = &alikes[i].scene;
+        const struct times *t = times_of(*scene);
+        double of_random = t->of[PROVED] / times_of(at_random(*scene))->of[PROVED];
+        salted += is_salted(scene);
+        within += is_salted(scene) && of_random <= salted_goal;
+        printf("| %s |", alikes[i].name);
+        print_times(scene, t);
+        printf(" %.2f | %.2f |\n", t->of[PROVED] / t->of[best_c(scene, t)], of_random);
+    }
+    printf("\n%d of %d rows alike in up to 14 bytes are within %.1f of random.\n", within, salted, salted_goal);
+}
+
 static void print_line(const struct growth *growth, int column)
 {
     double x[GROWTH_POINTS], time[GROWTH_POINTS];
@@ -179,6 +203,7 @@ int main(int argc, char **argv)
     measure(1e-3 * (double)milliseconds);
     speeds();
     lookup_rates();
+    alike_fingerprints();
     growth_lines();
     return 0;
 }

@@ -6,7 +6,10 @@
 
 enum { BOOK = aspen_book_size(ASPEN_MAX_BLOCKS, CELLS, SLOTS, RECORDS), POOL = aspen_pool_size(ASPEN_MAX_BLOCKS) };
 
-enum { MOST_BOXES = 64 };
+enum { MOST_BOXES = 96 };
+
+/* What stands in the bytes that are alike. */
+enum { SALT = 0xA5 };
 
 static uint8_t book[BOOK], pool[POOL], spare[BOOK];
 static uint8_t list[aspen_list_bound(CELLS)], room[sizeof list];
@@ -28,16 +31,33 @@ void scatter(uint8_t *b, size_t n, uint64_t seed)
     }
 }
 
-void put_print(uint8_t *print, enum prints prints, unsigned number)
+bool same_alike(struct alike a, struct alike b)
 {
-    if (prints == APART) {
-        scatter(print, ASPEN_PRINT_SIZE, number);
-        return;
-    }
-    memset(print, 0xA5, ASPEN_PRINT_SIZE);
-    uint8_t *differs = prints == ALIKE ? print + ASPEN_PRINT_SIZE - 2 : print;
-    differs[0] = (uint8_t)(number / 256);
-    differs[1] = (uint8_t)(number % 256);
+    return a.first == b.first && a.last == b.last;
+}
+
+/* Each step can be undone, so different numbers of two bytes stay different. No multiple of the golden ratio: the library's index multiplies by
+ * that, and would spread such numbers better than a hash does. */
+static unsigned mixed(unsigned number)
+{
+    unsigned x = number & 0xFFFF;
+    x ^= x >> 7;
+    x = x * 0x2C1B & 0xFFFF;
+    x ^= x >> 9;
+    x = x * 0xD1A5 & 0xFFFF;
+    return x ^ x >> 8;
+}
+
+void put_print(uint8_t *print, struct alike alike, unsigned number)
+{
+    uint8_t *differs = print + alike.first;
+    scatter(print, ASPEN_PRINT_SIZE, number);
+    memset(print, SALT, alike.first);
+    memset(print + ASPEN_PRINT_SIZE - alike.last, SALT, alike.last);
+    if (alike.first + alike.last == ASPEN_PRINT_SIZE - 1)
+        differs[0] = (uint8_t)number;
+    else
+        put_u16(differs, mixed(number));
 }
 
 unsigned runs_of(unsigned changes)
@@ -45,7 +65,7 @@ unsigned runs_of(unsigned changes)
     return (changes + ASPEN_MAX_RUN - 1) / ASPEN_MAX_RUN;
 }
 
-size_t change_list(uint8_t *to, enum prints prints, unsigned lbn, unsigned changes, const uint16_t *numbers)
+size_t change_list(uint8_t *to, struct alike alike, unsigned lbn, unsigned changes, const uint16_t *numbers)
 {
     unsigned runs = runs_of(changes);
     uint8_t *print = to + aspen_list_size(runs, 0), *block = print + ASPEN_PRINT_SIZE * changes;
@@ -56,7 +76,7 @@ size_t change_list(uint8_t *to, enum prints prints, unsigned lbn, unsigned chang
         put_u16(to + aspen_list_size(r, 0) + 2, left < ASPEN_MAX_RUN ? left : ASPEN_MAX_RUN);
     }
     for (unsigned i = 0; i < changes; i++) {
-        put_print(print + ASPEN_PRINT_SIZE * i, prints, numbers[i]);
+        put_print(print + ASPEN_PRINT_SIZE * i, alike, numbers[i]);
         scatter(block + ASPEN_BLOCK_SIZE * i, ASPEN_BLOCK_SIZE, ~(uint64_t)numbers[i]);
     }
     return aspen_list_size(runs, changes);
@@ -83,7 +103,7 @@ static void take_backup(struct box *box, const struct past *past, unsigned volum
     uint16_t numbers[CELLS], at, taken, touched;
     for (unsigned i = 0; i < changes; i++)
         numbers[i] = (uint16_t)((number + i) % among);
-    size_t len = change_list(list, past->prints, lbn, changes, numbers);
+    size_t len = change_list(list, past->alike, lbn, changes, numbers);
     box->day++;
     accepted("backup", aspen_backup(book, box->book_len, pool, box->pool_len, spare, box->book_len, (uint16_t)volume, box->day, list, len, &at,
                                     &taken, &touched));
@@ -120,7 +140,7 @@ static void live_through(struct box *box, const struct past *past)
 
 static bool same_past(const struct past *a, const struct past *b)
 {
-    return a->prints == b->prints && a->used == b->used && a->left == b->left && a->blocks == b->blocks && a->held == b->held
+    return same_alike(a->alike, b->alike) && a->used == b->used && a->left == b->left && a->blocks == b->blocks && a->held == b->held
            && a->records == b->records;
 }
 

@@ -11,16 +11,14 @@ enum { CELLS = ASPEN_MAX_LBNS, SLOTS = ASPEN_MAX_SLOTS, RECORDS = ASPEN_MAX_RECO
 /* Volumes 0 to 6 are enrolled and have backups; the last is left for enrol. */
 enum { AIDS = 7, FIRST_RECORDS = AIDS * CELLS, RETENTION = ASPEN_MAX_RETENTION };
 
-/* How the fingerprints of different blocks differ. */
-enum prints {
-    APART,      /* in all bytes */
-    ALIKE,      /* in the last two bytes only; 256 each share the first 15 */
-    ALIKE_ENDS, /* in the first two bytes only */
+/* How many bytes all fingerprints share, from the first on and up to the last; the others are at random. Together at most 15. */
+struct alike {
+    unsigned first, last;
 };
 
 /* What was done with a box. */
 struct past {
-    enum prints prints;
+    struct alike alike;
     bool used;        /* else it is fresh */
     bool left;        /* each aid's second backup went over to the first KEPT blocks; the others wait for collection */
     unsigned blocks;  /* n */
@@ -49,13 +47,15 @@ void box_restore(struct box *box, unsigned from_block);
 /* Bytes that look random but depend on the seed only; n is a multiple of 8. */
 void scatter(uint8_t *b, size_t n, uint64_t seed);
 
-/* The fingerprint of the block of this number. */
-void put_print(uint8_t *print, enum prints prints, unsigned number);
+bool same_alike(struct alike a, struct alike b);
+
+/* The fingerprint of the block of this number: no other number below 65,536 has it, below 256 where 15 bytes are alike. */
+void put_print(uint8_t *print, struct alike alike, unsigned number);
 
 /* How many runs a change list has for so many LBNs in a row. */
 unsigned runs_of(unsigned changes);
 
 /* The change list of so many LBNs from `lbn` on, each with a block of its own number, from `numbers`. Answers its length. */
-size_t change_list(uint8_t *list, enum prints prints, unsigned lbn, unsigned changes, const uint16_t *numbers);
+size_t change_list(uint8_t *list, struct alike alike, unsigned lbn, unsigned changes, const uint16_t *numbers);
 
 #endif

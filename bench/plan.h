@@ -16,12 +16,21 @@ struct growth {
     struct scene scene;
 };
 
-enum { ROWS = 36, LOOKUPS = 6, GROWTHS = 19, GROWTH_POINTS = 5 };
+enum { ROWS = 36, LOOKUPS = 6, ALIKES = 30, GROWTHS = 19, GROWTH_POINTS = 5 };
 
 extern const struct row rows[ROWS];
 
 /* Backups of 1,024 changes, for lookups a second. */
 extern const struct row lookups[LOOKUPS];
+
+/* Fingerprints alike, beside some at random. */
+extern const struct row alikes[ALIKES];
+
+/* Whether the goal is for it: up to 14 bytes at one end are alike. */
+bool is_salted(const struct scene *scene);
+
+/* The scene with fingerprints at random. */
+struct scene at_random(struct scene scene);
 
 extern const struct growth growths[GROWTHS];
 

@@ -21,7 +21,7 @@ static size_t narrow_len(const struct stage *stage)
 
 bool same_scene(const struct scene *a, const struct scene *b)
 {
-    return a->call == b->call && a->prints == b->prints && a->fresh == b->fresh && a->left == b->left && a->finds == b->finds
+    return a->call == b->call && same_alike(a->alike, b->alike) && a->fresh == b->fresh && a->left == b->left && a->finds == b->finds
            && a->oldest == b->oldest && a->blocks == b->blocks && a->records == b->records && a->changes == b->changes;
 }
 
@@ -29,10 +29,10 @@ static void set_list(struct stage *stage)
 {
     const struct scene *scene = &stage->scene;
     uint16_t numbers[CELLS];
-    unsigned from = scene->finds == FIRST_BLOCKS ? 0 : scene->finds == LAST_BLOCKS ? stage->held - scene->changes : ASPEN_MAX_BLOCKS;
+    unsigned from = scene->finds == LAST_BLOCKS ? stage->held - scene->changes % stage->held : 0;
     for (unsigned i = 0; i < scene->changes; i++)
-        numbers[i] = (uint16_t)(from + i);
-    stage->list_len = change_list(list, scene->prints, 0, scene->changes, numbers);
+        numbers[i] = (uint16_t)(scene->finds == NOWHERE ? stage->held + i : (from + i) % stage->held);
+    stage->list_len = change_list(list, scene->alike, 0, scene->changes, numbers);
 }
 
 static uint16_t write_list(const struct side *side, uint8_t *to, uint32_t *written)
@@ -48,7 +48,7 @@ static void set_volume(struct stage *stage)
     for (unsigned i = 0; i < stage->scene.changes; i++)
         marks[37 * i % CELLS] = 1;
     for (unsigned i = 0; i < CELLS; i++)
-        put_print(prints + ASPEN_PRINT_SIZE * i, APART, i);
+        put_print(prints + ASPEN_PRINT_SIZE * i, stage->scene.alike, i);
     scatter(image, sizeof image, CELLS);
     write_list(&sides[PROVED], list, &written);
     stage->list_len = written;
@@ -70,8 +70,8 @@ static void set_older(const struct stage *stage)
 void stage_set(struct stage *stage, const struct scene *scene)
 {
     *stage = (struct stage){ .scene = *scene };
-    stage->held = scene->finds == NOWHERE ? scene->blocks - FREE_BLOCKS : scene->blocks;
-    struct past past = { .prints = scene->prints,
+    stage->held = scene->finds == NOWHERE ? scene->blocks - scene->blocks / 4 : scene->blocks;
+    struct past past = { .alike = scene->alike,
                          .used = !scene->fresh,
                          .left = scene->left,
                          .blocks = scene->blocks,

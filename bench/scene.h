@@ -7,15 +7,13 @@
 
 enum call { FORM, FORMAT, ENROL, BACKUP, COLLECT, READ, RESTORE, AUDIT, CONVERT_1_2, CONVERT_2_1, CONVERT_2_3, WRITE_LIST };
 
-/* Where a backup's blocks are found. */
+/* Where a backup's blocks are found: round the held ones, from the first or up to the last. For one that finds nothing a quarter of the pool is
+ * free. */
 enum finds { FIRST_BLOCKS, LAST_BLOCKS, NOWHERE };
-
-/* How many blocks are free for a backup that finds nothing. */
-enum { FREE_BLOCKS = CELLS };
 
 struct scene {
     enum call call;
-    enum prints prints;
+    struct alike alike;
     bool fresh;
     bool left;
     enum finds finds;

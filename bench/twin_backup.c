@@ -22,12 +22,12 @@ static uint8_t *entry_of(const struct backup *b, unsigned p)
     return b->work + ENTRIES + ENTRY * p;
 }
 
-/* The lowest held block with this fingerprint, or UNMAPPED. */
+/* The lowest held block with this fingerprint, or UNMAPPED. The last byte is looked at first: clients put a salt into the first ones. */
 static unsigned scan(const struct backup *b, const uint8_t *print)
 {
     const uint8_t *e = b->work + ENTRIES;
     for (size_t p = 0; p < b->a.n; p++, e += ENTRY)
-        if (e[ENTRY_PRINT] == print[0] && e[ENTRY_STATE] == 1 && memcmp(e + ENTRY_PRINT, print, PRINT) == 0)
+        if (e[ENTRY_PRINT + PRINT - 1] == print[PRINT - 1] && e[ENTRY_STATE] == 1 && memcmp(e + ENTRY_PRINT, print, PRINT) == 0)
             return (unsigned)p;
     return UNMAPPED;
 }

@@ -377,7 +377,7 @@ uint16_t aspen_play(uint8_t *book, size_t book_len, uint8_t *pool, size_t pool_l
 /*
  * Writes the change list of the marked blocks of a volume of l blocks, for aspen_backup.
  *   marks   l bytes, 1 for a block that changed and 0 for one that didn't
- *   prints  l fingerprints of ASPEN_PRINT_SIZE bytes
+ *   prints  l fingerprints of ASPEN_PRINT_SIZE bytes; a salt that all share may stand at either end
  *   image   l blocks of ASPEN_BLOCK_SIZE bytes
  *   list    the output; aspen_list_bound(l) bytes are always enough
  * A longest run of marked blocks, which no marked block stands beside, is cut from its start into

@@ -9,8 +9,8 @@ units_of() {
     case $1 in
     aid) printf '%s\n' aid sizes texts writer pieces writing ;;
     engine)
-        printf '%s\n' engine form cases format_audit count views refusals lists changes restore \
-            convert convert_2_3 converting play
+        printf '%s\n' engine form cases format_audit count views refusals lists changes alike \
+            restore convert convert_2_3 converting play
         ;;
     esac
     printf '%s\n' check buffer books box calls

@@ -13,6 +13,7 @@ int main(void)
     test_refusals();
     test_lists();
     test_changes();
+    test_alike();
     test_restore();
     test_convert();
     test_convert_2_3();

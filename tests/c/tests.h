@@ -18,6 +18,7 @@ void test_views(void);
 void test_refusals(void);
 void test_lists(void);
 void test_changes(void);
+void test_alike(void);
 void test_restore(void);
 void test_convert(void);
 void test_convert_2_3(void);

@@ -3,3 +3,4 @@ pub mod First
 pub mod Bucket
 pub mod Indexed
 pub mod Finding
+pub mod FarEnd

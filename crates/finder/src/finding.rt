@@ -2,7 +2,6 @@
 ghost use mathlib.Core.Path.{_≡_};
 ghost use lib.ListN.{length};
 ghost use Rattle.words.specs.Blocks.{printSize};
-ghost use Rattle.words.specs.Lists.{same};
 ghost use Rattle.book.specs.Layout.{told, Holds};
 ghost use Rattle.model.specs.Backup.{findHeld};
 ghost use Rattle.finder.specs.Answers.{foundOf};
@@ -11,6 +10,7 @@ ghost use Rattle.finder.specs.Bucket.{bucketOf, hasPrint};
 ghost use Rattle.finder.specs.Finding.{Chain};
 ghost use Rattle.finder.specs.Indexed.{Indexed};
 use super::bucket::bucket_of;
+use super::comparing::agreeing;
 use entries::entry;
 use fields::header;
 use words::PBN;
@@ -21,20 +21,6 @@ use words::limits::Table;
 pub enum Found {
     At(PBN),
     Nothing,
-}
-
-// Two fingerprints are the same. With its length known the loop becomes one comparison of all bytes.
-fn same_print(a: &[u8], b: &[u8]) -> bool
-    requires { ⌜ (length (now a) ≡ printSize) × (length (now b) ≡ printSize) ⌝ }
-    ensures { λ r. ⌜ r ≡ same (now (a .entry)) (now (b .entry)) ⌝ }
-{
-    let mut good = true;
-    let mut i = 0;
-    while i < PRINT_SIZE {
-        good = good & (a[i] == b[i]);
-        i += 1;
-    }
-    good
 }
 
 // The lowest block with the fingerprint from a block of its bucket on, or N. Goes up through the bucket, whose blocks
@@ -49,7 +35,7 @@ pub fn search(book: &[u8], nexts: &Table, from: u16, print: &[u8]) -> u16
     let mut q = from;
     while q < n {
         let own = entry::print_of(book, PBN(q));
-        if same_print(own, print) {
+        if agreeing(own, print) == PRINT_SIZE {
             return q;
         }
         q = nexts[q as usize];

@@ -1,5 +1,6 @@
 //! Compares the archives' C functions with the reference's. See `usage`.
 
+mod bucket;
 mod coverage;
 mod guarded;
 mod interface;

@@ -1,5 +1,6 @@
 //! The parts of the comparison, each a list of jobs that need nothing of each other.
 
+mod alike;
 mod books;
 mod converts;
 mod counts;
@@ -75,7 +76,7 @@ pub fn check() -> Vec<Job> {
         lengths::jobs(),
         faults::jobs(),
     ];
-    let soon = [counts::jobs(), days::jobs()];
+    let soon = [counts::jobs(), days::jobs(), alike::jobs()];
     mixed(parts.into(), soon.into_iter().flatten().collect())
 }
 
@@ -113,6 +114,7 @@ pub fn more(index: u64) -> Vec<Job> {
         36..=41 => runs::jobs(Shape::Pieces, seeds),
         42 => play::jobs(Shape::Pieces, seeds),
         43..=49 => upgrades::jobs(quick, seeds),
+        50..=51 => alike::runs(seeds),
         _ => runs::jobs(quick, seeds),
     }
 }

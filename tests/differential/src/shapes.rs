@@ -2,6 +2,7 @@
 //! hole in the tests.
 
 mod afresh;
+mod alike;
 mod audit;
 mod backup;
 mod buffers;
@@ -33,13 +34,30 @@ const MOST: usize = RUN_MAX as usize;
 /// The shapes that a call may have, each with whether it has it.
 type Shape = (&'static str, bool);
 
+/// A call and a shape, with a number where there are several of a kind.
+type Key = (&'static str, &'static str, Option<usize>);
+
 #[derive(Default)]
-pub struct Shapes(BTreeMap<(&'static str, &'static str), u64>);
+pub struct Shapes(BTreeMap<Key, u64>);
+
+fn in_words((call, name, number): &Key) -> String {
+    match number {
+        Some(number) => format!("{call}: {name} {number}"),
+        None => format!("{call}: {name}"),
+    }
+}
 
 impl Shapes {
     fn count(&mut self, call: &'static str, shapes: impl IntoIterator<Item = Shape>) {
         for (name, has) in shapes {
-            *self.0.entry((call, name)).or_default() += u64::from(has);
+            *self.0.entry((call, name, None)).or_default() += u64::from(has);
+        }
+    }
+
+    /// Shapes that come for each number from 0 on.
+    fn count_numbered(&mut self, call: &'static str, (name, came): (&'static str, &[bool])) {
+        for (number, has) in came.iter().enumerate() {
+            *self.0.entry((call, name, Some(number))).or_default() += u64::from(*has);
         }
     }
 
@@ -140,6 +158,7 @@ impl Shapes {
                 self.count("backup", backup.replaced().previous_shapes());
                 self.count("backup", backup.list_shapes());
                 self.count("backup", backup.refused_shapes(pool));
+                self.note_alike(&backup.alike());
             }
             Call::Collect { day } => {
                 self.count("collect", others::Collect::new(book, *day, seen).shapes());
@@ -161,6 +180,13 @@ impl Shapes {
         }
     }
 
+    fn note_alike(&mut self, alike: &alike::Alike) {
+        self.count("backup", alike.shapes());
+        for numbered in alike.numbered_shapes() {
+            self.count_numbered("backup", numbered);
+        }
+    }
+
     pub fn merge(&mut self, other: &Shapes) {
         for (shape, times) in &other.0 {
             *self.0.entry(*shape).or_default() += times;
@@ -169,12 +195,10 @@ impl Shapes {
 
     /// Prints how often each came; gives those that never did.
     pub fn report(&self) -> Vec<String> {
-        for ((call, name), times) in &self.0 {
-            println!("{times:>9}  {call}: {name}");
+        for (shape, times) in &self.0 {
+            println!("{times:>9}  {}", in_words(shape));
         }
         let missing = self.0.iter().filter(|(_, times)| **times == 0);
-        missing
-            .map(|((call, name), _)| format!("{call}: {name}"))
-            .collect()
+        missing.map(|(shape, _)| in_words(shape)).collect()
     }
 }

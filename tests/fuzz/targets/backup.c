@@ -3,6 +3,7 @@
 
 #include <stdio.h>
 #include <stdlib.h>
+#include <string.h>
 
 int LLVMFuzzerTestOneInput(const uint8_t *input, size_t length);
 
@@ -42,19 +43,64 @@ static unsigned longest_run(const struct buffer *list)
  * printed at the end. */
 static unsigned long taken, refused;
 
-static void print_runs(void)
+static void note_runs(uint16_t number, unsigned longest)
 {
-    fprintf(stderr, "runs: %d=%lu longer=%lu\n", ASPEN_MAX_RUN, taken, refused);
+    taken += number == ASPEN_OK && longest == ASPEN_MAX_RUN;
+    refused += number == ASPEN_BAD_LIST && longest > ASPEN_MAX_RUN;
 }
 
-static void note_runs(uint16_t number, unsigned longest)
+/* How many lists were taken with a fingerprint that isn't a held one but agrees with it in the far
+ * half, in the near half, and in two bytes at each end. */
+enum { FAR, NEAR, ENDS, WAYS };
+static unsigned long alike[WAYS];
+
+static void compare_prints(const uint8_t *sent, const uint8_t *held, unsigned is[WAYS])
+{
+    enum { HALF = ASPEN_PRINT_SIZE / 2, END = ASPEN_PRINT_SIZE - 2 };
+
+    if (memcmp(sent, held, ASPEN_PRINT_SIZE) == 0)
+        return;
+    is[FAR] |= memcmp(sent + HALF, held + HALF, HALF) == 0;
+    is[NEAR] |= memcmp(sent, held, HALF) == 0;
+    is[ENDS] |= memcmp(sent, held, 2) == 0 && memcmp(sent + END, held + END, 2) == 0;
+}
+
+/* Of a list that was taken. */
+static void note_alike(const struct buffer *book, const struct buffer *list)
+{
+    static uint8_t rows[aspen_blocks_size(ASPEN_MAX_BLOCKS)];
+    const size_t start = aspen_list_size(aspen_u16(list->bytes), 0);
+    const size_t changes = (list->length - start) / (ASPEN_PRINT_SIZE + ASPEN_BLOCK_SIZE);
+    const size_t blocks = aspen_u16(book->bytes + 2);
+    unsigned is[WAYS] = {0};
+    size_t i;
+
+    CHECK_EQ(aspen_blocks(book->bytes, book->length, rows, sizeof rows), ASPEN_OK);
+    for (i = 0; i < changes * blocks; i++) {
+        const uint8_t *row = rows + aspen_blocks_size(i % blocks);
+
+        if (aspen_u16(row) == 1)
+            compare_prints(list->bytes + start + i / blocks * ASPEN_PRINT_SIZE, row + 6, is);
+    }
+    for (i = 0; i < WAYS; i++)
+        alike[i] += is[i];
+}
+
+static void print_noted(void)
+{
+    fprintf(stderr, "runs: %d=%lu longer=%lu\n", ASPEN_MAX_RUN, taken, refused);
+    fprintf(stderr, "alike: far=%lu near=%lu ends=%lu\n", alike[FAR], alike[NEAR], alike[ENDS]);
+}
+
+static void note(uint16_t number, const struct sent *sent)
 {
     static int noted;
 
     if (!noted)
-        noted = atexit(print_runs) == 0;
-    taken += number == ASPEN_OK && longest == ASPEN_MAX_RUN;
-    refused += number == ASPEN_BAD_LIST && longest > ASPEN_MAX_RUN;
+        noted = atexit(print_noted) == 0;
+    note_runs(number, longest_run(&sent->part[LIST]));
+    if (number == ASPEN_OK)
+        note_alike(&sent->part[BOOK], &sent->part[LIST]);
 }
 
 int LLVMFuzzerTestOneInput(const uint8_t *input, size_t length)
@@ -68,7 +114,7 @@ int LLVMFuzzerTestOneInput(const uint8_t *input, size_t length)
     CHECK_EQ(number, call(reference_backup, &theirs, &sent, expected));
     for (i = 0; i < 3; i++)
         check_answer(number, answer[i], expected[i], UNTOUCHED);
-    note_runs(number, longest_run(&sent.part[LIST]));
+    note(number, &sent);
     check_left(number, &sent, &ours, &theirs);
     return 0;
 }

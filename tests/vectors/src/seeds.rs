@@ -2,6 +2,7 @@
 
 use reference::call::Call;
 use reference::cases;
+use reference::layout::{Book, Pbn, FINGERPRINT_BYTES};
 use reference::play::encode;
 use reference::store::Run;
 
@@ -69,6 +70,7 @@ pub fn all() -> Vec<(String, Vec<u8>)> {
     seeds.push(("marks-1024".into(), marks(&[&[1; 128]], 8)));
     seeds.extend(lists());
     seeds.extend(outputs());
+    seeds.extend(alike());
     seeds
 }
 
@@ -104,6 +106,20 @@ fn output(asked: u16, longer: i16) -> Vec<u8> {
     input[5] = 1 << SPARE;
     input[14 + 2 * SPARE..][..2].copy_from_slice(&longer.to_le_bytes());
     input
+}
+
+/// Books that hold a fingerprint which differs from the change's in one byte, each of them.
+fn alike() -> Vec<(String, Vec<u8>)> {
+    let mut seeds = Vec::new();
+    for place in 0..FINGERPRINT_BYTES {
+        let mut book = cases::after_d().book;
+        Book::over(&mut book[..]).edit_entry(Pbn(0), |entry| {
+            entry.fingerprint = cases::fingerprint('X');
+            entry.fingerprint[place] ^= 1;
+        });
+        seeds.push((format!("alike-{place}"), given(&book, [0, 10, 0, 0])));
+    }
+    seeds
 }
 
 /// A list of calls with every kind of answer: the cases to g on a fresh book, or calls that boxes of

@@ -5,6 +5,7 @@ use reference::layout::{
     Book, Fingerprint, Header, Pbn, Record, DAY_MAX, FREE, HELD, UNMAPPED, VOLUMES,
 };
 
+use super::alike::Alike;
 use super::replaced::Replaced;
 use super::{lists, Shape};
 use crate::seen::Seen;
@@ -121,6 +122,11 @@ impl<'a> Backup<'a> {
     /// What it replaced.
     pub fn replaced(&self) -> Replaced<'_> {
         Replaced::new(&self.before, &self.after, self.volume, &self.added)
+    }
+
+    /// The held fingerprints that its changes met.
+    pub fn alike(&self) -> Alike {
+        Alike::new(&self.before, self.list.as_ref(), &self.added)
     }
 
     /// Of the list's pairs.

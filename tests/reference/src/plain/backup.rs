@@ -49,6 +49,7 @@ impl Made {
         Ok(())
     }
 
+    /// By plain equality: the box, which compares from the far end, is compared with this.
     fn held_with(&self, fingerprint: &Fingerprint) -> Option<(Pbn, &Content)> {
         held_in(&self.blocks).find(|(_, content)| content.fingerprint == *fingerprint)
     }

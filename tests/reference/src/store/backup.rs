@@ -2,6 +2,7 @@
 
 use super::{check_day, enrolled, BackedUp};
 use crate::change_list::{self, Change};
+use crate::far_end::all_agree;
 use crate::form;
 use crate::keeping::last_day;
 use crate::layout::{Block, Book, Fingerprint, Header, Pbn, Record, Slot, HELD, UNMAPPED};
@@ -99,7 +100,7 @@ impl<'s, 'l> Run<'s, 'l> {
     fn held_with(&self, fingerprint: &Fingerprint) -> Option<Pbn> {
         self.book.pbns().find(|&pbn| {
             let entry = self.book.entry(pbn);
-            entry.state == HELD && entry.fingerprint == *fingerprint
+            entry.state == HELD && all_agree(&entry.fingerprint, fingerprint)
         })
     }
 
