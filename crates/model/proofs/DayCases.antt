@@ -6,7 +6,7 @@ use mathlib.Core.Bool.{Bool, true, false}
 use mathlib.Core.List.{List, [], _∷_, _++_, map}
 use mathlib.Core.Option.{none, some}
 use lib.ListN.{replicate}
-use Rattle.words.specs.Blocks.{blockSize, printSize, unmapped}
+use Rattle.words.specs.Blocks.{unmapped}
 use Rattle.words.specs.Numbers.{two}
 use Rattle.runs.specs.Changes
 use Rattle.book.specs.Book.{Entry, Book, noPrint, freeEntry}
@@ -19,6 +19,7 @@ use Rattle.model.specs.Backup.{untilNext}
 use Rattle.model.specs.OnBytes.{after}
 use Rattle.model.specs.Plain.{Image, keptNames}
 use Rattle.model.specs.Views.{keptUntil}
+use Rattle.model.proofs.CaseBlocks.{print, block, hold}
 
 -- backups of days 5, 8 and 20, kept 10 days each: numbers 1 to 3
 abbrev keptOn : ℕ → List Bool
@@ -83,26 +84,20 @@ expiries-tried = record { before = refl; audited = refl; next = refl }
 
 -- ---- step 3: volume 0 has block 0 since day 5, and on day 20 block 1 comes in its place
 
-abbrev block : ℕ → List ℕ
-block a = replicate blockSize a
-
 unfoldable pub held : Book
 held = record {
   sizes = newSizes 2 1 3 2;
   day = 5;
   cursor = 0;
   retentions = 10 ∷ replicate 7 0;
-  entries =
-      record { count = 1; held = true; expiry = 0; print = replicate printSize 0 }
-      ∷ record { count = 0; held = true; expiry = 7; print = replicate printSize 1 }
-      ∷ [];
+  entries = hold 1 0 0 ∷ hold 0 7 1 ∷ [];
   maps = (0 ∷ []) ∷ replicate 7 (unmapped ∷ []);
   slots = record { volume = 0; day = 5; first = 0; number = 1 } ∷ [];
   records = record { lbn = 0; before = unmapped; after = 0 } ∷ [];
 }
 
 unfoldable pub sent : List ℕ
-sent = two 1 ++ (two 0 ++ (two 1 ++ (replicate printSize 1 ++ block 1)))
+sent = two 1 ++ (two 0 ++ (two 1 ++ (print 1 ++ block 1)))
 
 pub record Replaced : Type 0 where
   pub expiries : after (λ (d : Backup.Backed). map (λ (e : Entry). e .expiry) (d .book .entries)) (Backup.backup held (block 0 ++ block 1) 0 20 sent) []

@@ -1,3 +1,4 @@
+pub mod CaseBlocks
 pub mod ConvertCases
 pub mod CountCases
 pub mod DayCases

@@ -2,8 +2,7 @@
 use Prim.Native.Nat.{ℕ, _+_}
 use mathlib.Core.Path.{_≡_, refl}
 use mathlib.Core.List.{List, [], _∷_, _++_, map}
-use lib.ListN.{replicate}
-use Rattle.words.specs.Blocks.{blockSize, unmapped}
+use Rattle.words.specs.Blocks.{unmapped}
 use Rattle.words.specs.Outcome.{Outcome, refused, accepted}
 use Rattle.book.specs.Book.{Book}
 use Rattle.book.specs.Next.{newSizes}
@@ -12,6 +11,7 @@ use Rattle.model.specs.Journal.{journal, backups, days, noVolume}
 use Rattle.model.specs.Kept.{keptNumber}
 use Rattle.model.specs.Read.{image, readNumber, read}
 use Rattle.model.specs.Restore.{runNumber, restore}
+use Rattle.model.proofs.CaseBlocks.{block}
 
 -- LBN 0 has block 0, then block 1, then block 0 again
 unfoldable pub thrice : Book
@@ -30,16 +30,13 @@ thrice = record {
       ∷ [];
 }
 
-abbrev pub blockOf : ℕ → List ℕ
-blockOf a = replicate blockSize a
-
 -- volume, number, first LBN, length, room
 unfoldable pub try : ℕ → ℕ → ℕ → ℕ → ℕ → Outcome (List ℕ)
-try v k first many room = restore thrice (blockOf 65 ++ blockOf 66) v k first many room
+try v k first many room = restore thrice (block 65 ++ block 66) v k first many room
 
 pub record Tried : Type 0 where
   -- the first record after a backup decides
-  pub run : map (λ k. try 0 k 0 1 512) (1 ∷ 2 ∷ 3 ∷ []) ≡ map (λ a. accepted (blockOf a)) (65 ∷ 66 ∷ 65 ∷ [])
+  pub run : map (λ k. try 0 k 0 1 512) (1 ∷ 2 ∷ 3 ∷ []) ≡ map (λ a. accepted (block a)) (65 ∷ 66 ∷ 65 ∷ [])
   -- 18, and 21 before it
   pub unmapped-lbn : try 0 1 0 2 1024 ≡ refused 18
   pub short : try 0 1 0 2 1023 ≡ refused 21

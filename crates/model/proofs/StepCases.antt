@@ -2,11 +2,11 @@
 -- in `cases`, so that a wrong definition is refused by what it gives.
 use Prim.Native.Nat.{ℕ}
 use mathlib.Core.Path.{_≡_, refl}
-use mathlib.Core.Bool.{true, false}
+use mathlib.Core.Bool.{false}
 use mathlib.Core.List.{List, [], _∷_, _++_, map}
 use mathlib.Core.Option.{none, some}
 use lib.ListN.{getD, replicate}
-use Rattle.words.specs.Blocks.{blockSize, printSize, unmapped}
+use Rattle.words.specs.Blocks.{unmapped}
 use Rattle.words.specs.Numbers.{two}
 use Rattle.runs.specs.Changes
 use Rattle.runs.specs.Changes.{Change}
@@ -22,20 +22,10 @@ use Rattle.model.specs.Backup.{Work, Placed, findHeld, findFree, place, 
 use Rattle.model.specs.OnBytes.{numberOf, after, poolNumber, spareNumber, backupBytes}
 use Rattle.model.specs.Calls.{backup, number}
 use Rattle.model.specs.Sides.{Ours, oursBacked, ours}
-
--- sixteen bytes of a tag, over a block of it
-abbrev print : ℕ → List ℕ
-print a = replicate printSize a
-
-abbrev block : ℕ → List ℕ
-block a = replicate blockSize a
+use Rattle.model.proofs.CaseBlocks.{print, block, hold}
 
 abbrev change : ℕ → ℕ → Change
 change l a = record { lbn = l; print = print a; block = block a }
-
--- a held block with this count, expiry and tag
-abbrev hold : ℕ → ℕ → ℕ → Entry
-hold c d a = record { count = c; held = true; expiry = d; print = print a }
 
 -- ---- steps 1 and 2: which block is found
 

@@ -5,7 +5,7 @@ use mathlib.Core.Path.{_≡_, refl}
 use mathlib.Core.Bool.{Bool, true, false}
 use mathlib.Core.List.{List, [], _∷_, map}
 use lib.ListN.{replicate}
-use Rattle.words.specs.Blocks.{blockSize, printSize, unmapped}
+use Rattle.words.specs.Blocks.{unmapped}
 use Rattle.book.specs.Book.{Entry, Book, noPrint, freeEntry}
 use Rattle.book.specs.Next.{newSizes, withDay, withEntries, madeFree}
 use Rattle.model.specs.Days.{kept, badDay}
@@ -17,13 +17,7 @@ use Rattle.model.specs.Collect.{Collected, collectNumber, isOver, sweptE
 use Rattle.model.specs.OnBytes.{after}
 use Rattle.model.specs.Plain
 use Rattle.model.specs.Plain.{Plain, PlainCollected, marked}
-
-abbrev print : ℕ → List ℕ
-print a = replicate printSize a
-
--- a held block with this count, expiry and tag
-abbrev hold : ℕ → ℕ → ℕ → Entry
-hold c d a = record { count = c; held = true; expiry = d; print = print a }
+use Rattle.model.proofs.CaseBlocks.{print, block, hold}
 
 -- ---- collect
 
@@ -71,7 +65,7 @@ store = record {
   sizes = newSizes 4 1 3 3;
   day = 9;
   cursor = 0;
-  blocks = map (λ a. Plain.held (print a) (replicate blockSize a)) (0 ∷ 1 ∷ 2 ∷ 3 ∷ []);
+  blocks = map (λ a. Plain.held (print a) (block a)) (0 ∷ 1 ∷ 2 ∷ 3 ∷ []);
   volumes = record {
     retention = 10;
     images =
