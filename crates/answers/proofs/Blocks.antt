@@ -13,14 +13,14 @@ use Rattle.words.proofs.Accepted.{accepted-same, unless-accepted, then-accepted
 use Rattle.words.proofs.ChoiceLaws.{true-and}
 use Rattle.words.specs.Lent.{Lent}
 use Rattle.words.specs.Lists.{all}
-use Rattle.words.specs.Outcome.{Outcome, refused, accepted, unless}
+use Rattle.words.specs.Outcome.{Outcome, refused, accepted, andThen, unless}
 use Rattle.words.proofs.Parts.{length-part}
 use Rattle.book.specs.Form.{formNumber}
 use Rattle.book.proofs.Clauses.{book-parts}
 use Rattle.book.proofs.FormBytes.{book-form}
 use Rattle.book.specs.Layout.{bookOf}
 use Rattle.model.specs.Calls.{Call, enrol, backup, collect, read, audit}
-use Rattle.model.specs.OnBytes.{BackedBytes, CollectedBytes, numberOf, after, poolNumber, enrolBytes, backupBytes, collectBytes}
+use Rattle.model.specs.OnBytes.{numberOf, after, poolNumber, enrolBytes, backupBytes, collectBytes}
 use Rattle.model.specs.OnBytes.{readBytes, readNumberBytes, readPlaceBytes, restoreBytes, auditBytes}
 use Rattle.claims.specs.Claims.{restoredAt}
 use Rattle.model.specs.Kept.{keptNumber}
@@ -30,11 +30,11 @@ use Rattle.model.specs.Read.{image, readNumber}
 use Rattle.model.specs.Restore
 use Rattle.model.specs.Restore.{runNumber, readsFrom}
 use Rattle.claims.proofs.form.ImageIn.{image-in}
-use Rattle.model.specs.Sides.{Ours, ours, oursEnrolled, oursBacked, oursCollected, readAnswer, auditAnswer}
+use Rattle.model.specs.Sides.{Changed, answerOf, stepOf, readAnswer, auditAnswer, Ours, ours}
 use Rattle.buffers.proofs.BuffersLaws.{pool-size}
 use Rattle.calls.specs.Asked.{Asked, listed, restore, restoreReply, replyTo, nextAfter, repliesOf}
 use Rattle.calls.proofs.AnswerLaws.{isWhole, wholeReply}
-use Rattle.calls.proofs.Proper.{number-unless}
+use Rattle.claims.proofs.form.Proper.{number-unless}
 use Rattle.restorer.specs.Contracts.{Located}
 use Rattle.restorer.proofs.ReadingLaws.{number-mapped}
 
@@ -97,23 +97,18 @@ module _ (book pool : Lent (List ℕ)) (v k lbn : ℕ) (p : Lent ℕ) (n : ℕ) 
 
 -- ---- so every block among the answers is whole
 
+-- a call that changes something answers a number or what it gives, one number or three
+changed-whole : {A : Type 0} (o : Ours) (x : Outcome A) (to : A → Changed Ours) → ((a : A) → isWhole (answerOf (to a .answers)) ≡ true)
+    → isWhole (stepOf o (andThen x (λ a. accepted (to a))) .answer) ≡ true
+unfolding stepOf
+changed-whole o (refused k) to whole = refl
+changed-whole o (accepted a) to whole = whole a
+
 answer-whole : (spare : ℕ) (o : Ours) (c : Call) → isWhole (ours spare o c .answer) ≡ true
-unfolding ours oursEnrolled oursBacked oursCollected auditAnswer
-answer-whole spare o (enrol v r) = go (enrolBytes (o .book) v r)
-  where
-    go : (x : Outcome (List ℕ)) → isWhole (oursEnrolled o x .answer) ≡ true
-    go (refused k) = refl
-    go (accepted d) = refl
-answer-whole spare o (backup v t list) = go (backupBytes (o .book) (o .pool) spare v t list)
-  where
-    go : (x : Outcome BackedBytes) → isWhole (oursBacked o x .answer) ≡ true
-    go (refused k) = refl
-    go (accepted d) = refl
-answer-whole spare o (collect t) = go (collectBytes (o .book) t)
-  where
-    go : (x : Outcome CollectedBytes) → isWhole (oursCollected o x .answer) ≡ true
-    go (refused k) = refl
-    go (accepted d) = refl
+unfolding ours auditAnswer
+answer-whole spare o (enrol v r) = changed-whole o (enrolBytes (o .book) v r) _ (λ b. refl)
+answer-whole spare o (backup v t list) = changed-whole o (backupBytes (o .book) (o .pool) spare v t list) _ (λ d. refl)
+answer-whole spare o (collect t) = changed-whole o (collectBytes (o .book) t) _ (λ d. refl)
 answer-whole spare o (read v k lbn) = read-whole (o .book) (o .pool) v k lbn
 answer-whole spare o audit = go (auditBytes (o .book))
   where

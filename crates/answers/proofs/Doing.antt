@@ -10,7 +10,7 @@ use Rattle.words.specs.Laying.{Stored}
 use Rattle.words.specs.Lent.{Lent}
 use Rattle.words.proofs.Lending.{lent}
 use Rattle.words.specs.Numbers.{two}
-use Rattle.words.specs.Outcome.{Outcome, refused, accepted}
+use Rattle.words.specs.Outcome.{Outcome, refused, accepted, andThen}
 use Rattle.words.specs.Sections.{part}
 use Rattle.book.specs.Layout.{bookOf}
 use Rattle.model.specs.Calls.{enrol, backup, collect, read, audit}
@@ -19,12 +19,13 @@ use Rattle.model.specs.OnBytes.{collectBytes, readBytes}
 use Rattle.model.specs.OnBytes.{readNumberBytes, auditBytes, soundAfter}
 use Rattle.model.specs.Pool.{blockAt}
 use Rattle.model.specs.Read.{image}
-use Rattle.model.specs.Sides.{Step, Ours, ours, oursEnrolled, oursBacked, oursCollected, readAnswer, auditAnswer}
+use Rattle.model.specs.Sides.{Step, stepOf, readAnswer, auditAnswer, Ours, enrolledTo, backedTo, collectedTo, ours}
 use Rattle.calls.specs.Asked.{listed, replyTo, nextAfter}
 use Rattle.calls.specs.Answers.{answerBytes}
 use Rattle.calls.specs.Contracts.{at}
 use Rattle.calls.specs.Doing.{Did}
-use Rattle.calls.proofs.Proper.{Proper, not-refused, collect-proper, audit-proper, backup-proper}
+use Rattle.claims.proofs.form.Proper.{Proper, not-refused}
+use Rattle.calls.proofs.Proper.{collect-proper, audit-proper, backup-proper}
 use Rattle.setup.specs.Contracts.{Enrolled}
 use Rattle.collector.specs.Contracts.{Swept}
 use Rattle.auditor.specs.Contracts.{Audited}
@@ -47,29 +48,29 @@ By s out to x y out′ r = (at x y ≡ s .next) × Stored out to (answerBytes (s
 module _ (spare : ℕ) (book : Lent (List ℕ)) (pool out : List ℕ) (to : ℕ) {out′ : List ℕ} {r : ℕ} where
   pub enrol-did : (v retention k : ℕ) → Enrolled book v retention k → Stored out to (0 ∷ two k) out′ r
       → Did spare (was book) pool (listed (enrol v retention)) out to (is book) pool out′ r
-  unfolding replyTo nextAfter ours oursEnrolled
+  unfolding replyTo nextAfter ours stepOf
   enrol-did v retention k e s =
       let g = go (enrolBytes (was book) v retention) (e .number) (e .book) in record { next = g .0; answer = g .1 }
     where
       go : (o : Outcome (List ℕ)) → k ≡ numberOf o → is book ≡ bookAfter o (was book)
-          → By (oursEnrolled (at (was book) pool) o) out to (is book) pool out′ r
+          → By (stepOf (at (was book) pool) (andThen o (enrolledTo (at (was book) pool)))) out to (is book) pool out′ r
       go (refused j) n m = (ap (λ (x : List ℕ). at x pool) m, rw n at s)
       go (accepted d) n m = (ap (λ (x : List ℕ). at x pool) m, rw n at s)
 
   module _ (t : ℕ) (f : Lent ℕ) (k : ℕ) (e : Swept book t f k) where
     pub collect-refused : (k ≡ 0 → ⊥) → Stored out to (0 ∷ two k) out′ r
         → Did spare (was book) pool (listed (collect t)) out to (is book) pool out′ r
-    unfolding replyTo nextAfter ours oursCollected
+    unfolding replyTo nextAfter ours stepOf
     collect-refused h s = let g = go (collectBytes (was book) t) (e .number) (e .book) in record { next = g .0; answer = g .1 }
       where
         go : (o : Outcome CollectedBytes) → k ≡ numberOf o → is book ≡ after (λ d. d .book) o (was book)
-            → By (oursCollected (at (was book) pool) o) out to (is book) pool out′ r
+            → By (stepOf (at (was book) pool) (andThen o (collectedTo (at (was book) pool)))) out to (is book) pool out′ r
         go (refused j) n m = (ap (λ (x : List ℕ). at x pool) m, rw n at s)
         go (accepted d) n m = absurd (h n)
 
     pub collect-done : k ≡ 0 → Stored out to (2 ∷ two (now (f .exit))) out′ r
         → Did spare (was book) pool (listed (collect t)) out to (is book) pool out′ r
-    unfolding replyTo nextAfter ours oursCollected
+    unfolding replyTo nextAfter ours stepOf
     collect-done z s =
         let g =
         go (collectBytes (was book) t) (collect-proper (was book) t) (e .number) (e .book) (e .answer)
@@ -77,7 +78,7 @@ module _ (spare : ℕ) (book : Lent (List ℕ)) (pool out : List ℕ) (to : ℕ)
       where
         go : (o : Outcome CollectedBytes) → Proper o → k ≡ numberOf o → is book ≡ after (λ d. d .book) o (was book)
             → now (f .exit) ≡ after (λ d. d .freed) o (now (f .entry))
-            → By (oursCollected (at (was book) pool) o) out to (is book) pool out′ r
+            → By (stepOf (at (was book) pool) (andThen o (collectedTo (at (was book) pool)))) out to (is book) pool out′ r
         go (refused j) p n m a = absurd (not-refused j p (sym n ∙ z))
         go (accepted d) p n m a = (ap (λ (x : List ℕ). at x pool) m, rw a at s)
 
@@ -129,7 +130,7 @@ module _ (book pool room : Lent (List ℕ)) (v t : ℕ) (list : Lent (List ℕ))
     (e : BackedUp book pool room v t list n taken touched k) (out : List ℕ) (to : ℕ) {out′ : List ℕ} {r : ℕ} where
   pub backup-refused : (k ≡ 0 → ⊥) → Stored out to (0 ∷ two k) out′ r
       → Did (length (was room)) (was book) (was pool) (listed (backup v t (was list))) out to (is book) (is pool) out′ r
-  unfolding replyTo nextAfter ours oursBacked
+  unfolding replyTo nextAfter ours stepOf
   backup-refused h s =
       let g =
       go (backupBytes (was book) (was pool) (length (was room)) v t (was list)) (e .refusal) (e .book) (e .stored)
@@ -137,14 +138,14 @@ module _ (book pool room : Lent (List ℕ)) (v t : ℕ) (list : Lent (List ℕ))
     where
       go : (o : Outcome BackedBytes) → k ≡ numberOf o → is book ≡ after (λ d. d .book) o (was book)
           → is pool ≡ after (λ d. d .pool) o (was pool)
-          → By (oursBacked (at (was book) (was pool)) o) out to (is book) (is pool) out′ r
+          → By (stepOf (at (was book) (was pool)) (andThen o backedTo)) out to (is book) (is pool) out′ r
       go (refused j) n m q = (ap₂ at m q, rw n at s)
       go (accepted d) n m q = absurd (h n)
 
   pub backup-done : k ≡ 0
       → Stored out to (1 ∷ two (now (n .exit)) ++ (two (now (taken .exit)) ++ two (now (touched .exit)))) out′ r
       → Did (length (was room)) (was book) (was pool) (listed (backup v t (was list))) out to (is book) (is pool) out′ r
-  unfolding replyTo nextAfter ours oursBacked
+  unfolding replyTo nextAfter ours stepOf
   backup-done z s =
       let g =
       go (backupBytes (was book) (was pool) (length (was room)) v t (was list))
@@ -156,6 +157,6 @@ module _ (book pool room : Lent (List ℕ)) (v t : ℕ) (list : Lent (List ℕ))
           → now (n .exit) ≡ after (λ d. d .number) o (now (n .entry))
           → now (taken .exit) ≡ after (λ d. d .taken) o (now (taken .entry))
           → now (touched .exit) ≡ after (λ d. d .touched) o (now (touched .entry))
-          → By (oursBacked (at (was book) (was pool)) o) out to (is book) (is pool) out′ r
+          → By (stepOf (at (was book) (was pool)) (andThen o backedTo)) out to (is book) (is pool) out′ r
       go (refused j) p n m q x y w = absurd (not-refused j p (sym n ∙ z))
       go (accepted d) p n m q x y w = (ap₂ at m q, rw (x, y, w) at s)

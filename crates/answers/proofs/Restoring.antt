@@ -17,7 +17,8 @@ use Rattle.model.specs.Written.{Written}
 use Rattle.calls.specs.Asked.{restore, answer, run, restoreReply, replyTo, nextAfter}
 use Rattle.calls.specs.Contracts.{at}
 use Rattle.calls.specs.Doing.{Did}
-use Rattle.calls.proofs.Proper.{Proper, not-refused, restore-proper}
+use Rattle.claims.proofs.form.Proper.{Proper, not-refused}
+use Rattle.calls.proofs.Proper.{restore-proper}
 use Rattle.answers.proofs.Blocks.{restore-whole}
 
 module _ (spare : ℕ) (b pool : List ℕ) (v k first many : ℕ) (part part′ : List ℕ) (n : ℕ) (size : length part ≡ many * blockSize)

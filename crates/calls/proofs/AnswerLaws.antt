@@ -1,7 +1,7 @@
 -- Laws of specs/Answers.antt.
 -- Answers in bytes, read back: by the tag, numbers or blocks.
 use Prim.Native.Nat.{ℕ, zero, suc, _+_, _*_}
-use mathlib.Core.Bool.{Bool, true}
+use mathlib.Core.Bool.{Bool, true, _||_}
 use mathlib.Core.List.{List, [], _∷_}
 use lib.Dec.{eqb}
 use lib.ListN.{length, getD, drop}
@@ -9,7 +9,7 @@ use Rattle.words.specs.Blocks.{blockSize}
 use Rattle.words.specs.Choice.{if_then_else_}
 use Rattle.words.specs.Numbers.{num}
 use Rattle.words.specs.Sections.{part}
-use Rattle.model.specs.Calls.{Answer, number, backed, freed, block, sound}
+use Rattle.model.specs.Calls.{Answer, number, gave, backed, freed, block, sound}
 use Rattle.calls.specs.Asked.{Reply, answer, run}
 
 abbrev pub answerIn : List ℕ → Answer
@@ -35,11 +35,10 @@ abbrev pub repliesIn : ℕ → List ℕ → List Reply
 repliesIn zero b = []
 repliesIn (suc n) b = replyIn b ∷ repliesIn n (drop (replySize b) b)
 
--- blocks that are an answer are whole
+-- blocks that are an answer are whole, and numbers come one or three at a time
 abbrev pub isWhole : Answer → Bool
 isWhole (number k) = true
-isWhole (backed k taken touched) = true
-isWhole (freed k) = true
+isWhole (gave ns) = eqb (length ns) 1 || eqb (length ns) 3
 isWhole (block b) = eqb (length b) blockSize
 isWhole (sound t) = true
 

@@ -1,55 +1,92 @@
--- Answers in bytes are read back, where blocks are whole; so no two lists of as many answers have the same bytes.
+-- Answers in bytes are read back, where blocks are whole and numbers come one or three at a time; so no two lists of as many answers have
+-- the same bytes.
 use Prim.Native.Nat.{ℕ, _+_, _*_}
 use mathlib.Core.Path.{_≡_, refl, sym, ap, ap₂, _∙_}
-use mathlib.Core.Bool.{true, false}
+use mathlib.Core.Bool.{Bool, true, false}
 use mathlib.Core.List.{List, [], _∷_, _++_}
+use mathlib.Core.Logic.{⊎-elim}
 use native.Mathlib.Omega.{arith}
-use lib.ListN.{length, drop}
+use lib.Dec.{eqb}
+use lib.ListN.{length, getD, drop}
 use lib.Seq.{take-at, drop-at}
 use borrow.Author.Tests.{eqb-true}
-use Rattle.words.proofs.ChoiceLaws.{and-true}
+use Rattle.words.proofs.ChoiceLaws.{and-true, or-cases}
 use Rattle.words.specs.Blocks.{blockSize}
+use Rattle.words.specs.Choice.{if_then_else_}
 use Rattle.words.specs.Lists.{all}
 use Rattle.words.proofs.NumberLaws.{two-back}
 use Rattle.words.specs.Numbers.{two}
 use Rattle.words.specs.Sections.{flat}
-use Rattle.model.specs.Calls.{Answer, number, backed, freed, block, sound}
+use Rattle.model.specs.Calls.{Answer, number, gave, block, sound}
 use Rattle.calls.specs.Asked.{Reply, answer, run}
 use Rattle.calls.specs.Answers.{answerBytes, replyBytes}
 use Rattle.calls.proofs.AnswerLaws.{answerIn, answerSize, isWhole, replyIn, replySize, repliesIn, wholeReply}
 
+-- ---- numbers, by how many they are
+
+data OneOrThree : List ℕ → Type 0 where
+  one : (k : ℕ) → OneOrThree (k ∷ [])
+  three : (k a b : ℕ) → OneOrThree (k ∷ a ∷ b ∷ [])
+
+one-or-three : (ns : List ℕ) → isWhole (gave ns) ≡ true → OneOrThree ns
+one-or-three ns h = ⊎-elim (λ e. first ns (eqb-true (length ns) 1 e)) (λ e. third ns (eqb-true (length ns) 3 e)) (or-cases _ _ h)
+  where
+    first : (ms : List ℕ) → length ms ≡ 1 → OneOrThree ms
+    first [] e = absurd (omega arith)
+    first (k ∷ []) e = one k
+    first (k ∷ a ∷ ms) e = absurd (omega arith)
+
+    third : (ms : List ℕ) → length ms ≡ 3 → OneOrThree ms
+    third [] e = absurd (omega arith)
+    third (k ∷ []) e = absurd (omega arith)
+    third (k ∷ a ∷ []) e = absurd (omega arith)
+    third (k ∷ a ∷ b ∷ []) e = three k a b
+    third (k ∷ a ∷ b ∷ c ∷ ms) e = absurd (omega arith)
+
+numbers-back : (ns : List ℕ) (rest : List ℕ) → OneOrThree ns → answerIn (answerBytes (gave ns) ++ rest) ≡ gave ns
+numbers-back ns rest (one k) = ap (λ (j : ℕ). gave (j ∷ [])) (two-back k)
+numbers-back ns rest (three k a b) = rw (two-back k, two-back a, two-back b)
+
+numbers-size : (ns : List ℕ) (rest : List ℕ) → OneOrThree ns
+    → drop (answerSize (answerBytes (gave ns) ++ rest)) (answerBytes (gave ns) ++ rest) ≡ rest
+numbers-size ns rest (one k) = refl
+numbers-size ns rest (three k a b) = refl
+
+-- ---- an answer
+
 answer-back : (a : Answer) (rest : List ℕ) → isWhole a ≡ true → answerIn (answerBytes a ++ rest) ≡ a
 answer-back (number k) rest h = ap number (two-back k)
-answer-back (backed k taken touched) rest h = rw (two-back k, two-back taken, two-back touched)
-answer-back (freed k) rest h = ap freed (two-back k)
+answer-back (gave ns) rest h = numbers-back ns rest (one-or-three ns h)
 answer-back (block b) rest h = ap block (take-at b rest 512 (eqb-true (length b) 512 h))
 answer-back (sound true) rest h = refl
 answer-back (sound false) rest h = refl
 
 size-back : (a : Answer) (rest : List ℕ) → isWhole a ≡ true → drop (answerSize (answerBytes a ++ rest)) (answerBytes a ++ rest) ≡ rest
 size-back (number k) rest h = refl
-size-back (backed k taken touched) rest h = refl
-size-back (freed k) rest h = refl
+size-back (gave ns) rest h = numbers-size ns rest (one-or-three ns h)
 size-back (block b) rest h = drop-at b rest 512 (eqb-true (length b) 512 h)
 size-back (sound t) rest h = refl
 
 -- ---- a restore's too
 
+-- no answer has a restore's tag
+not-run : (a : Answer) (rest : List ℕ) → eqb (getD (answerBytes a ++ rest) 0 0) 5 ≡ false
+not-run (number k) rest = refl
+not-run (gave ns) rest = go (eqb (length ns) 3)
+  where
+    go : (t : Bool) → eqb (if t then 1 else 2) 5 ≡ false
+    go true = refl
+    go false = refl
+not-run (block b) rest = refl
+not-run (sound t) rest = refl
+
 reply-back : (r : Reply) (rest : List ℕ) → wholeReply r ≡ true → replyIn (replyBytes r ++ rest) ≡ r
-reply-back (answer (number k)) rest h = ap answer (answer-back (number k) rest h)
-reply-back (answer (backed k taken touched)) rest h = ap answer (answer-back (backed k taken touched) rest h)
-reply-back (answer (freed k)) rest h = ap answer (answer-back (freed k) rest h)
-reply-back (answer (block b)) rest h = ap answer (answer-back (block b) rest h)
-reply-back (answer (sound t)) rest h = ap answer (answer-back (sound t) rest h)
+reply-back (answer a) rest h = rw (not-run a rest) (ap answer (answer-back a rest h))
 reply-back (run many blocks) rest h =
     rw (two-back many) (ap (run many) (take-at blocks rest (many * blockSize) (eqb-true (length blocks) (many * blockSize) h)))
 
 reply-size : (r : Reply) (rest : List ℕ) → wholeReply r ≡ true → drop (replySize (replyBytes r ++ rest)) (replyBytes r ++ rest) ≡ rest
-reply-size (answer (number k)) rest h = size-back (number k) rest h
-reply-size (answer (backed k taken touched)) rest h = size-back (backed k taken touched) rest h
-reply-size (answer (freed k)) rest h = size-back (freed k) rest h
-reply-size (answer (block b)) rest h = size-back (block b) rest h
-reply-size (answer (sound t)) rest h = size-back (sound t) rest h
+reply-size (answer a) rest h = rw (not-run a rest) (size-back a rest h)
 reply-size (run many blocks) rest h =
     rw (two-back many) (drop-at (5 ∷ two many ++ blocks) rest (3 + many * blockSize)
     (let long = eqb-true (length blocks) (many * blockSize) h in omega arith))

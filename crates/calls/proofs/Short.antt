@@ -8,13 +8,13 @@ use lib.Dec.{eqb}
 use lib.ListN.{length, getD, take, drop, length-append}
 use borrow.Author.Tests.{eqb-true}
 use Rattle.words.specs.Blocks.{blockSize}
-use Rattle.words.specs.Numbers.{num}
+use Rattle.words.specs.Numbers.{two, num}
 use Rattle.words.specs.Outcome.{Outcome, refused, accepted, andThen, unless}
-use Rattle.words.specs.Sections.{part}
+use Rattle.words.specs.Sections.{flat, part}
 use Rattle.book.specs.Form.{formNumber}
 use Rattle.book.specs.Layout.{bookOf}
 use Rattle.model.specs.Calls.{Call, enrol, backup, collect, read, audit}
-use Rattle.model.specs.OnBytes.{BackedBytes, CollectedBytes, poolNumber, enrolBytes, backupBytes, collectBytes, readBytes, auditBytes}
+use Rattle.model.specs.OnBytes.{poolNumber, enrolBytes, backupBytes, collectBytes, readBytes, auditBytes}
 use Rattle.model.specs.OnBytes.{restoreBytes}
 use Rattle.model.specs.Read
 use Rattle.model.specs.Read.{image, readNumber}
@@ -22,7 +22,7 @@ use Rattle.model.specs.Kept.{keptNumber}
 use Rattle.model.specs.Restore
 use Rattle.model.specs.Restore.{runNumber, readsFrom}
 use Rattle.model.specs.Pool.{blockAt}
-use Rattle.model.specs.Sides.{Ours, ours, oursEnrolled, oursBacked, oursCollected, readAnswer, auditAnswer}
+use Rattle.model.specs.Sides.{Changed, answerOf, stepOf, readAnswer, auditAnswer, Ours, ours}
 use Rattle.calls.specs.Asked.{Asked, listed, restore, restoreReply, replyTo, nextAfter}
 use Rattle.calls.specs.Coding.{dataSize, callOf, callAt}
 use Rattle.calls.specs.Answers.{answerBytes, replyBytes, longest, longestReply, longestOf, mostOf}
@@ -33,23 +33,29 @@ take-most zero l = omega arith
 take-most (suc n) [] = omega arith
 take-most (suc n) (x ∷ l) = suc-le-suc (take-most n l)
 
+-- ---- a call that changes something, by how many numbers it answers at most
+
+numbers-long : (ns : List ℕ) → length (flat two ns) ≡ length ns * 2
+numbers-long [] = refl
+numbers-long (k ∷ ks) = let ih = numbers-long ks in omega arith
+
+changed-short : {A : Type 0} (o : Ours) (x : Outcome A) (to : A → Changed Ours) (most : ℕ) → 1 ≤ most
+    → ((a : A) → length (to a .answers) ≤ most)
+    → length (answerBytes (stepOf o (andThen x (λ a. accepted (to a))) .answer)) ≤ 1 + most * 2
+unfolding stepOf
+changed-short o (refused k) to most h few = omega arith
+changed-short o (accepted a) to most h few = go (to a .answers) (few a)
+  where
+    go : (ns : List ℕ) → length ns ≤ most → length (answerBytes (answerOf ns)) ≤ 1 + most * 2
+    go [] i = omega arith
+    go (k ∷ ks) i = omega (arith, numbers-long (k ∷ ks))
+
 answer-short : (spare : ℕ) (o : Ours) (c : Call) → length (answerBytes (ours spare o c .answer)) ≤ longest c
-unfolding ours oursEnrolled oursBacked oursCollected readAnswer auditAnswer readBytes Read.read
-answer-short spare o (enrol v r) = go (enrolBytes (o .book) v r)
-  where
-    go : (x : Outcome (List ℕ)) → length (answerBytes (oursEnrolled o x .answer)) ≤ 3
-    go (refused k) = omega arith
-    go (accepted d) = omega arith
-answer-short spare o (backup v t list) = go (backupBytes (o .book) (o .pool) spare v t list)
-  where
-    go : (x : Outcome BackedBytes) → length (answerBytes (oursBacked o x .answer)) ≤ 7
-    go (refused k) = omega arith
-    go (accepted d) = omega arith
-answer-short spare o (collect t) = go (collectBytes (o .book) t)
-  where
-    go : (x : Outcome CollectedBytes) → length (answerBytes (oursCollected o x .answer)) ≤ 3
-    go (refused k) = omega arith
-    go (accepted d) = omega arith
+unfolding ours readAnswer auditAnswer readBytes Read.read
+answer-short spare o (enrol v r) = changed-short o (enrolBytes (o .book) v r) _ 1 (omega arith) (λ b. omega arith)
+answer-short spare o (backup v t list) =
+    changed-short o (backupBytes (o .book) (o .pool) spare v t list) _ 3 (omega arith) (λ d. omega arith)
+answer-short spare o (collect t) = changed-short o (collectBytes (o .book) t) _ 1 (omega arith) (λ d. omega arith)
 answer-short spare o (read v k lbn) = go (formNumber (o .book)) (poolNumber (o .book) (o .pool)) (readNumber (bookOf (o .book)) v k lbn)
   where
     found : List ℕ

@@ -2,18 +2,23 @@
 use Prim.Native.Nat.{ℕ, _+_, _*_}
 use mathlib.Core.List.{List, _∷_, _++_, map}
 use lib.Dec.{eqb}
+use lib.ListN.{length}
 use Rattle.words.specs.Blocks.{blockSize}
 use Rattle.words.specs.Choice.{if_then_else_}
 use Rattle.words.specs.Lists.{sum}
 use Rattle.words.specs.Numbers.{two}
-use Rattle.model.specs.Calls.{Call, enrol, backup, collect, read, audit, Answer, number, backed, freed, block, sound}
+use Rattle.words.specs.Sections.{flat}
+use Rattle.model.specs.Calls.{Call, enrol, backup, collect, read, audit, Answer, number, gave, block, sound}
 use Rattle.calls.specs.Asked.{Asked, listed, restore, Reply, answer, run}
+
+-- three numbers are a backup's, and any other call answers one
+abbrev pub gaveTag : ℕ → ℕ
+gaveTag many = if eqb many 3 then 1 else 2
 
 -- "tag byte 0 number, 1 backed, 2 freed, 3 block, 4 sound, then the numbers as u16 or the 512 bytes"
 abbrev pub answerBytes : Answer → List ℕ
 answerBytes (number k) = 0 ∷ two k
-answerBytes (backed k taken touched) = 1 ∷ two k ++ (two taken ++ two touched)
-answerBytes (freed k) = 2 ∷ two k
+answerBytes (gave ns) = gaveTag (length ns) ∷ flat two ns
 answerBytes (block b) = 3 ∷ b
 answerBytes (sound t) = 4 ∷ two (if t then 1 else 0)
 

@@ -57,8 +57,7 @@ unfolding
     PlainBackup.takeBlock
     PlainBackup.placeFree PlainBackup.placeHeld PlainBackup.place PlainBackup.moved
     PlainBackup.changeStep PlainBackup.begun PlainBackup.withImage PlainBackup.closed PlainBackup.backup
-    Sides.readAnswer Sides.auditAnswer Sides.oursEnrolled Sides.oursBacked Sides.oursCollected Sides.ours
-    Sides.plainEnrolled Sides.plainBacked Sides.plainCollected Sides.plain Sides.oursShown Sides.plainShown
+    Sides.stepOf Sides.readAnswer Sides.auditAnswer Sides.ours Sides.plain Sides.oursShown Sides.plainShown
     History.noHistory History.withEnrol History.withSent History.historyOf History.dayOf History.sentBlock History.historyNumber
     History.historyRead History.historyRunNumber History.historyRestore
     Claims.changesName

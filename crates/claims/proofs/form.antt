@@ -1,5 +1,6 @@
 -- Form: every accepted call leaves a book in form (well-formed), the calls on bytes are the calls on the book, and in a book in form images
 -- name blocks of the pool.
+pub mod Proper
 pub mod Bounds
 pub mod BackupAllowed
 pub mod FitParts

@@ -7,6 +7,7 @@ pub mod PlainMarks
 pub mod PlainRecalls
 pub mod PlainRecallsBackup
 pub mod PlainRecallsOthers
+pub mod PlainProper
 pub mod PlainHistory
 pub mod PlainReads
 pub mod HistoryRestores

@@ -22,7 +22,7 @@ use Rattle.model.specs.Read.{image}
 use Rattle.model.specs.Audit.{applied, replayed, noMaps, untilIn}
 use Rattle.model.specs.OnBytes.{formatBytes, restoreBytes}
 use Rattle.model.specs.Plain.{Plain, start, volumeAt, current, marked}
-use Rattle.model.specs.Calls.{Call, backup, collect, read, audit, Answer, number, backed, freed, block, sound, isBacked}
+use Rattle.model.specs.Calls.{Call, backup, collect, read, audit, Answer, number, gave, backed, freed, block, sound, isAccepted}
 use Rattle.model.specs.Sides.{answersOf, endOf, Ours, ours, plain, oursShown, plainShown}
 use Rattle.model.specs.History.{historyOf, dayOf, historyRead, historyRestore}
 
@@ -78,7 +78,7 @@ isOldOrNew q after v p lbn = eqb p (currentCell q v lbn) || eqb p (currentCell a
 
 unfoldable pub changesName : Plain → ℕ → ℕ → List ℕ → ℕ → Bool
 changesName q v t list p =
-    isBacked (plain q (backup v t list) .answer) && someOf (isOldOrNew q (plain q (backup v t list) .next) v p) (lbns list)
+    isAccepted (plain q (backup v t list) .answer) && someOf (isOldOrNew q (plain q (backup v t list) .next) v p) (lbns list)
 
 -- ---- the claim about a list ("Demand 3 is a single claim about the whole list")
 
@@ -118,8 +118,7 @@ isDamage k = someOf (eqb k) (1 ∷ 2 ∷ 3 ∷ 4 ∷ 13 ∷ 14 ∷ [])
 
 abbrev pub saysDamage : Answer → Bool
 saysDamage (number k) = isDamage k
-saysDamage (backed k a b) = false
-saysDamage (freed k) = false
+saysDamage (gave ns) = false
 saysDamage (block b) = false
 saysDamage (sound b) = false
 

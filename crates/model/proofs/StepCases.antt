@@ -21,7 +21,7 @@ use Rattle.model.specs.Backup
 use Rattle.model.specs.Backup.{Work, Placed, findHeld, findFree, place, lowered, runChanges, begun}
 use Rattle.model.specs.OnBytes.{numberOf, after, poolNumber, spareNumber, backupBytes}
 use Rattle.model.specs.Calls.{backup, number}
-use Rattle.model.specs.Sides.{Ours, oursBacked, ours}
+use Rattle.model.specs.Sides.{Ours, stepOf, ours}
 use Rattle.model.proofs.CaseBlocks.{print, block, hold}
 
 abbrev change : ℕ → ℕ → Change
@@ -129,7 +129,7 @@ pub record Refused : Type 0 where
 
 pub refused-tried : Refused
 unfolding
-    box sent ours oursBacked backupBytes poolNumber spareNumber noPrint freeEntry noSlot noRec entrySize bytes bookOf
+    box sent ours stepOf backupBytes poolNumber spareNumber noPrint freeEntry noSlot noRec entrySize bytes bookOf
     between sizesAs layoutAs retentionOk entryOk pbnOk recOk slotOk laterOk bookOk stateOk secondOk rawOk formAs
     withCursor withEntries withMaps withRecord countAs expiryAs heldAs
     Changes.pairCount Changes.pairAt Changes.pairs Changes.changeCount Changes.lbns Changes.printsFrom Changes.blocksFrom

@@ -1,7 +1,7 @@
 -- Calls and their answers, as lists of calls have them (document 01, "Lists hold enrol, backup, collect, read and audit").
 use Prim.Native.Nat.{ℕ}
-use mathlib.Core.Bool.{Bool, true, false}
-use mathlib.Core.List.{List}
+use mathlib.Core.Bool.{Bool, true}
+use mathlib.Core.List.{List, [], _∷_}
 use lib.Dec.{eqb}
 
 pub data Call : Type 0 where
@@ -14,30 +14,21 @@ pub data Call : Type 0 where
 -- "the number of a refusal; an enrol's 0; a backup's number, taken and touched; a collect's freed; a read's bytes or its number; an
 -- audit's yes or no"
 pub data Answer : Type 0 where
-  number : ℕ → Answer
-  backed : ℕ → ℕ → ℕ → Answer
-  freed : ℕ → Answer
+  number : ℕ → Answer  -- of a refusal; 0 of an accepted call that answers nothing else
+  gave : List ℕ → Answer  -- the numbers that an accepted call answers
   block : List ℕ → Answer
   sound : Bool → Answer
 
--- the answer of an accepted enrol, backup, collect
-abbrev pub isZero : Answer → Bool
-isZero (number k) = eqb k 0
-isZero (backed k a b) = false
-isZero (freed k) = false
-isZero (block b) = false
-isZero (sound b) = false
+-- "a backup's number, taken and touched"
+abbrev pub backed : ℕ → ℕ → ℕ → Answer
+backed k taken touched = gave (k ∷ taken ∷ touched ∷ [])
 
-abbrev pub isBacked : Answer → Bool
-isBacked (number k) = false
-isBacked (backed k a b) = true
-isBacked (freed k) = false
-isBacked (block b) = false
-isBacked (sound b) = false
+-- "a collect's freed"
+abbrev pub freed : ℕ → Answer
+freed k = gave (k ∷ [])
 
-abbrev pub isFreed : Answer → Bool
-isFreed (number k) = false
-isFreed (backed k a b) = false
-isFreed (freed k) = true
-isFreed (block b) = false
-isFreed (sound b) = false
+abbrev pub isAccepted : Answer → Bool
+isAccepted (number k) = eqb k 0
+isAccepted (gave ns) = true
+isAccepted (block b) = true
+isAccepted (sound b) = true

@@ -12,7 +12,7 @@ use Rattle.words.specs.Outcome.{Outcome, accepted, unless}
 use Rattle.words.specs.Sections.{flat}
 use Rattle.runs.specs.Changes.{Change, changes}
 use Rattle.model.specs.Days.{kept}
-use Rattle.model.specs.Calls.{Call, enrol, backup, collect, read, audit, Answer, isZero, isBacked, isFreed}
+use Rattle.model.specs.Calls.{Call, enrol, backup, collect, read, audit, Answer, isAccepted}
 use Rattle.model.specs.Sides.{readAnswer}
 
 -- an accepted backup as it was sent
@@ -37,8 +37,8 @@ unfoldable pub withSent : Sent → History → History
 withSent s h = record { retention = h .retention; sent = h .sent ++ (s ∷ []) }
 
 abbrev pub noted : ℕ → History → Call → Answer → History
-noted v h (enrol u r) a = if eqb u v && isZero a then withEnrol r h else h
-noted v h (backup u t list) a = if eqb u v && isBacked a then withSent (record { day = t; changes = changes list }) h else h
+noted v h (enrol u r) a = if eqb u v && isAccepted a then withEnrol r h else h
+noted v h (backup u t list) a = if eqb u v && isAccepted a then withSent (record { day = t; changes = changes list }) h else h
 noted v h (collect t) a = h
 noted v h (read u k lbn) a = h
 noted v h audit a = h
@@ -55,8 +55,8 @@ historyOf v cs answers = historyFrom v noHistory cs answers
 -- the header's day: the T of the last accepted backup or collect
 abbrev pub dayNoted : ℕ → Call → Answer → ℕ
 dayNoted d (enrol u r) a = d
-dayNoted d (backup u t list) a = if isBacked a then t else d
-dayNoted d (collect t) a = if isFreed a then t else d
+dayNoted d (backup u t list) a = if isAccepted a then t else d
+dayNoted d (collect t) a = if isAccepted a then t else d
 dayNoted d (read u k lbn) a = d
 dayNoted d audit a = d
 

@@ -5,7 +5,7 @@ use mathlib.Core.List.{List, [], _∷_}
 use lib.ListN.{take, drop}
 use Rattle.words.specs.Blocks.{blockSize}
 use Rattle.words.specs.Choice.{if_then_else_}
-use Rattle.words.specs.Outcome.{Outcome, refused, accepted}
+use Rattle.words.specs.Outcome.{Outcome, refused, accepted, andThen}
 use Rattle.book.specs.Book.{Entry}
 use Rattle.book.specs.Layout.{bookOf}
 use Rattle.model.specs.OnBytes.{BackedBytes, CollectedBytes, enrolBytes, backupBytes, collectBytes, readBytes, auditBytes}
@@ -13,7 +13,7 @@ use Rattle.model.specs.Plain
 use Rattle.model.specs.Plain.{Block, free, held, Plain, currentMaps, PlainCollected}
 use Rattle.model.specs.PlainBackup
 use Rattle.model.specs.PlainBackup.{PlainBacked}
-use Rattle.model.specs.Calls.{Call, enrol, backup, collect, read, audit, Answer, number, backed, freed, block, sound}
+use Rattle.model.specs.Calls.{Call, enrol, backup, collect, read, audit, Answer, number, gave, block, sound}
 
 -- what a call answers and where it leaves a side
 pub record Step (S : Type 0) : Type 0 where
@@ -30,6 +30,25 @@ module _ {S : Type 0} (step : S → Call → Step S) where
   endOf s [] = s
   endOf s (c ∷ cs) = endOf (step s c .next) cs
 
+-- what an accepted call makes of a side, and the numbers that it answers
+pub record Changed (S : Type 0) : Type 0 where
+  pub next : S
+  pub answers : List ℕ
+
+-- "an enrol's 0": so is an accepted call answered that has no number to answer
+abbrev pub answerOf : List ℕ → Answer
+answerOf [] = number 0
+answerOf (k ∷ ks) = gave (k ∷ ks)
+
+module _ {S : Type 0} where
+  abbrev pub became : S → List ℕ → Outcome (Changed S)
+  became s answers = accepted (record { next = s; answers = answers })
+
+  -- "A refusal gives its number only", and changes nothing
+  unfoldable pub stepOf : S → Outcome (Changed S) → Step S
+  stepOf s (refused k) = record { answer = number k; next = s }
+  stepOf s (accepted d) = record { answer = answerOf (d .answers); next = d .next }
+
 -- the answer of a read and of an audit
 unfoldable pub readAnswer : Outcome (List ℕ) → Answer
 readAnswer (refused k) = number k
@@ -45,44 +64,42 @@ pub record Ours : Type 0 where
   pub book : List ℕ
   pub pool : List ℕ
 
-unfoldable pub oursEnrolled : Ours → Outcome (List ℕ) → Step Ours
-oursEnrolled o (refused k) = record { answer = number k; next = o }
-oursEnrolled o (accepted b) = record { answer = number 0; next = record { book = b; pool = o .pool } }
+-- a call on the book alone leaves the pool
+abbrev pub withBook : List ℕ → Ours → Ours
+withBook b o = record { book = b; pool = o .pool }
 
-unfoldable pub oursBacked : Ours → Outcome BackedBytes → Step Ours
-oursBacked o (refused k) = record { answer = number k; next = o }
-oursBacked o (accepted d) = record { answer = backed (d .number) (d .taken) (d .touched); next = record { book = d .book; pool = d .pool } }
+abbrev pub enrolledTo : Ours → List ℕ → Outcome (Changed Ours)
+enrolledTo o b = became (withBook b o) []
 
-unfoldable pub oursCollected : Ours → Outcome CollectedBytes → Step Ours
-oursCollected o (refused k) = record { answer = number k; next = o }
-oursCollected o (accepted d) = record { answer = freed (d .freed); next = record { book = d .book; pool = o .pool } }
+abbrev pub backedTo : BackedBytes → Outcome (Changed Ours)
+backedTo d = became (record { book = d .book; pool = d .pool }) (d .number ∷ d .taken ∷ d .touched ∷ [])
+
+abbrev pub collectedTo : Ours → CollectedBytes → Outcome (Changed Ours)
+collectedTo o d = became (withBook (d .book) o) (d .freed ∷ [])
 
 -- spare is the spare's length
 unfoldable pub ours : ℕ → Ours → Call → Step Ours
-ours spare o (enrol v r) = oursEnrolled o (enrolBytes (o .book) v r)
-ours spare o (backup v t list) = oursBacked o (backupBytes (o .book) (o .pool) spare v t list)
-ours spare o (collect t) = oursCollected o (collectBytes (o .book) t)
+ours spare o (enrol v r) = stepOf o (andThen (enrolBytes (o .book) v r) (enrolledTo o))
+ours spare o (backup v t list) = stepOf o (andThen (backupBytes (o .book) (o .pool) spare v t list) backedTo)
+ours spare o (collect t) = stepOf o (andThen (collectBytes (o .book) t) (collectedTo o))
 ours spare o (read v k lbn) = record { answer = readAnswer (readBytes (o .book) (o .pool) v k lbn); next = o }
 ours spare o audit = record { answer = auditAnswer (auditBytes (o .book)); next = o }
 
 -- ---- the plain store: "A refused call changes nothing in it, and neither does read or audit"; "its audit says yes"
 
-unfoldable pub plainEnrolled : Plain → Outcome Plain → Step Plain
-plainEnrolled q (refused k) = record { answer = number k; next = q }
-plainEnrolled q (accepted q′) = record { answer = number 0; next = q′ }
+abbrev pub storeEnrolled : Plain → Outcome (Changed Plain)
+storeEnrolled q = became q []
 
-unfoldable pub plainBacked : Plain → Outcome PlainBacked → Step Plain
-plainBacked q (refused k) = record { answer = number k; next = q }
-plainBacked q (accepted d) = record { answer = backed (d .number) (d .taken) (d .touched); next = d .store }
+abbrev pub storeBacked : PlainBacked → Outcome (Changed Plain)
+storeBacked d = became (d .store) (d .number ∷ d .taken ∷ d .touched ∷ [])
 
-unfoldable pub plainCollected : Plain → Outcome PlainCollected → Step Plain
-plainCollected q (refused k) = record { answer = number k; next = q }
-plainCollected q (accepted d) = record { answer = freed (d .freed); next = d .store }
+abbrev pub storeCollected : PlainCollected → Outcome (Changed Plain)
+storeCollected d = became (d .store) (d .freed ∷ [])
 
 unfoldable pub plain : Plain → Call → Step Plain
-plain q (enrol v r) = plainEnrolled q (Plain.enrol q v r)
-plain q (backup v t list) = plainBacked q (PlainBackup.backup q v t list)
-plain q (collect t) = plainCollected q (Plain.collect q t)
+plain q (enrol v r) = stepOf q (andThen (Plain.enrol q v r) storeEnrolled)
+plain q (backup v t list) = stepOf q (andThen (PlainBackup.backup q v t list) storeBacked)
+plain q (collect t) = stepOf q (andThen (Plain.collect q t) storeCollected)
 plain q (read v k lbn) = record { answer = readAnswer (Plain.read q v k lbn); next = q }
 plain q audit = record { answer = sound true; next = q }
 

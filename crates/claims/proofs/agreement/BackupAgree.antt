@@ -14,8 +14,8 @@ use Rattle.model.specs.Backup.{Work, Backed, untilNext, begun, closed, runChang
 use Rattle.model.specs.Plain.{Plain}
 use Rattle.model.specs.PlainBackup
 use Rattle.model.specs.PlainBackup.{PlainWork, PlainBacked}
-use Rattle.model.specs.Calls.{isBacked}
-use Rattle.model.specs.Sides.{plain, plainBacked}
+use Rattle.model.specs.Calls.{isAccepted}
+use Rattle.model.specs.Sides.{stepOf, storeBacked, plain}
 use Rattle.claims.specs.Claims.{isOldOrNew, changesName, isDamage}
 use Rattle.claims.proofs.agreement.Agree.{Fit, Agree}
 use Rattle.claims.proofs.agreement.AgreeLaws.{volume-inside, backups-agree}
@@ -88,11 +88,12 @@ module _ {x : Book} {pool : List ℕ} {q : Plain} (g : Agree x pool q) (v t : �
   -- "a refused backup's name none"; an accepted one leaves every entry that its changes don't name
   pub backup-touching : (d : Backed) → backup x pool v t list ≡ accepted d → (p : ℕ) → p < x .sizes .n → changesName q v t list p ≡ false
       → entryAt (d .book .entries) p ≡ entryAt (x .entries) p
-  unfolding changesName plain plainBacked
+  unfolding changesName plain stepOf
   backup-touching d e p h n = go (backup x pool v t list) (PlainBackup.backup q v t list) backup-agree e n
     where
       go : (o : Outcome Backed) (o′ : Outcome PlainBacked) → BothBacked x q v list o o′ → o ≡ accepted d
-          → (isBacked (plainBacked q o′ .answer) && someOf (isOldOrNew q (plainBacked q o′ .next) v p) (lbns list)) ≡ false
+          → (isAccepted (stepOf q (andThen o′ storeBacked) .answer)
+          && someOf (isOldOrNew q (stepOf q (andThen o′ storeBacked) .next) v p) (lbns list)) ≡ false
           → entryAt (d .book .entries) p ≡ entryAt (x .entries) p
       go o o′ (stopped k z) f m = absurd (refused-not k d f)
       go o o′ (backed d′ e′ a) f m =

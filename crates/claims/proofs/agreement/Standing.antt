@@ -9,7 +9,7 @@ use lib.ListN.{length}
 use Rattle.words.specs.Blocks.{unmapped}
 use Rattle.words.specs.Choice.{if_then_else_}
 use Rattle.words.specs.Lists.{all}
-use Rattle.words.specs.Outcome.{Outcome, accepted, andThen, unless}
+use Rattle.words.specs.Outcome.{Outcome, refused, accepted, andThen, unless}
 use Rattle.book.specs.Book.{Sizes, Book, retentionOf}
 use Rattle.book.proofs.Bytes.{length-bytes}
 use Rattle.book.specs.Form.{enrolled, formNumber}
@@ -21,10 +21,9 @@ use Rattle.claims.proofs.agreement.Agree.{Fit, Agree}
 use Rattle.claims.proofs.agreement.AuditAgree.{audit-agree}
 use Rattle.model.specs.Backup.{Backed}
 use Rattle.model.specs.Backup
-use Rattle.claims.proofs.agreement.BackupAgree.{BothBacked, stopped, backed, backup-agree}
+use Rattle.claims.proofs.agreement.BackupAgree.{BothBacked, backup-agree}
 use Rattle.claims.proofs.form.BackupFit.{backup-fit}
-use Rattle.model.specs.Calls.{Call, enrol, backup, collect, read, audit, Answer, number, freed}
-use Rattle.model.specs.Calls
+use Rattle.model.specs.Calls.{Call, enrol, backup, collect, read, audit, Answer}
 use Rattle.claims.specs.Claims.{isDamage, saysDamage}
 use Rattle.model.specs.Collect
 use Rattle.model.specs.Collect.{collected, collectNumber}
@@ -44,8 +43,8 @@ use Rattle.model.specs.PlainBackup
 use Rattle.model.specs.PlainBackup.{PlainBacked}
 use Rattle.claims.proofs.agreement.ReadAgree.{read-agree}
 use Rattle.model.specs.Read
-use Rattle.model.specs.Sides.{Step, answersOf, endOf, readAnswer, auditAnswer, Ours, oursEnrolled, oursBacked, oursCollected, ours}
-use Rattle.model.specs.Sides.{plainEnrolled, plainBacked, plainCollected, plain}
+use Rattle.model.specs.Sides.{Step, answersOf, endOf, Changed, answerOf, stepOf, readAnswer, auditAnswer}
+use Rattle.model.specs.Sides.{Ours, enrolledTo, backedTo, collectedTo, ours, storeEnrolled, storeBacked, storeCollected, plain}
 
 module _ (z : Sizes) where
   -- the book is the bytes of a book of these sizes that agrees with the plain store
@@ -57,6 +56,32 @@ module _ (z : Sizes) where
     pub answer : s .answer ≡ t .answer
     pub undamaged : saysDamage (s .answer) ≡ false
     pub next : Stand (s .next) (t .next)
+
+  -- what a call that changes something makes of both sides: refused by the same number, which is none of a damaged book, or accepted with
+  -- the same numbers as answer, and then both stand alike
+  pub data BothChanged : Outcome (Changed Ours) → Outcome (Changed Plain) → Type 0 where
+    stopped : (k : ℕ) → isDamage k ≡ false → BothChanged (refused k) (refused k)
+    changed : (d : Changed Ours) (e : Changed Plain) → d .answers ≡ e .answers → Stand (d .next) (e .next)
+        → BothChanged (accepted d) (accepted e)
+
+  gave-undamaged : (ns : List ℕ) → saysDamage (answerOf ns) ≡ false
+  gave-undamaged [] = refl
+  gave-undamaged (k ∷ ks) = refl
+
+  changed-alike : {o : Ours} {q : Plain} → Stand o q → (a : Outcome (Changed Ours)) (b : Outcome (Changed Plain)) → BothChanged a b
+      → Alike (stepOf o a) (stepOf q b)
+  unfolding stepOf
+  changed-alike s a b (stopped k e) = record { answer = refl; undamaged = e; next = s }
+  changed-alike s a b (changed d e n next) = record { answer = ap answerOf n; undamaged = gave-undamaged (d .answers); next = next }
+
+  -- a call that only its number k refuses: what it makes of the book is w, which goes to bytes and then to our side, and of the store u
+  numbered : {W B U : Type 0} (k k′ : ℕ) → k ≡ k′ → isDamage k ≡ false
+      → (w : W) (toBytes : W → B) (toOurs : B → Outcome (Changed Ours)) (u : U) (toPlain : U → Outcome (Changed Plain))
+      → (k ≡ 0 → BothChanged (toOurs (toBytes w)) (toPlain u))
+      → BothChanged (andThen (andThen (unless k (accepted w)) (λ x. accepted (toBytes x))) toOurs)
+      (andThen (unless k′ (accepted u)) toPlain)
+  numbered zero k′ e n w toBytes toOurs u toPlain both = rw (sym e) (both refl)
+  numbered (suc k) k′ e n w toBytes toOurs u toPlain both = rw (sym e) (stopped (suc k) n)
 
 -- ---- bytes of a fit book
 
@@ -111,46 +136,27 @@ module _ (z : Sizes) (spare : ℕ) (enough : bookSize z ≤ spare) {x : Book} {p
   abbrev here : Ours
   here = record { book = bytes x; pool = pool }
 
-  stays : (k : ℕ) → isDamage k ≡ false → Alike z (record { answer = number k; next = here }) (record { answer = number k; next = q })
-  stays k e = record { answer = refl; undamaged = e; next = stand x pool q g sizes }
+  standing : Stand z here q
+  standing = stand x pool q g sizes
 
   enrol-alike : (v r : ℕ) → Alike z (ours spare here (enrol v r)) (plain q (enrol v r))
-  unfolding ours plain Enrol.enrol Plain.enrol oursEnrolled plainEnrolled withRetention
-  enrol-alike v r = rw (enrol-on-bytes (fit-form (g .fit)) (fit-book (g .fit)) v r) (go (enrolNumber x v r) refl)
-    where
-      after : Plain
-      after = Plain.withVolume v (record { retention = r; images = [] }) q
-
-      go : (k : ℕ) → enrolNumber x v r ≡ k
-          → Alike z (oursEnrolled here (andThen (unless k (accepted (withRetention v r x))) (λ y. accepted (bytes y))))
-          (plainEnrolled q (unless (Plain.enrolNumber q v r) (accepted after)))
-      go zero e =
-          rw (sym (enrol-number g v r) ∙ e)
-          (record {
-            answer = refl;
-            undamaged = refl;
-            next = stand (withRetention v r x) pool after
-                (enrol-agree g v r e (enrol-fit (g .fit) v r e)) sizes;
-          })
-      go (suc k) e = rw (sym (enrol-number g v r) ∙ e) (stays (suc k) (rw e at (enrol-undamaged x v r)))
+  unfolding ours plain Enrol.enrol Plain.enrol withRetention
+  enrol-alike v r =
+      rw (enrol-on-bytes (fit-form (g .fit)) (fit-book (g .fit)) v r)
+      (changed-alike z standing _ _
+      (numbered z (enrolNumber x v r) (Plain.enrolNumber q v r) (enrol-number g v r) (enrol-undamaged x v r)
+      (withRetention v r x) bytes (enrolledTo here) _ storeEnrolled
+      (λ e. changed _ _ refl (stand (withRetention v r x) pool _ (enrol-agree g v r e (enrol-fit (g .fit) v r e)) sizes))))
 
   collect-alike : (t : ℕ) → Alike z (ours spare here (collect t)) (plain q (collect t))
-  unfolding ours plain Collect.collect Plain.collect oursCollected plainCollected collectedBytes
-  collect-alike t = rw (collect-on-bytes (fit-form (g .fit)) (fit-book (g .fit)) t) (go (collectNumber x t) refl)
-    where
-      go : (k : ℕ) → collectNumber x t ≡ k
-          → Alike z (oursCollected here (andThen (unless k (accepted (collected x t))) (λ d. accepted (collectedBytes d))))
-          (plainCollected q (unless (Plain.collectNumber q t) (accepted (Plain.collected q t))))
-      go zero e =
-          rw (sym (collect-number g t) ∙ e)
-          (record {
-            answer = ap freed (collect-freed g t e);
-            undamaged = refl;
-            next =
-                stand (collected x t .book) pool (Plain.collected q t .store)
-                (collect-agree g t e (collect-fit (g .fit) t e)) (collect-sizes x t ∙ sizes);
-          })
-      go (suc k) e = rw (sym (collect-number g t) ∙ e) (stays (suc k) (rw e at (collect-undamaged x t)))
+  unfolding ours plain Collect.collect Plain.collect collectedBytes
+  collect-alike t =
+      rw (collect-on-bytes (fit-form (g .fit)) (fit-book (g .fit)) t)
+      (changed-alike z standing _ _
+      (numbered z (collectNumber x t) (Plain.collectNumber q t) (collect-number g t) (collect-undamaged x t)
+      (collected x t) collectedBytes (collectedTo here) (Plain.collected q t) storeCollected
+      (λ e. changed _ _ (ap (λ (k : ℕ). k ∷ []) (collect-freed g t e))
+      (stand (collected x t .book) pool _ (collect-agree g t e (collect-fit (g .fit) t e)) (collect-sizes x t ∙ sizes)))))
 
   read-alike : (v k lbn : ℕ) → Alike z (ours spare here (read v k lbn)) (plain q (read v k lbn))
   unfolding ours plain Read.read readAnswer
@@ -159,7 +165,7 @@ module _ (z : Sizes) (spare : ℕ) (enough : bookSize z ≤ spare) {x : Book} {p
       record {
         answer = ap readAnswer (e ∙ read-agree g v k lbn);
         undamaged = rw e (read-says (Read.readNumber x v k lbn) refl);
-        next = stand x pool q g sizes;
+        next = standing;
       }
     where
       read-says : (n : ℕ) → Read.readNumber x v k lbn ≡ n → saysDamage (readAnswer (Read.read x pool v k lbn)) ≡ false
@@ -170,24 +176,22 @@ module _ (z : Sizes) (spare : ℕ) (enough : bookSize z ≤ spare) {x : Book} {p
   unfolding ours plain auditAnswer
   audit-alike =
       let e = audit-on-bytes (fit-form (g .fit)) (fit-book (g .fit)) in
-      record { answer = rw (e, audit-agree g); undamaged = rw e; next = stand x pool q g sizes }
+      record { answer = rw (e, audit-agree g); undamaged = rw e; next = standing }
 
   backup-alike : (v t : ℕ) (list : List ℕ) → Alike z (ours spare here (backup v t list)) (plain q (backup v t list))
-  unfolding ours plain oursBacked plainBacked backedBytes
+  unfolding ours plain backedBytes
   backup-alike v t list =
       rw (backup-on-bytes (fit-form (g .fit)) (fit-book (g .fit)) pool (g .poolLong) (length-bytes x) spare (rw sizes enough) v t list)
-      (go (Backup.backup x pool v t list) refl (PlainBackup.backup q v t list) (backup-agree g v t list))
+      (changed-alike z standing _ _
+      (go (Backup.backup x pool v t list) refl (PlainBackup.backup q v t list) (backup-agree g v t list)))
     where
       go : (a : Outcome Backed) → Backup.backup x pool v t list ≡ a → (b : Outcome PlainBacked) → BothBacked x q v list a b
-          → Alike z (oursBacked here (andThen a (λ d. accepted (backedBytes d)))) (plainBacked q b)
-      go a e b (stopped k d) = stays k d
-      go a e b (backed d f h) =
+          → BothChanged z (andThen (andThen a (λ d. accepted (backedBytes d))) backedTo) (andThen b storeBacked)
+      go a e b (BothBacked.stopped k d) = stopped k d
+      go a e b (BothBacked.backed d f h) =
           let fits = backup-fit (g .fit) pool v t list d (g .poolLong) e in
-          record {
-            answer = λ i. Calls.backed (sym (h .number) i) (sym (h .taken) i) (sym (h .touched) i);
-            undamaged = refl;
-            next = stand (d .book) (d .pool) (f .store) (h .agree (fits .fit)) (fits .sizes ∙ sizes);
-          }
+          changed _ _ (λ i. sym (h .number) i ∷ sym (h .taken) i ∷ sym (h .touched) i ∷ [])
+          (stand (d .book) (d .pool) (f .store) (h .agree (fits .fit)) (fits .sizes ∙ sizes))
 
 module _ (z : Sizes) (spare : ℕ) (enough : bookSize z ≤ spare) where
   pub call-alike : {o : Ours} {q : Plain} → Stand z o q → (c : Call) → Alike z (ours spare o c) (plain q c)

@@ -25,7 +25,7 @@ use Rattle.claims.proofs.agreement.BlocksIn.{blocksIn-at, length-blocks
 use Rattle.model.specs.Calls.{Call, enrol, backup, collect, read, audit}
 use Rattle.claims.specs.Claims.{Fresh, plainAnswers, plainEnd}
 use Rattle.model.specs.History.{historyOf, dayOf}
-use Rattle.model.specs.OnBytes.{CollectedBytes, backedBytes, enrolBytes, collectBytes}
+use Rattle.model.specs.OnBytes.{backedBytes, enrolBytes, collectBytes}
 use Rattle.claims.proofs.form.OnBytesFit.{backup-on-bytes}
 use Rattle.model.specs.Plain.{Block, free, held, Plain, start, atDay, withBlocks, withVolume}
 use Rattle.model.specs.PlainBackup.{PlainWork, place, moved, changeStep, runChanges, begun, closed, backupNumber}
@@ -35,7 +35,7 @@ use Rattle.claims.proofs.plain.PlainPlacing.{Grown, grown-self, grown-t
 use Rattle.claims.proofs.plain.PlainShows.{heldBytes, shownAt}
 use Rattle.model.specs.Pool.{poolSize, blockAt}
 use Rattle.claims.proofs.claims.Proved.{end-append, fresh-stands, stands-restores, read-owed}
-use Rattle.model.specs.Sides.{blocksIn, Ours, oursEnrolled, oursBacked, oursCollected, ours, plain}
+use Rattle.model.specs.Sides.{blocksIn, became, stepOf, Ours, withBook, backedTo, ours, plain}
 use Rattle.claims.proofs.agreement.Standing.{Stand, stand, fit-form, fit-book, call-alike, list-answers}
 use Rattle.claims.specs.Claims.{Serves, Reached, begins, calls, cut, PowerCut}
 
@@ -160,13 +160,13 @@ module _ (spare : ℕ) {x : Book} {pool : List ℕ} {q : Plain} (g : Agree x poo
   serves-same = record { long = refl; holds = λ p k. refl }
 
   backup-serves : (v t : ℕ) (list : List ℕ) → Serves here (ours spare here (backup v t list) .next .pool)
-  unfolding ours oursBacked backedBytes
+  unfolding ours stepOf backedBytes
   backup-serves v t list =
       rw (backup-on-bytes (fit-form (g .fit)) (fit-book (g .fit)) pool (g .poolLong) (length-bytes x) spare enough v t list)
       (go (Backup.backup x pool v t list) refl (PlainBackup.backup q v t list) refl (backup-agree g v t list))
     where
       go : (a : Outcome Backed) → Backup.backup x pool v t list ≡ a → (b : Outcome PlainBacked) → PlainBackup.backup q v t list ≡ b
-          → BothBacked x q v list a b → Serves here (oursBacked here (andThen a (λ d. accepted (backedBytes d))) .next .pool)
+          → BothBacked x q v list a b → Serves here (stepOf here (andThen (andThen a (λ d. accepted (backedBytes d))) backedTo) .next .pool)
       go a e b e′ (stopped k d) = serves-same
       go a e b e′ (backed d f h) =
           let fits = backup-fit (g .fit) pool v t list d (g .poolLong) e in
@@ -174,21 +174,18 @@ module _ (spare : ℕ) {x : Book} {pool : List ℕ} {q : Plain} (g : Agree x poo
           serves (d .pool) (after .poolLong ∙ ap (λ (z : Sizes). poolSize (z .n)) (fits .sizes) ∙ sym (g .poolLong))
           (grown-leaves g after (backup-grown q v t list f e′))
 
-  enrol-pool : (o : Outcome (List ℕ)) → oursEnrolled here o .next .pool ≡ pool
-  unfolding oursEnrolled
-  enrol-pool (refused k) = refl
-  enrol-pool (accepted b) = refl
-
-  collect-pool : (o : Outcome CollectedBytes) → oursCollected here o .next .pool ≡ pool
-  unfolding oursCollected
-  collect-pool (refused k) = refl
-  collect-pool (accepted d) = refl
+  -- a call on the book alone leaves the pool
+  book-alone : {A : Type 0} (o : Outcome A) (b : A → List ℕ) (answers : A → List ℕ)
+      → stepOf here (andThen o (λ a. became (withBook (b a) here) (answers a))) .next .pool ≡ pool
+  unfolding stepOf
+  book-alone (refused k) b answers = refl
+  book-alone (accepted a) b answers = refl
 
   call-serves : (c : Call) → Serves here (ours spare here c .next .pool)
   unfolding ours
-  call-serves (enrol v r) = rw (enrol-pool (enrolBytes (bytes x) v r)) serves-same
+  call-serves (enrol v r) = rw (book-alone (enrolBytes (bytes x) v r) (λ b. b) (λ b. [])) serves-same
   call-serves (backup v t list) = backup-serves v t list
-  call-serves (collect t) = rw (collect-pool (collectBytes (bytes x) t)) serves-same
+  call-serves (collect t) = rw (book-alone (collectBytes (bytes x) t) (λ d. d .book) (λ d. d .freed ∷ [])) serves-same
   call-serves (read v k lbn) = serves-same
   call-serves audit = serves-same
 

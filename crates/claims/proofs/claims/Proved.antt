@@ -28,12 +28,13 @@ use Rattle.claims.proofs.claims.CollectTwice.{collect-twice, collect-tw
 use Rattle.claims.proofs.agreement.FreshAgree.{fresh-agree}
 use Rattle.claims.proofs.form.FreshFit.{fresh-fit}
 use Rattle.model.specs.History.{History, historyOf, dayOf, historyRead, historyRestore}
-use Rattle.model.specs.OnBytes.{backedBytes, collectedBytes}
+use Rattle.model.specs.OnBytes.{BackedBytes, CollectedBytes, backedBytes, collectedBytes}
 use Rattle.claims.proofs.form.OnBytesFit.{format-on-bytes, collect-on-bytes, backup-on-bytes, read-on-bytes, restore-on-bytes}
 use Rattle.model.specs.Plain.{Plain, start, marked}
 use Rattle.claims.proofs.plain.PlainReads.{plain-reads}
 use Rattle.claims.proofs.plain.HistoryRestores.{history-restores}
-use Rattle.model.specs.Sides.{Step, endOf, readAnswer, Ours, oursBacked, oursCollected, ours, plain, oursShown, plainShown}
+use Rattle.model.specs.Sides.{Step, endOf, stepOf, readAnswer, Ours, backedTo, collectedTo, ours, plain}
+use Rattle.model.specs.Sides.{oursShown, plainShown}
 use Rattle.claims.proofs.agreement.Standing.{Stand, stand, Alike, fit-form, fit-book, call-alike, list-answers, list-stands}
 use Rattle.claims.proofs.agreement.Standing.{list-undamaged}
 
@@ -50,18 +51,23 @@ module _ (spare : ℕ) {x : Book} {pool : List ℕ} {q : Plain} (g : Agree x poo
   entry-here : (p : ℕ) → entryIn here p ≡ entryAt (x .entries) p
   entry-here p = ap (λ (y : Book). entryAt (y .entries) p) (fit-book (g .fit))
 
-  collect-says : (t : ℕ) → ours spare here (collect t)
-      ≡ oursCollected here (andThen (Collect.collect x t) (λ d. accepted (collectedBytes d)))
+  -- our side after a collect with this outcome on the book
+  abbrev collectStep : Outcome Collect.Collected → Step Ours
+  collectStep o = stepOf here (andThen (andThen o (λ d. accepted (collectedBytes d))) (collectedTo here))
+
+  collect-says : (t : ℕ) → ours spare here (collect t) ≡ collectStep (Collect.collect x t)
   unfolding ours
-  collect-says t = ap (oursCollected here) (collect-on-bytes (fit-form (g .fit)) (fit-book (g .fit)) t)
+  collect-says t =
+      ap (λ (o : Outcome CollectedBytes). stepOf here (andThen o (collectedTo here)))
+      (collect-on-bytes (fit-form (g .fit)) (fit-book (g .fit)) t)
 
   agree-freeing : (t k p : ℕ) → ours spare here (collect t) .answer ≡ freed k → p < x .sizes .n → entryIn here p .held ≡ true
       → isFree (entryIn (ours spare here (collect t) .next) p) ≡ not (marked q t p)
-  unfolding Collect.collect oursCollected collectedBytes
+  unfolding Collect.collect stepOf collectedBytes
   agree-freeing t k p a h held = rw (collect-says t) (go (collectNumber x t) refl (rw (collect-says t) at a))
     where
       left : ℕ → Step Ours
-      left n = oursCollected here (andThen (unless n (accepted (collected x t))) (λ d. accepted (collectedBytes d)))
+      left n = collectStep (unless n (accepted (collected x t)))
 
       go : (n : ℕ) → collectNumber x t ≡ n → left n .answer ≡ freed k → isFree (entryIn (left n .next) p) ≡ not (marked q t p)
       go zero e b =
@@ -72,34 +78,39 @@ module _ (spare : ℕ) {x : Book} {pool : List ℕ} {q : Plain} (g : Agree x poo
   -- a second collect on the day of the first
   agree-collects : (t k : ℕ) → ours spare here (collect t) .answer ≡ freed k
       → ours spare (ours spare here (collect t) .next) (collect t) .answer ≡ freed 0
-  unfolding Collect.collect oursCollected collectedBytes ours
+  unfolding Collect.collect stepOf collectedBytes ours
   agree-collects t k a = rw (collect-says t) (go (collectNumber x t) refl (rw (collect-says t) at a))
     where
       left : ℕ → Step Ours
-      left n = oursCollected here (andThen (unless n (accepted (collected x t))) (λ d. accepted (collectedBytes d)))
+      left n = collectStep (unless n (accepted (collected x t)))
 
       go : (n : ℕ) → collectNumber x t ≡ n → left n .answer ≡ freed k → ours spare (left n .next) (collect t) .answer ≡ freed 0
       go zero e b =
           let f = collect-fit (g .fit) t e in
-          ap (λ o. oursCollected (left zero .next) o .answer) (collect-on-bytes (fit-form f) (fit-book f) t)
+          let end = left zero .next in
+          ap (λ (o : Outcome CollectedBytes). stepOf end (andThen o (collectedTo end)) .answer)
+          (collect-on-bytes (fit-form f) (fit-book f) t)
           ∙ rw (collect-twice-number x t e) (ap freed (collect-twice x t))
       go (suc n) e b = absurd (let z : _≡_ {A = ℕ} 0 1 = cc in omega arith)
 
   module _ (enough : bookSize (x .sizes) ≤ spare) (v t : ℕ) (list : List ℕ) where
-    backup-says : ours spare here (backup v t list)
-        ≡ oursBacked here (andThen (Backup.backup x pool v t list) (λ d. accepted (backedBytes d)))
+    -- our side after a backup with this outcome on the book
+    abbrev backupStep : Outcome Backed → Step Ours
+    backupStep o = stepOf here (andThen (andThen o (λ d. accepted (backedBytes d))) backedTo)
+
+    backup-says : ours spare here (backup v t list) ≡ backupStep (Backup.backup x pool v t list)
     unfolding ours
     backup-says =
-        ap (oursBacked here) (backup-on-bytes (fit-form (g .fit)) (fit-book (g .fit)) pool (g .poolLong)
-        (length-bytes x) spare enough v t list)
+        ap (λ (o : Outcome BackedBytes). stepOf here (andThen o backedTo))
+        (backup-on-bytes (fit-form (g .fit)) (fit-book (g .fit)) pool (g .poolLong) (length-bytes x) spare enough v t list)
 
     agree-touching : (p : ℕ) → p < x .sizes .n → changesName q v t list p ≡ false
         → entryIn (ours spare here (backup v t list) .next) p ≡ entryIn here p
-    unfolding oursBacked backedBytes
+    unfolding stepOf backedBytes
     agree-touching p h n = rw backup-says (go (Backup.backup x pool v t list) refl)
       where
         go : (o : Outcome Backed) → Backup.backup x pool v t list ≡ o
-            → entryIn (oursBacked here (andThen o (λ d. accepted (backedBytes d))) .next) p ≡ entryIn here p
+            → entryIn (backupStep o .next) p ≡ entryIn here p
         go (refused k) e = refl
         go (accepted d) e =
             ap (λ (y : Book). entryAt (y .entries) p) (fit-book (backup-fit (g .fit) pool v t list d (g .poolLong) e .fit))
@@ -108,11 +119,11 @@ module _ (spare : ℕ) {x : Book} {pool : List ℕ} {q : Plain} (g : Agree x poo
 
     agree-touches : (k taken touched : ℕ) → ours spare here (backup v t list) .answer ≡ backed k taken touched
         → touched ≤ 2 * changeCount list
-    unfolding oursBacked backedBytes
+    unfolding stepOf backedBytes
     agree-touches k taken touched a = go (Backup.backup x pool v t list) refl (rw backup-says at a)
       where
         go : (o : Outcome Backed) → Backup.backup x pool v t list ≡ o
-            → oursBacked here (andThen o (λ d. accepted (backedBytes d))) .answer ≡ backed k taken touched
+            → backupStep o .answer ≡ backed k taken touched
             → touched ≤ 2 * changeCount list
         go (refused j) e b = absurd (let z : _≡_ {A = ℕ} 0 1 = cc in omega arith)
         go (accepted d) e b = let same : d .touched ≡ touched = cc in omega (arith, touched-most x pool v t list d e)

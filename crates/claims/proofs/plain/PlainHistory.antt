@@ -5,7 +5,7 @@ use mathlib.Core.Bool.{Bool, true, false, not, _&&_, _||_}
 use mathlib.Core.List.{List, [], _∷_}
 use native.Mathlib.Omega.{arith}
 use lib.Dec.{ltb, eqb, eqb·suc-zero}
-use borrow.Author.Tests.{ltb-false, eqb-true, eqb-false, not-true, not-false}
+use borrow.Author.Tests.{ltb-false, eqb-true, eqb-false, ne-eqb, not-true, not-false}
 use Rattle.words.specs.Choice.{if_then_else_}
 use Rattle.words.proofs.ChoiceLaws.{and-false}
 use Rattle.words.proofs.Tests.{or-neither}
@@ -19,8 +19,10 @@ use Rattle.model.specs.Plain.{Plain, withVolume, volumeAt, isEnrolled, daysOf, 
 use Rattle.model.specs.PlainBackup
 use Rattle.model.specs.PlainBackup.{PlainWork, PlainBacked, backupNumber, runChanges, begun, closed}
 use Rattle.model.specs.Calls.{Call, enrol, backup, collect, read, audit}
-use Rattle.model.specs.Sides.{answersOf, endOf, plainEnrolled, plainBacked, plainCollected, plain}
+use Rattle.model.specs.Sides.{answersOf, endOf, stepOf, storeEnrolled, storeBacked, storeCollected, plain}
 use Rattle.model.specs.History.{History, withEnrol, withSent, noted, historyFrom, dayNoted, dayFrom}
+use Rattle.claims.proofs.form.Proper.{not-refused}
+use Rattle.claims.proofs.plain.PlainProper.{changes-proper}
 use Rattle.claims.proofs.plain.PlainRecalls.{Recalls, AllRecall}
 use Rattle.claims.proofs.plain.PlainRecallsBackup.{backup-recalls}
 use Rattle.claims.proofs.plain.PlainRecallsOthers.{enrol-recalls, collect-recalls}
@@ -75,42 +77,43 @@ module _ {l d : ℕ} {q : Plain} {h : ℕ → History} (a : AllRecall l d q h) w
   not-noted v f t e = still-recalls (λ w. if eqb v w && t then f w else h w) (λ w. rw (e, and-false (eqb v w)))
 
   enrol-step : (v r : ℕ) → AllRecall l d (plain q (enrol v r) .next) (λ w. noted w (h w) (enrol v r) (plain q (enrol v r) .answer))
-  unfolding plain plainEnrolled Plain.enrol
+  unfolding plain stepOf Plain.enrol
   enrol-step v r = go (enrolNumber q v r) refl
     where
       after : Outcome Plain
       after = accepted (withVolume v (record { retention = r; images = [] }) q)
 
       go : (n : ℕ) → enrolNumber q v r ≡ n
-          → AllRecall l d (plainEnrolled q (unless n after) .next)
-          (λ w. noted w (h w) (enrol v r) (plainEnrolled q (unless n after) .answer))
+          → AllRecall l d (stepOf q (andThen (unless n after) storeEnrolled) .next)
+          (λ w. noted w (h w) (enrol v r) (stepOf q (andThen (unless n after) storeEnrolled) .answer))
       go zero e = let b = enrol-allowed q v r e in enrol-recalls a v r (b .0) (b .1)
       go (suc k) e = not-noted v (λ w. withEnrol r (h w)) (eqb (suc k) 0) (eqb·suc-zero k)
 
   collect-step : (t : ℕ) → AllRecall l (dayNoted d (collect t) (plain q (collect t) .answer)) (plain q (collect t) .next) h
-  unfolding plain plainCollected Plain.collect
+  unfolding plain stepOf Plain.collect
   collect-step t = go (collectNumber q t) refl
     where
       go : (n : ℕ) → collectNumber q t ≡ n
-          → AllRecall l (dayNoted d (collect t) (plainCollected q (unless n (accepted (collected q t))) .answer))
-          (plainCollected q (unless n (accepted (collected q t))) .next) h
+          → AllRecall l (dayNoted d (collect t) (stepOf q (andThen (unless n (accepted (collected q t))) storeCollected) .answer))
+          (stepOf q (andThen (unless n (accepted (collected q t))) storeCollected) .next) h
       go zero e = collect-recalls a t (rw (← (a .day)) (collect-allowed q t e))
-      go (suc k) e = a
+      go (suc k) e = rw (eqb·suc-zero k) a
 
   module _ (v t : ℕ) (list : List ℕ) where
     abbrev Backs : Outcome PlainBacked → Type 0
     Backs o =
-        AllRecall l (dayNoted d (backup v t list) (plainBacked q o .answer)) (plainBacked q o .next)
-        (λ w. noted w (h w) (backup v t list) (plainBacked q o .answer))
+        AllRecall l (dayNoted d (backup v t list) (stepOf q (andThen o storeBacked) .answer)) (stepOf q (andThen o storeBacked) .next)
+        (λ w. noted w (h w) (backup v t list) (stepOf q (andThen o storeBacked) .answer))
 
-    refused-step : (k : ℕ) → Backs (refused k)
-    unfolding plainBacked
-    refused-step k = not-noted v (λ w. withSent (record { day = t; changes = changes list }) (h w)) false refl
+    -- 0 refuses nothing
+    refused-step : (k : ℕ) → (k ≡ 0 → ⊥) → Backs (refused k)
+    unfolding stepOf
+    refused-step k n = rw (ne-eqb k 0 n) (not-noted v (λ w. withSent (record { day = t; changes = changes list }) (h w)) false refl)
 
     run-step : backupNumber q v t list ≡ 0 → (o : Outcome PlainWork) → runChanges (changes list) (begun q v) ≡ o
         → Backs (andThen o (λ w. accepted (closed q v t (changeCount list) w)))
-    unfolding plainBacked
-    run-step e (refused k) f = refused-step k
+    unfolding stepOf
+    run-step e (refused k) f = refused-step k (not-refused k (rw f at (changes-proper (changes list) (begun q v))))
     run-step e (accepted w) f =
         let b = backup-allowed q v t list e in
         backup-recalls a v t (changeCount list) (changes list) w (rw (← (a .day)) (b .2)) (b .0) (b .1) f
@@ -124,7 +127,7 @@ module _ {l d : ℕ} {q : Plain} {h : ℕ → History} (a : AllRecall l d q h) w
       where
         go : (n : ℕ) → backupNumber q v t list ≡ n → Backs (unless n (andThen ran (λ w. accepted (closed q v t (changeCount list) w))))
         go zero e = run-step e ran refl
-        go (suc k) e = refused-step (suc k)
+        go (suc k) e = refused-step (suc k) (λ z. omega arith)
 
   pub call-recalls : (c : Call)
       → AllRecall l (dayNoted d c (plain q c .answer)) (plain q c .next) (λ v. noted v (h v) c (plain q c .answer))
