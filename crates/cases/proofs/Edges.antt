@@ -3,13 +3,13 @@ use Prim.Native.Nat.{ℕ}
 use mathlib.Core.Path.{_≡_, refl}
 use mathlib.Core.Bool.{true, false}
 use mathlib.Core.List.{List, [], _∷_, _++_, map}
-use lib.ListN.{replicate}
+use lib.ListN.{getD, replicate}
 use Rattle.words.specs.Blocks.{unmapped}
 use Rattle.words.specs.Lists.{upFrom}
 use Rattle.book.specs.Book.{Sizes, entryAt}
 use Rattle.book.specs.Next.{newSizes}
 use Rattle.book.specs.Layout.{bytes, bookOf}
-use Rattle.model.specs.Plain.{free, held, Plain, unenrolled, start}
+use Rattle.model.specs.Plain.{free, held, image, Plain, start}
 use Rattle.model.specs.Calls.{Call, enrol, backup, collect, read, audit, Answer, number, backed, freed, block, sound}
 use Rattle.model.specs.Sides.{Ours, answersOf, endOf, ours, plain, oursShown, plainShown}
 use Rattle.cases.proofs.Open.{model}
@@ -68,7 +68,8 @@ plainCrowded = record {
   day = 0;
   cursor = 0;
   blocks = held (printOf A) (blockOf A) ∷ held (printOf B) (blockOf B) ∷ [];
-  volumes = map (λ m. record { retention = 9; images = record { day = 0; cells = m; changed = 0 } ∷ [] }) crowdedMaps;
+  retentions = replicate 8 9;
+  taken = map (λ v. record { volume = v; day = 0; what = image (getD crowdedMaps v []); changes = 0 }) (upFrom 0 8);
 }
 
 unfoldable pub crowding : Call
@@ -103,9 +104,8 @@ plainKept = record {
   day = 1;
   cursor = 1;
   blocks = held (printOf A) (blockOf A) ∷ free ∷ [];
-  volumes =
-      record { retention = 9; images = record { day = 1; cells = 0 ∷ unmapped ∷ unmapped ∷ unmapped ∷ []; changed = 1 } ∷ [] }
-      ∷ replicate 7 unenrolled;
+  retentions = 9 ∷ replicate 7 0;
+  taken = record { volume = 0; day = 1; what = image (0 ∷ unmapped ∷ unmapped ∷ unmapped ∷ []); changes = 1 } ∷ [];
 }
 
 pub record Halves : Type 0 where

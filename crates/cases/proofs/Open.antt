@@ -51,12 +51,12 @@ unfolding
     OnBytes.restoreBytes OnBytes.auditBytes
     Views.enrolledNumber Views.outputNumber Views.usedOf Views.volumeOf Views.backupsOf Views.cellsOf Views.blocksOf Views.sizesBytes
     Views.usedBytes Views.volumeBytes Views.withRoom Views.backupsBytes Views.cellsBytes Views.blocksBytes
-    Plain.unenrolled Plain.start Plain.atDay Plain.withBlocks Plain.withVolume Plain.currentMaps Plain.enrolNumber Plain.enrol Plain.marked
+    Plain.start Plain.atDay Plain.withBlocks Plain.withRetention Plain.withTaken Plain.currentMaps Plain.enrolNumber Plain.enrol Plain.marked
     Plain.collected Plain.collectNumber Plain.collect Plain.readNumber Plain.read
-    PlainBackup.backupsSoFar PlainBackup.changesSoFar PlainBackup.backupNumber PlainBackup.findHeld PlainBackup.findFree
+    PlainBackup.backupNumber PlainBackup.findHeld PlainBackup.findFree
     PlainBackup.takeBlock
     PlainBackup.placeFree PlainBackup.placeHeld PlainBackup.place PlainBackup.moved
-    PlainBackup.changeStep PlainBackup.begun PlainBackup.withImage PlainBackup.closed PlainBackup.backup
+    PlainBackup.changeStep PlainBackup.begun PlainBackup.closed PlainBackup.backup
     Sides.stepOf Sides.readAnswer Sides.auditAnswer Sides.ours Sides.plain Sides.oursShown Sides.plainShown
     History.noHistory History.withEnrol History.withSent History.historyOf History.dayOf History.sentBlock History.historyNumber
     History.historyRead History.historyRunNumber History.historyRestore

@@ -2,6 +2,7 @@
 pub mod DayLaws
 pub mod Sound
 pub mod JournalLaws
+pub mod TakenLaws
 pub mod Replays
 pub mod KeptOwn
 pub mod KeptCells

@@ -21,7 +21,7 @@ use Rattle.model.specs.Backup.{Backed}
 use Rattle.model.specs.Read.{image}
 use Rattle.model.specs.Audit.{applied, replayed, noMaps, untilIn}
 use Rattle.model.specs.OnBytes.{formatBytes, restoreBytes}
-use Rattle.model.specs.Plain.{Plain, start, volumeAt, current, marked}
+use Rattle.model.specs.Plain.{Plain, start, currentOf, marked}
 use Rattle.model.specs.Calls.{Call, backup, collect, read, audit, Answer, number, gave, backed, freed, block, sound, isAccepted}
 use Rattle.model.specs.Sides.{answersOf, endOf, Ours, ours, plain, oursShown, plainShown}
 use Rattle.model.specs.History.{historyOf, dayOf, historyRead, historyRestore}
@@ -71,7 +71,7 @@ entryAfter f cs c p = entryIn (ours (f .spare) (ourEnd f cs) c .next) p
 -- new one, which it has there after; a refused backup's name none"
 
 abbrev pub currentCell : Plain → ℕ → ℕ → ℕ
-currentCell q v lbn = getD (current (q .sizes) (volumeAt q v)) lbn unmapped
+currentCell q v lbn = getD (currentOf q v) lbn unmapped
 
 abbrev pub isOldOrNew : Plain → Plain → ℕ → ℕ → ℕ → Bool
 isOldOrNew q after v p lbn = eqb p (currentCell q v lbn) || eqb p (currentCell after v lbn)

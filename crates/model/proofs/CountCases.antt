@@ -4,7 +4,7 @@ use Prim.Native.Nat.{ℕ}
 use mathlib.Core.Path.{_≡_, refl}
 use mathlib.Core.Bool.{true}
 use mathlib.Core.List.{List, [], _∷_, _++_, map}
-use lib.ListN.{replicate}
+use lib.ListN.{getD, replicate}
 use Rattle.words.specs.Blocks.{blockSize, printSize, unmapped}
 use Rattle.words.specs.Lists.{upFrom}
 use Rattle.words.specs.Numbers.{two}
@@ -16,7 +16,7 @@ use Rattle.model.specs.Journal.{journal, backups, days, noVolume}
 use Rattle.model.specs.Backup
 use Rattle.model.specs.Backup.{lowered, lower, moveNumber}
 use Rattle.model.specs.OnBytes.{numberOf, after}
-use Rattle.model.specs.Plain.{Plain, held}
+use Rattle.model.specs.Plain.{held, image, Plain}
 use Rattle.model.specs.PlainBackup
 
 abbrev pub counted : ℕ → Entry
@@ -68,7 +68,8 @@ store = record {
   day = 0;
   cursor = 0;
   blocks = held (replicate printSize 0) blank ∷ [];
-  volumes = map (λ m. record { retention = 9; images = record { day = 0; cells = m; changed = 0 } ∷ [] }) maps;
+  retentions = replicate 8 9;
+  taken = map (λ v. record { volume = v; day = 0; what = image (getD maps v []); changes = 0 }) (upFrom 0 8);
 }
 
 unfoldable pub last : List ℕ
@@ -87,6 +88,6 @@ unfolding
     badDay notAfter journal backups days noVolume
     Backup.backupNumber Backup.findHeld Backup.placeHeld Backup.place lowered lower Backup.raised Backup.nameBlock moveNumber Backup.moved
     Backup.moveTo Backup.changeStep Backup.begun Backup.closed Backup.backup
-    PlainBackup.backupsSoFar PlainBackup.changesSoFar PlainBackup.backupNumber PlainBackup.findHeld PlainBackup.placeHeld PlainBackup.place
+    PlainBackup.backupNumber PlainBackup.findHeld PlainBackup.placeHeld PlainBackup.place
     PlainBackup.moved PlainBackup.changeStep PlainBackup.begun PlainBackup.backup
 all-filled = record { ours = refl; count = refl; plain = refl }

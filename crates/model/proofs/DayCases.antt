@@ -17,7 +17,8 @@ use Rattle.model.specs.Audit.{untilIn}
 use Rattle.model.specs.Backup
 use Rattle.model.specs.Backup.{untilNext}
 use Rattle.model.specs.OnBytes.{after}
-use Rattle.model.specs.Plain.{Image, keptNames}
+use Rattle.model.specs.Plain
+use Rattle.model.specs.Plain.{Taken, keptNames}
 use Rattle.model.specs.Views.{keptUntil}
 use Rattle.model.proofs.CaseBlocks.{print, block, hold}
 
@@ -26,8 +27,8 @@ abbrev keptOn : ℕ → List Bool
 keptOn d = map (kept (5 ∷ 8 ∷ 20 ∷ []) 10 d) (1 ∷ 2 ∷ 3 ∷ [])
 
 -- the same in the plain store, each with a block of its own
-abbrev image : ℕ → ℕ → Image
-image d p = record { day = d; cells = p ∷ unmapped ∷ []; changed = 1 }
+abbrev image : ℕ → ℕ → Taken
+image d p = record { volume = 0; day = d; what = Plain.image (p ∷ unmapped ∷ []); changes = 1 }
 
 abbrev namedOn : ℕ → List Bool
 namedOn d = map (λ p. keptNames p 10 d (image 5 0 ∷ image 8 1 ∷ image 20 2 ∷ [])) (0 ∷ 1 ∷ 2 ∷ [])

@@ -16,7 +16,7 @@ use Rattle.model.specs.Audit.{backupsSound, audit}
 use Rattle.model.specs.Collect.{Collected, collectNumber, isOver, sweptEntry, collected, collect}
 use Rattle.model.specs.OnBytes.{after}
 use Rattle.model.specs.Plain
-use Rattle.model.specs.Plain.{Plain, PlainCollected, marked}
+use Rattle.model.specs.Plain.{Plain, takenOf, mapsOf, PlainCollected, marked}
 use Rattle.model.proofs.CaseBlocks.{print, block, hold}
 
 -- ---- collect
@@ -66,14 +66,12 @@ store = record {
   day = 9;
   cursor = 0;
   blocks = map (λ a. Plain.held (print a) (block a)) (0 ∷ 1 ∷ 2 ∷ 3 ∷ []);
-  volumes = record {
-    retention = 10;
-    images =
-        record { day = 5; cells = 0 ∷ []; changed = 1 }
-        ∷ record { day = 8; cells = 1 ∷ []; changed = 1 }
-        ∷ record { day = 9; cells = 2 ∷ []; changed = 1 }
-        ∷ [];
-  } ∷ [];
+  retentions = 10 ∷ replicate 7 0;
+  taken =
+      record { volume = 0; day = 5; what = Plain.image (0 ∷ []); changes = 1 }
+      ∷ record { volume = 0; day = 8; what = Plain.image (1 ∷ []); changes = 1 }
+      ∷ record { volume = 0; day = 9; what = Plain.image (2 ∷ []); changes = 1 }
+      ∷ [];
 }
 
 pub record Marked : Type 0 where
@@ -84,6 +82,33 @@ pub record Marked : Type 0 where
 pub marked-tried : Marked
 unfolding store badDay marked Plain.currentMaps Plain.withBlocks Plain.atDay Plain.collectNumber Plain.collected Plain.collect
 marked-tried = record { marks = refl; freed = refl }
+
+-- a volume that leaves on day 9 with blocks 0 and 1 in its backups of days 5 and 8, and one that stays with block 2 in its backup of day 6: "its
+-- newest map stops being current and stays in the list", and "the newest is no longer exempt" (document 02, K6)
+unfoldable pub leaving : Plain
+leaving = record {
+  sizes = newSizes 4 1 4 4;
+  day = 9;
+  cursor = 0;
+  blocks = map (λ a. Plain.held (print a) (block a)) (0 ∷ 1 ∷ 2 ∷ 3 ∷ []);
+  retentions = 10 ∷ 2 ∷ replicate 6 0;
+  taken =
+      record { volume = 0; day = 5; what = Plain.image (0 ∷ []); changes = 1 }
+      ∷ record { volume = 1; day = 6; what = Plain.image (2 ∷ []); changes = 1 }
+      ∷ record { volume = 0; day = 8; what = Plain.image (1 ∷ []); changes = 1 }
+      ∷ record { volume = 0; day = 9; what = Plain.retirement; changes = 1 }
+      ∷ [];
+}
+
+pub record Left : Type 0 where
+  pub maps : map (λ v. mapsOf (takenOf v (leaving .taken))) (0 ∷ 1 ∷ []) ≡ ((0 ∷ []) ∷ (1 ∷ []) ∷ []) ∷ ((2 ∷ []) ∷ []) ∷ []
+  pub now : Plain.currentMaps leaving ≡ (unmapped ∷ []) ∷ (2 ∷ []) ∷ replicate 6 (unmapped ∷ [])
+  pub marks : map (λ d. map (marked leaving d) (0 ∷ 1 ∷ 2 ∷ 3 ∷ [])) (15 ∷ 18 ∷ 19 ∷ [])
+      ≡ (true ∷ true ∷ true ∷ false ∷ []) ∷ (false ∷ true ∷ true ∷ false ∷ []) ∷ (false ∷ false ∷ true ∷ false ∷ []) ∷ []
+
+pub left-tried : Left
+unfolding leaving marked Plain.currentMaps
+left-tried = record { maps = refl; now = refl; marks = refl }
 
 -- ---- audit: "each count is the number of map cells naming the block"
 

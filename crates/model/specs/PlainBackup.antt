@@ -1,7 +1,7 @@
 -- Backup on the plain store (document 01, "The plain store").
 use Prim.Native.Nat.{ℕ, suc, _+_, _%_}
 use mathlib.Core.Bool.{Bool, false, not, _||_}
-use mathlib.Core.List.{List, [], _∷_, _++_, map}
+use mathlib.Core.List.{List, [], _∷_, map}
 use mathlib.Core.Option.{Option, none, some}
 use lib.ListN.{length, getD, take, drop, set}
 use lib.Dec.{leb, ltb, eqb}
@@ -11,27 +11,21 @@ use Rattle.words.specs.Lists.{placeFrom, orElse, same, sum}
 use Rattle.words.specs.Outcome.{Outcome, refused, accepted, andThen, unless}
 use Rattle.runs.specs.Changes.{Change, changes, changeCount, listNumber}
 use Rattle.model.specs.Days.{badDay, notAfter}
-use Rattle.model.specs.Plain.{Block, free, held, Image, Volume, Plain, atDay, withBlocks, withVolume, volumeAt, isEnrolled, daysOf}
-use Rattle.model.specs.Plain.{current, isFree, bytesOf}
+use Rattle.model.specs.Plain.{Block, free, held, image, Taken, Plain, atDay, withBlocks, withTaken, isEnrolled, takenOf, daysOf}
+use Rattle.model.specs.Plain.{mapsOf, currentOf, isFree, bytesOf}
 
 -- "9 and 10 count all backups and changes so far"
-unfoldable pub backupsSoFar : Plain → ℕ
-backupsSoFar q = sum (map (λ (u : Volume). length (u .images)) (q .volumes))
-
-abbrev pub changesIn : Volume → ℕ
-changesIn u = sum (map (λ (i : Image). i .changed) (u .images))
-
-unfoldable pub changesSoFar : Plain → ℕ
-changesSoFar q = sum (map changesIn (q .volumes))
+abbrev pub changesIn : List Taken → ℕ
+changesIn is = sum (map (λ (i : Taken). i .changes) is)
 
 -- numbers 5 to 10
 unfoldable pub backupNumber : Plain → ℕ → ℕ → List ℕ → ℕ
 backupNumber q v t list =
     if ltb 7 v || not (isEnrolled q v) then 5 else
-    if badDay (q .day) t || notAfter (daysOf (volumeAt q v .images)) t then 7 else
+    if badDay (q .day) t || notAfter (daysOf (takenOf v (q .taken))) t then 7 else
     if not (eqb (listNumber (q .sizes .l) list) 0) then 8 else
-    if leb (q .sizes .s) (backupsSoFar q) then 9 else
-    if ltb (q .sizes .j) (changesSoFar q + changeCount list) then 10 else
+    if leb (q .sizes .s) (length (q .taken)) then 9 else
+    if ltb (q .sizes .j) (changesIn (q .taken) + changeCount list) then 10 else
     0
 
 -- ---- the changes: "for each change runs steps 1 and 2 and sets the cell in the copy"
@@ -105,18 +99,15 @@ pub record PlainBacked : Type 0 where
   pub touched : ℕ
 
 unfoldable pub begun : Plain → ℕ → PlainWork
-begun q v = record { blocks = q .blocks; cursor = q .cursor; copy = current (q .sizes) (volumeAt q v); taken = 0; touched = 0 }
-
-unfoldable pub withImage : Image → Volume → Volume
-withImage i u = record { retention = u .retention; images = u .images ++ (i ∷ []) }
+begun q v = record { blocks = q .blocks; cursor = q .cursor; copy = currentOf q v; taken = 0; touched = 0 }
 
 unfoldable pub closed : Plain → ℕ → ℕ → ℕ → PlainWork → PlainBacked
 closed q v t n w = record {
   store =
       atDay t
       (withBlocks (w .blocks) (w .cursor)
-      (withVolume v (withImage (record { day = t; cells = w .copy; changed = n }) (volumeAt q v)) q));
-  number = suc (length (volumeAt q v .images));
+      (withTaken (record { volume = v; day = t; what = image (w .copy); changes = n }) q));
+  number = suc (length (mapsOf (takenOf v (q .taken))));
   taken = w .taken;
   touched = w .touched;
 }

@@ -12,7 +12,6 @@ pub mod Counting
 pub mod Options
 pub mod FoundPlaces
 pub mod SetLaws
-pub mod Sums
 pub mod Tests
 pub mod Accepted
 pub mod Appends

@@ -3,15 +3,15 @@ use Prim.Native.Nat.{ℕ, _<_}
 use mathlib.Core.Path.{_≡_}
 use mathlib.Core.Bool.{Bool, true, false, _&&_}
 use mathlib.Core.List.{List, [], _∷_}
-use lib.ListN.{length}
+use lib.ListN.{length, getD, set}
 use lib.Dec.{leb, eqb}
 use Rattle.words.specs.Lists.{someOf, countOf, joined}
-use Rattle.book.specs.Book.{volumes, Book, entryAt, retentionOf, Sized}
+use Rattle.book.specs.Book.{Book, entryAt, retentionOf, Sized}
 use Rattle.book.specs.Form.{sizesOk, bookOk}
 use Rattle.model.specs.Pool.{poolSize}
-use Rattle.model.specs.Journal.{Backup, journal, backupsIn}
+use Rattle.model.specs.Journal.{Backup, journal}
 use Rattle.model.specs.Audit.{applied, replayed, noMaps, hasBefore, dueOf, untilIn, printsSound}
-use Rattle.model.specs.Plain.{Image, Plain, volumeAt, noMap}
+use Rattle.model.specs.Plain.{image, Taken, Plain}
 use Rattle.model.specs.Sides.{blocksIn}
 use Rattle.claims.proofs.kept.Sound.{SoundAll, Days, AllRise}
 
@@ -21,12 +21,20 @@ pub record Fit (x : Book) : Type 0 where
   pub sizes : sizesOk (x .sizes) ≡ true
   pub form : bookOk x ≡ true
 
--- the plain store's images of a volume's backups, from the map before them
-abbrev pub imagesOf : List ℕ → List Backup → List Image
+-- what the plain store takes by a backup, from the volume's map before it
+abbrev pub takenBy : List ℕ → Backup → Taken
+takenBy m b = record { volume = b .volume; day = b .day; what = image (applied m (b .records)); changes = length (b .records) }
+
+-- .. by all backups of a journal, from all volumes' maps before them
+abbrev pub takenFrom : List (List ℕ) → List Backup → List Taken
+takenFrom ms [] = []
+takenFrom ms (b ∷ bs) =
+    takenBy (getD ms (b .volume) []) b ∷ takenFrom (set ms (b .volume) (applied (getD ms (b .volume) []) (b .records))) bs
+
+-- .. by one volume's backups, from its map before them
+abbrev pub imagesOf : List ℕ → List Backup → List Taken
 imagesOf m [] = []
-imagesOf m (b ∷ bs) =
-    record { day = b .day; cells = applied m (b .records); changed = length (b .records) }
-    ∷ imagesOf (applied m (b .records)) bs
+imagesOf m (b ∷ bs) = takenBy m b ∷ imagesOf (applied m (b .records)) bs
 
 -- the maps whose cells the counts count
 abbrev pub countedMaps : Book → List (List ℕ)
@@ -48,9 +56,8 @@ pub record Agree (x : Book) (pool : List ℕ) (q : Plain) : Type 0 where
   pub day : q .day ≡ x .day
   pub cursor : q .cursor ≡ x .cursor
   pub blocks : q .blocks ≡ blocksIn (x .entries) pool
-  pub volumeCount : length (q .volumes) ≡ volumes
-  pub retentions : (v : ℕ) → v < volumes → volumeAt q v .retention ≡ retentionOf x v
-  pub images : (v : ℕ) → v < volumes → volumeAt q v .images ≡ imagesOf (noMap (x .sizes)) (backupsIn v (journal x))
+  pub retentions : q .retentions ≡ x .retentions
+  pub taken : q .taken ≡ takenFrom (noMaps x) (journal x)
   -- the journal
   pub maps : x .maps ≡ replayed (noMaps x) (journal x)
   pub sound : SoundAll (noMaps x) (journal x)

@@ -1,36 +1,32 @@
 -- Both sides agree again after a backup whose changes were all made, the book after being in form.
 use Prim.Native.Nat.{ℕ, suc, _+_, _≤_, _<_}
-use mathlib.Core.Path.{_≡_, refl, sym, ap, ap₂, subst, _∙_}
-use mathlib.Core.Bool.{Bool, true, false}
-use mathlib.Core.List.{List, [], _∷_, _++_, map, append-nil}
+use mathlib.Core.Path.{_≡_, refl, sym, ap, ap₂, _∙_}
+use mathlib.Core.Bool.{true, false}
+use mathlib.Core.List.{List, [], _∷_, _++_, map}
 use native.Mathlib.Omega.{arith}
 use lib.Dec.{eqb, leb·zero}
-use lib.ListN.{length, getD, set, replicate, length-set, length-map}
-use lib.Seq.{getD-set-same, getD-set-other}
-use borrow.Author.Tests.{eqb-true, eqb-false}
+use lib.ListN.{length, getD, set, replicate, length-map}
 use Rattle.words.specs.Blocks.{unmapped}
 use Rattle.words.specs.Choice.{if_then_else_}
 use Rattle.words.proofs.ChoiceLaws.{and-false, or-no}
 use Rattle.words.specs.Lists.{joined, countOf}
-use Rattle.words.proofs.SetLaws.{getD-set-kept}
 use Rattle.runs.specs.Changes.{Change, changeCount, changes}
 use Rattle.runs.proofs.Laws.{length-changes, changes-rise}
 use Rattle.book.specs.Book.{volumes, Sizes, Slot, Rec, Book, entryAt, retentionOf}
 use Rattle.book.specs.Next.{withDay, withSlot}
 use Rattle.book.proofs.Clauses.{book-parts}
-use Rattle.model.specs.Journal.{Backup, journalOf, journal, backupsIn, backups, days}
+use Rattle.model.specs.Journal.{Backup, journalOf, journal, backups, days}
 use Rattle.model.specs.Audit.{applied, replayed, noMaps, hasBefore, dueOf, untilIn, printsSound}
 use Rattle.model.specs.Backup.{Work, untilNext, closed}
 use Rattle.model.specs.Plain
-use Rattle.model.specs.Plain.{Image, Volume, Plain, volumeAt, noMap, withBlocks, withVolume}
+use Rattle.model.specs.Plain.{image, Taken, Plain, withBlocks, withTaken}
 use Rattle.model.specs.PlainBackup
-use Rattle.model.specs.PlainBackup.{withImage, PlainWork}
+use Rattle.model.specs.PlainBackup.{PlainWork}
 use Rattle.claims.proofs.kept.Sound.{SoundAll, Days, Rising, AllRise}
-use Rattle.claims.proofs.agreement.Agree.{Fit, Agree, imagesOf, named, reaches}
-use Rattle.claims.proofs.kept.JournalLaws.{added, journal-append, backupsIn-append, replayed-append, soundAll-append, days-append}
+use Rattle.claims.proofs.agreement.Agree.{Fit, Agree, takenFrom, named, reaches}
+use Rattle.claims.proofs.kept.JournalLaws.{added, journal-append, replayed-append, soundAll-append, days-append}
 use Rattle.claims.proofs.kept.JournalLaws.{allRise-append, untilIn-append, untilIn-book, reaches-append}
-use Rattle.claims.proofs.kept.Replays.{mapAfter, imagesOf-append, last-day}
-use Rattle.claims.proofs.agreement.AgreeLaws.{map-after}
+use Rattle.claims.proofs.kept.Replays.{takenFrom-append, last-day}
 use Rattle.claims.proofs.kept.Reaches.{reached-earlier}
 use Rattle.claims.proofs.form.BackupAllowed.{Allowed}
 use Rattle.claims.proofs.agreement.Level.{Level, namesIn}
@@ -81,55 +77,6 @@ module _ {x : Book} {pool : List ℕ} {q : Plain} (g : Agree x pool q) (v t : �
       rising-from 0 (r .new) (λ i h. omega arith)
       (λ i j h k. rw (r .lbns) (changes-rise (x .sizes .l) list (ok .good) i j h (omega (arith, length-new))))
 
-  abbrev m : List ℕ
-  m = getD (x .maps) v []
-
-  -- ---- the plain store's volumes
-
-  -- volume v with its image
-  abbrev volume : Volume
-  volume = withImage (record { day = t; cells = u .copy; changed = changeCount list }) (volumeAt q v)
-
-  retentions-after : (z : ℕ) → z < volumes → volumeAt q′ z .retention ≡ retentionOf y z
-  unfolding closed withDay withSlot PlainBackup.closed Plain.atDay withBlocks withVolume withImage
-  retentions-after z h =
-      getD-set-kept (λ (u : Volume). u .retention) (q .volumes) v volume Plain.unenrolled refl z
-      ∙ g .retentions z h ∙ ap (λ (l : List ℕ). getD l z 0) (sym (a .retentions))
-
-  -- the image that is added is the backup's
-  image-added : imagesOf (mapAfter (noMap (x .sizes)) (backupsIn v (journal x))) (b ∷ [])
-      ≡ record { day = t; cells = u .copy; changed = changeCount list } ∷ []
-  image-added =
-      ap₂ (λ (m : List ℕ) (k : ℕ). record { day = t; cells = m; changed = k } ∷ [])
-      (ap (λ (m : List ℕ). applied m (r .new)) (sym (map-after g v inside)) ∙ sym (r .copy)) length-new
-
-  images-split : (z : ℕ) → z < volumes → imagesOf (noMap (y .sizes)) (backupsIn z (journal y))
-      ≡ volumeAt q z .images ++ imagesOf (mapAfter (noMap (x .sizes)) (backupsIn z (journal x))) (if eqb v z then b ∷ [] else [])
-  unfolding closed withDay withSlot
-  images-split z h =
-      ap₂ (λ (s : Sizes) (bs : List Backup). imagesOf (noMap s) (backupsIn z bs)) (a .sizes) journal-after
-      ∙ ap (λ (bs : List Backup). imagesOf (noMap (x .sizes)) bs) (backupsIn-append z (journal x) (b ∷ []))
-      ∙ imagesOf-append (noMap (x .sizes)) (backupsIn z (journal x)) (if eqb v z then b ∷ [] else [])
-      ∙ ap (λ (is : List Image). is ++ imagesOf (mapAfter (noMap (x .sizes)) (backupsIn z (journal x))) (if eqb v z then b ∷ [] else []))
-      (sym (g .images z h))
-
-  volume-after : (z : ℕ) (s : Bool) → eqb v z ≡ s → getD (set (q .volumes) v volume) z Plain.unenrolled .images
-      ≡ volumeAt q z .images ++ imagesOf (mapAfter (noMap (x .sizes)) (backupsIn z (journal x))) (if s then b ∷ [] else [])
-  unfolding withImage
-  volume-after z true e =
-      let k : v < length (q .volumes) = omega (arith, g .volumeCount) in
-      subst (λ (z : ℕ). getD (set (q .volumes) v volume) z Plain.unenrolled .images
-      ≡ volumeAt q z .images ++ imagesOf (mapAfter (noMap (x .sizes)) (backupsIn z (journal x))) (b ∷ [])) (eqb-true v z e)
-      (ap (λ (u : Volume). u .images) (getD-set-same (q .volumes) v volume Plain.unenrolled k)
-      ∙ ap (λ (is : List Image). volumeAt q v .images ++ is) (sym image-added))
-  volume-after z false e =
-      ap (λ (u : Volume). u .images) (getD-set-other (q .volumes) v z volume Plain.unenrolled (λ d. eqb-false v z e (sym d)))
-      ∙ sym (append-nil (volumeAt q z .images))
-
-  images-after : (z : ℕ) → z < volumes → volumeAt q′ z .images ≡ imagesOf (noMap (y .sizes)) (backupsIn z (journal y))
-  unfolding PlainBackup.closed Plain.atDay withBlocks withVolume
-  images-after z h = volume-after z (eqb v z) refl ∙ sym (images-split z h)
-
   -- ---- maps and journal
 
   noMaps-after : noMaps y ≡ noMaps x
@@ -154,6 +101,21 @@ module _ {x : Book} {pool : List ℕ} {q : Plain} (g : Agree x pool q) (v t : �
       rw (noMaps-after, journal-after)
       (soundAll-append (noMaps x) (journal x) (b ∷ []) (g .sound)
       (rw (← g .maps) (omega (arith, g .fit .sized .maps), r .sound, tt)))
+
+  -- ---- what the plain store took
+
+  taken-new : record { volume = v; day = t; what = image (u .copy); changes = changeCount list } ∷ []
+      ≡ takenFrom (replayed (noMaps x) (journal x)) (b ∷ [])
+  taken-new =
+      ap₂ (λ (m : List ℕ) (k : ℕ). record { volume = v; day = t; what = image m; changes = k } ∷ [])
+      (r .copy ∙ ap (λ (ms : List (List ℕ)). applied (getD ms v []) (r .new)) (g .maps)) (sym length-new)
+
+  taken-after : q′ .taken ≡ takenFrom (noMaps y) (journal y)
+  unfolding PlainBackup.closed Plain.atDay withBlocks withTaken
+  taken-after =
+      ap₂ (λ (is js : List Taken). is ++ js) (g .taken) taken-new
+      ∙ sym (takenFrom-append (noMaps x) (journal x) (b ∷ []))
+      ∙ sym (ap₂ takenFrom noMaps-after journal-after)
 
   days-after : Days 0 (journal y) t
   days-after = rw journal-after (days-append 0 (x .day) (journal x) b (g .days) (ok .day))
@@ -209,7 +171,7 @@ module _ {x : Book} {pool : List ℕ} {q : Plain} (g : Agree x pool q) (v t : �
   -- ---- all of it
 
   pub agree-after : Fit y → Agree y (w .pool) q′
-  unfolding closed withDay withSlot PlainBackup.closed Plain.atDay withBlocks withVolume printsSound
+  unfolding closed withDay withSlot PlainBackup.closed Plain.atDay withBlocks withTaken printsSound
   agree-after fit =
       let n : w .book .sizes .n ≡ x .sizes .n = ap (λ s. s .n) (a .sizes) in
       record {
@@ -219,9 +181,8 @@ module _ {x : Book} {pool : List ℕ} {q : Plain} (g : Agree x pool q) (v t : �
         day = refl;
         cursor = a .alike .cursor;
         blocks = a .alike .blocks;
-        volumeCount = length-set (q .volumes) v volume ∙ g .volumeCount;
-        retentions = retentions-after;
-        images = images-after;
+        retentions = g .retentions ∙ sym (a .retentions);
+        taken = taken-after;
         maps = maps-after;
         sound = sound-after;
         days = days-after;

@@ -10,13 +10,13 @@ use Rattle.book.specs.Book.{Book}
 use Rattle.model.specs.Days.{badDay, notAfter}
 use Rattle.model.specs.Journal.{days, noVolume}
 use Rattle.model.specs.Backup.{backupNumber}
-use Rattle.model.specs.Plain.{Plain, volumeAt, daysOf}
+use Rattle.model.specs.Plain.{Plain, takenOf, daysOf}
 use Rattle.model.specs.PlainBackup
-use Rattle.model.specs.PlainBackup.{backupsSoFar, changesSoFar}
+use Rattle.model.specs.PlainBackup.{changesIn}
 use Rattle.claims.proofs.agreement.Agree.{Agree}
 use Rattle.claims.proofs.agreement.AgreeLaws.{volume-inside, days-agree, noVolume-agree}
 use Rattle.claims.proofs.form.BackupAllowed.{ladder}
-use Rattle.claims.proofs.agreement.SoFar.{backups-so-far, changes-so-far}
+use Rattle.claims.proofs.agreement.SoFar.{taken-so-far, changes-so-far}
 
 ladder-same : (a b b′ c c′ d d′ e e′ : Bool) → b ≡ b′ → c ≡ c′ → d ≡ d′ → e ≡ e′ → ladder a b c d e ≡ ladder a b′ c′ d′ e′
 ladder-same a b b′ c c′ d d′ e e′ p q r s = cc
@@ -30,8 +30,8 @@ module _ {x : Book} {pool : List ℕ} {q : Plain} (g : Agree x pool q) (v t : �
 
   abbrev plainNumber : Bool → ℕ
   plainNumber s =
-      ladder s (badDay (q .day) t || notAfter (daysOf (volumeAt q v .images)) t) (not (eqb (listNumber (q .sizes .l) list) 0))
-      (leb (q .sizes .s) (backupsSoFar q)) (ltb (q .sizes .j) (changesSoFar q + changeCount list))
+      ladder s (badDay (q .day) t || notAfter (daysOf (takenOf v (q .taken))) t) (not (eqb (listNumber (q .sizes .l) list) 0))
+      (leb (q .sizes .s) (length (q .taken))) (ltb (q .sizes .j) (changesIn (q .taken) + changeCount list))
 
   pub number-agree : PlainBackup.backupNumber q v t list ≡ backupNumber x v t list
   unfolding backupNumber PlainBackup.backupNumber
@@ -43,5 +43,5 @@ module _ {x : Book} {pool : List ℕ} {q : Plain} (g : Agree x pool q) (v t : �
           ladder-same false _ _ _ _ _ _ _ _
           (ap₂ (λ (d : ℕ) (ds : List ℕ). badDay d t || notAfter ds t) (g .day) (days-agree g v (volume-inside x v e)))
           (ap (λ z. not (eqb (listNumber (z .l) list) 0)) (g .sizes))
-          (ap₂ leb (ap (λ z. z .s) (g .sizes)) (backups-so-far g))
+          (ap₂ leb (ap (λ z. z .s) (g .sizes)) (taken-so-far g))
           (ap₂ (λ (j k : ℕ). ltb j (k + changeCount list)) (ap (λ z. z .j) (g .sizes)) (changes-so-far g))

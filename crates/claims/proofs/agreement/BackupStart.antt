@@ -19,7 +19,7 @@ use Rattle.book.specs.Book.{volumes, Book}
 use Rattle.book.specs.Form.{pbnOk}
 use Rattle.book.proofs.Clauses.{book-parts}
 use Rattle.model.specs.Backup.{begun, runChanges}
-use Rattle.model.specs.Plain.{Plain, volumeAt, current}
+use Rattle.model.specs.Plain.{Plain, currentOf}
 use Rattle.model.specs.PlainBackup
 use Rattle.claims.proofs.kept.Sound.{Sound}
 use Rattle.claims.proofs.agreement.Agree.{Agree, named}
@@ -30,13 +30,13 @@ use Rattle.claims.proofs.agreement.Trail.{Trail}
 use Rattle.claims.proofs.agreement.Lockstep.{BothMoved, run-both}
 
 module _ {x : Book} {pool : List ℕ} {q : Plain} (g : Agree x pool q) (v : ℕ) (h : v < volumes) where
-  copy-start : current (q .sizes) (volumeAt q v) ≡ getD (x .maps) v []
+  copy-start : currentOf q v ≡ getD (x .maps) v []
   copy-start = current-agree g v h
 
-  maps-start : set (x .maps) v (current (q .sizes) (volumeAt q v)) ≡ x .maps
+  maps-start : set (x .maps) v (currentOf q v) ≡ x .maps
   maps-start = ap (λ (m : List ℕ). set (x .maps) v m) copy-start ∙ set-getD (x .maps) v []
 
-  names-start : (p : ℕ) → namesIn (x .maps) v (current (q .sizes) (volumeAt q v)) p ≡ named x p
+  names-start : (p : ℕ) → namesIn (x .maps) v (currentOf q v) p ≡ named x p
   unfolding named
   names-start p = ap (λ (ms : List (List ℕ)). countOf (eqb p) (joined ms)) maps-start
 

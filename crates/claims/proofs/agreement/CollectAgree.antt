@@ -94,9 +94,8 @@ module _ {x : Book} {pool : List ℕ} {q : Plain} (g : Agree x pool q) where
     day = refl;
     cursor = g .cursor;
     blocks = ap (swept (marked q t) 0) (g .blocks) ∙ swept-blocks (marked q t) t 0 (x .entries) pool (λ j. over-place t j (collect-days x t .0 ok .0));
-    volumeCount = g .volumeCount;
     retentions = g .retentions;
-    images = g .images;
+    taken = g .taken;
     maps = g .maps;
     sound = g .sound;
     days = days-later 0 (x .day) t (journal x) (g .days) (collect-days x t .0 ok .0);

@@ -1,14 +1,14 @@
 -- Enrol keeps both sides alike: a volume that isn't enrolled has no backup, so its retention counts nowhere yet.
 use Prim.Native.Nat.{ℕ, _<_}
-use mathlib.Core.Path.{_≡_, refl, sym, _∙_}
+use mathlib.Core.Path.{_≡_, refl, sym, ap, _∙_}
 use mathlib.Core.Logic.{_≢_}
 use mathlib.Core.Bool.{Bool, true, false, _||_}
 use mathlib.Core.List.{List, [], _∷_}
 use native.Mathlib.Omega.{arith}
-use lib.Dec.{leb, ltb, eqb}
-use lib.ListN.{length, getD, set, drop, length-set}
-use lib.Seq.{getD-set-same, getD-set-other}
-use borrow.Author.Tests.{eqb-true, eqb-false, ne-eqb, ltb-false}
+use lib.Dec.{leb, ltb}
+use lib.ListN.{set, drop}
+use lib.Seq.{getD-set-other}
+use borrow.Author.Tests.{ltb-false}
 use Rattle.words.specs.Choice.{if_then_else_}
 use Rattle.words.proofs.ChoiceLaws.{and-true, not-both}
 use Rattle.words.specs.Lists.{all, someOf}
@@ -17,12 +17,12 @@ use Rattle.book.specs.Form.{enrolled, slotOk}
 use Rattle.book.specs.Next.{withRetention}
 use Rattle.book.proofs.Clauses.{book-parts}
 use Rattle.model.specs.Days.{badRetention}
-use Rattle.model.specs.Journal.{Backup, journalOf, journal, backupsIn}
+use Rattle.model.specs.Journal.{Backup, journalOf, journal}
 use Rattle.model.specs.Enrol.{enrolNumber}
 use Rattle.model.specs.Audit.{noMaps, untilIn, printsSound}
 use Rattle.model.specs.Plain
-use Rattle.model.specs.Plain.{Plain, Volume, noMap}
-use Rattle.claims.proofs.agreement.Agree.{Fit, Agree, imagesOf, named, reaches}
+use Rattle.model.specs.Plain.{Plain}
+use Rattle.claims.proofs.agreement.Agree.{Fit, Agree, named, reaches}
 use Rattle.claims.proofs.agreement.AgreeLaws.{enrolled-agree}
 use Rattle.claims.proofs.kept.Reaches.{reachesBy}
 
@@ -31,11 +31,6 @@ use Rattle.claims.proofs.kept.Reaches.{reachesBy}
 Apart : ℕ → List Backup → Type 0
 Apart v [] = Unit {0}
 Apart v (b ∷ bs) = (b .volume ≢ v) × Apart v bs
-
-apart-none : (v : ℕ) (bs : List Backup) → Apart v bs → backupsIn v bs ≡ []
-unfolding Apart
-apart-none v [] a = refl
-apart-none v (b ∷ bs) a = rw (ne-eqb (b .volume) v (a .0), apart-none v bs (a .1))
 
 -- the retention of a volume without backups counts nowhere
 module _ (x : Book) (v r : ℕ) where
@@ -76,42 +71,9 @@ module _ {x : Book} {pool : List ℕ} {q : Plain} (g : Agree x pool q) where
   unfolding enrolNumber Plain.enrolNumber
   enrol-number v r = rw (enrolled-agree g v)
 
-  enrolled-retention : (v r w : ℕ) → w < volumes
-      → getD (set (q .volumes) v (record { retention = r; images = [] })) w Plain.unenrolled .retention ≡ getD (set (x .retentions) v r) w 0
-  enrolled-retention v r w h = go (eqb v w) refl
-    where
-      u : Volume
-      u = record { retention = r; images = [] }
-
-      go : (t : Bool) → eqb v w ≡ t → getD (set (q .volumes) v u) w Plain.unenrolled .retention ≡ getD (set (x .retentions) v r) w 0
-      go true e =
-          let a : w < length (q .volumes) = rw (g .volumeCount) h in
-          let b : w < length (x .retentions) = rw (g .fit .sized .retentions) h in
-          rw (eqb-true v w e, getD-set-same (q .volumes) w u Plain.unenrolled a, getD-set-same (x .retentions) w r 0 b)
-      go false e =
-          let n : w ≢ v = λ f. eqb-false v w e (sym f) in
-          rw (getD-set-other (q .volumes) v w u Plain.unenrolled n, getD-set-other (x .retentions) v w r 0 n) (g .retentions w h)
-
-  enrolled-images : (v r w : ℕ) → Apart v (journal x) → w < volumes
-      → getD (set (q .volumes) v (record { retention = r; images = [] })) w Plain.unenrolled .images
-      ≡ imagesOf (noMap (x .sizes)) (backupsIn w (journal x))
-  enrolled-images v r w apart h = go (eqb v w) refl
-    where
-      u : Volume
-      u = record { retention = r; images = [] }
-
-      go : (t : Bool) → eqb v w ≡ t
-          → getD (set (q .volumes) v u) w Plain.unenrolled .images
-          ≡ imagesOf (noMap (x .sizes)) (backupsIn w (journal x))
-      go true e =
-          let f = eqb-true v w e in
-          let a : w < length (q .volumes) = rw (g .volumeCount) h in
-          rw (f, getD-set-same (q .volumes) w u Plain.unenrolled a, apart-none w (journal x) (rw f at apart))
-      go false e = rw (getD-set-other (q .volumes) v w u Plain.unenrolled (λ f. eqb-false v w e (sym f))) (g .images w h)
-
   pub enrol-agree : (v r : ℕ) → enrolNumber x v r ≡ 0 → Fit (withRetention v r x)
-      → Agree (withRetention v r x) pool (Plain.withVolume v (record { retention = r; images = [] }) q)
-  unfolding withRetention Plain.withVolume journal noMaps named reaches printsSound
+      → Agree (withRetention v r x) pool (Plain.withRetention v r q)
+  unfolding withRetention Plain.withRetention journal noMaps named reaches printsSound
   enrol-agree v r ok fit = record {
     fit = fit;
     poolLong = g .poolLong;
@@ -119,9 +81,8 @@ module _ {x : Book} {pool : List ℕ} {q : Plain} (g : Agree x pool q) where
     day = g .day;
     cursor = g .cursor;
     blocks = g .blocks;
-    volumeCount = length-set (q .volumes) v (record { retention = r; images = [] }) ∙ g .volumeCount;
-    retentions = λ w h. enrolled-retention v r w h;
-    images = λ w h. enrolled-images v r w apart h;
+    retentions = ap (λ (rs : List ℕ). set rs v r) (g .retentions);
+    taken = g .taken;
     maps = g .maps;
     sound = g .sound;
     days = g .days;

@@ -16,8 +16,7 @@ use Rattle.book.specs.Next.{fresh}
 use Rattle.model.specs.Pool.{poolSize}
 use Rattle.model.specs.Journal.{journal}
 use Rattle.model.specs.Audit.{noMaps, printsSound}
-use Rattle.model.specs.Plain
-use Rattle.model.specs.Plain.{Block, free, Plain, Volume, start, names}
+use Rattle.model.specs.Plain.{Block, free, start, names}
 use Rattle.model.specs.Sides.{blocksIn}
 use Rattle.claims.proofs.agreement.Agree.{Fit, Agree, named, reaches}
 use Rattle.claims.proofs.kept.Sound.{SoundAll, Days, AllRise}
@@ -42,7 +41,7 @@ unnamed z p ok h =
 
 pub fresh-agree : (z : Sizes) (pool : List ℕ) → sizesOk z ≡ true → length pool ≡ poolSize (z .n) → Fit (fresh z)
     → Agree (fresh z) pool (start z)
-unfolding fresh start journal noMaps reaches printsSound SoundAll Days AllRise freeEntry Plain.unenrolled
+unfolding fresh start journal noMaps reaches printsSound SoundAll Days AllRise freeEntry
 fresh-agree z pool ok long fit = record {
   fit = fit;
   poolLong = long;
@@ -50,9 +49,8 @@ fresh-agree z pool ok long fit = record {
   day = refl;
   cursor = refl;
   blocks = free-blocks (z .n) pool;
-  volumeCount = refl;
-  retentions = λ v h. ap (λ (u : Volume). u .retention) (getD-replicated volumes Plain.unenrolled v) ∙ sym (getD-replicated volumes 0 v);
-  images = λ v h. ap (λ (u : Volume). u .images) (getD-replicated volumes Plain.unenrolled v);
+  retentions = refl;
+  taken = refl;
   maps = refl;
   sound = tt;
   days = omega arith;

@@ -15,7 +15,7 @@ use Rattle.model.specs.Audit.{cellSound}
 use Rattle.model.specs.Pool.{blockAt}
 use Rattle.model.specs.Read.{recordsOf, image, readNumber, read}
 use Rattle.model.specs.Plain
-use Rattle.model.specs.Plain.{Plain, free, volumeAt, noMap, daysOf, bytesOf, cell}
+use Rattle.model.specs.Plain.{Plain, free, retentionAt, takenOf, daysOf, mapsOf, noMap, bytesOf, cell}
 use Rattle.claims.proofs.agreement.Agree.{Agree}
 use Rattle.claims.proofs.agreement.AgreeLaws.{sounds-agree, volume-inside, map-after, days-agree, backups-agree, noVolume-agree}
 use Rattle.claims.proofs.agreement.AgreeLaws.{cell-agree}
@@ -73,16 +73,16 @@ module _ {x : Book} {pool : List ℕ} {q : Plain} (g : Agree x pool q) where
     where
       -- the plain store's tests for 15 and 16, and its block
       absent : Bool
-      absent = eqb k 0 || ltb (length (volumeAt q v .images)) k
+      absent = eqb k 0 || ltb (length (mapsOf (takenOf v (q .taken)))) k
 
       keeps : Bool
-      keeps = kept (daysOf (volumeAt q v .images)) (volumeAt q v .retention) (q .day) k
+      keeps = kept (daysOf (takenOf v (q .taken))) (retentionAt q v) (q .day) k
 
       block : List ℕ
       block = bytesOf (getD (q .blocks) (cell q v k l) free)
 
       tests : v < volumes → (kept (days x v) (retentionOf x v) (x .day) k ≡ keeps) × (leb (x .sizes .l) l ≡ leb (q .sizes .l) l)
-      tests h = (rw (days-agree g v h, g .retentions v h, g .day), ap (λ z. leb (z .l) l) (sym (g .sizes)))
+      tests h = (rw (days-agree g v h, g .retentions, g .day), ap (λ z. leb (z .l) l) (sym (g .sizes)))
 
       mapped : v < volumes → (0 < k) × (k ≤ length (days x v)) → eqb (image x v k l) unmapped ≡ eqb (cell q v k l) unmapped
       mapped h w = ap (λ p. eqb p unmapped) (image-agree v k l h (w .0) (w .1))

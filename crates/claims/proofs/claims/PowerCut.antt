@@ -27,7 +27,7 @@ use Rattle.claims.specs.Claims.{Fresh, plainAnswers, plainEnd}
 use Rattle.model.specs.History.{historyOf, dayOf}
 use Rattle.model.specs.OnBytes.{backedBytes, enrolBytes, collectBytes}
 use Rattle.claims.proofs.form.OnBytesFit.{backup-on-bytes}
-use Rattle.model.specs.Plain.{Block, free, held, Plain, start, atDay, withBlocks, withVolume}
+use Rattle.model.specs.Plain.{Block, free, held, Plain, start, atDay, withBlocks, withTaken}
 use Rattle.model.specs.PlainBackup.{PlainWork, place, moved, changeStep, runChanges, begun, closed, backupNumber}
 use Rattle.model.specs.PlainBackup.{PlainBacked}
 use Rattle.model.specs.PlainBackup
@@ -67,9 +67,8 @@ agree-pool {x} {pool} {pool′} {q} g l h = record {
   day = g .day;
   cursor = g .cursor;
   blocks = g .blocks ∙ blocks-same (x .entries) pool pool′ h;
-  volumeCount = g .volumeCount;
   retentions = g .retentions;
-  images = g .images;
+  taken = g .taken;
   maps = g .maps;
   sound = g .sound;
   days = g .days;
@@ -104,7 +103,7 @@ run-grown (c ∷ cs) w w′ e =
 
 backup-grown : (q : Plain) (v t : ℕ) (list : List ℕ) (d : PlainBacked) → PlainBackup.backup q v t list ≡ accepted d
     → Grown (q .blocks) (d .store .blocks)
-unfolding PlainBackup.backup begun closed atDay withBlocks withVolume
+unfolding PlainBackup.backup begun closed atDay withBlocks withTaken
 backup-grown q v t list d e =
     let o = runChanges (changes list) (begun q v) in
     let f = unless-accepted (backupNumber q v t list) (andThen o (λ w. accepted (closed q v t (changeCount list) w))) d e in

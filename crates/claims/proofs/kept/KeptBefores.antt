@@ -20,10 +20,10 @@ use Rattle.model.specs.Days.{kept}
 use Rattle.model.specs.Journal.{Backup, journal, backupsIn, backups, days}
 use Rattle.model.specs.Read.{recordsOf, image}
 use Rattle.model.specs.Audit.{dueOf, cellSound, currentSound, backupSound, backupsSound}
-use Rattle.model.specs.Plain.{Image, daysOf, mapsOf}
+use Rattle.model.specs.Plain.{Taken, daysOf, mapsOf}
 use Rattle.claims.proofs.agreement.Agree.{imagesOf}
 use Rattle.claims.proofs.kept.Sound.{Days}
-use Rattle.claims.proofs.kept.Replays.{mapAfter, Sounds, days-imagesOf, length-imagesOf, backups-linked}
+use Rattle.claims.proofs.kept.Replays.{mapAfter, Sounds, days-imagesOf, length-imagesOf, imagesOf-ends, backups-linked}
 use Rattle.model.specs.JournalAt.{firstBefore}
 use Rattle.claims.proofs.kept.ReadRule.{read-rule}
 use Rattle.claims.proofs.kept.KeptOwn.{takes}
@@ -130,7 +130,7 @@ module _ (x : Book) where
     abbrev none : List ℕ
     none = replicate (x .sizes .l) unmapped
 
-    abbrev images : ℕ → List Image
+    abbrev images : ℕ → List Taken
     images v = imagesOf none (backupsIn v (journal x))
 
     -- a kept backup has p at l exactly when the current map has, or a backup that reaches the day took it away
@@ -153,8 +153,10 @@ module _ (x : Book) where
     unfolding days backups
     days-images v = sym (days-imagesOf none (backupsIn v (journal x)))
 
-    count-images : (v : ℕ) → length (days x v) ≡ length (images v)
-    count-images v = ap length (days-images v) ∙ length-map (images v) (λ i. i .day)
+    count-images : (v : ℕ) → length (days x v) ≡ length (mapsOf (images v))
+    unfolding days backups
+    count-images v =
+        length-map (backupsIn v (journal x)) (λ b. b .day) ∙ sym (length-imagesOf none (backupsIn v (journal x)))
 
     current-cell : (v l : ℕ) → cellSound x (cellAt (x .maps) v l) ≡ true
     unfolding currentSound cellSound
@@ -166,11 +168,11 @@ module _ (x : Book) where
         → kept (days x v) (retentionOf x v) (x .day) (suc k) ≡ true → cellSound x (image x v (suc k) l) ≡ true
     image-sound ok v k l hv hk hl e =
         let p = image x v (suc k) l in
-        let hk′ : k < length (images v) = omega (arith, count-images v) in
+        let hk′ : k < length (mapsOf (images v)) = omega (arith, count-images v) in
         let hk″ : k < length (backupsIn v (journal x)) = omega (arith, length-imagesOf none (backupsIn v (journal x))) in
         sound-unless p (λ f. let n = unsound-mapped p f in
-        let a = number-kept p (retentionOf x v) (x .day) l k none (images v) hk′ (rw (days-images v) at e)
-        (eq-eqb p (getD (getD (mapsOf (images v)) k none) l unmapped) (image-cell v k l hv hk″)) in
+        let a = number-kept p (retentionOf x v) (x .day) l k none (images v) (imagesOf-ends none (backupsIn v (journal x)))
+        (hk′, rw (days-images v) at e, eq-eqb p (getD (getD (mapsOf (images v)) k none) l unmapped) (image-cell v k l hv hk″)) in
         not-both (cellSound x p) (pick p v l hl
         (or-cases (eqb p (cellAt (x .maps) v l)) (takenAt p (retentionOf x v) (x .day) l (backupsIn v (journal x)))
         (sym (kept-or-taken p v l hv n) ∙ a))) f)
@@ -187,17 +189,17 @@ module _ (x : Book) where
     block-held ok p v l hv hl n e =
         let r = retentionOf x v in
         let a = kept-or-taken p v l hv n ∙ or-r (eqb p (cellAt (x .maps) v l)) (takenAt p r (x .day) l (backupsIn v (journal x))) e in
-        let w = kept-number p r (x .day) l none (images v) a in
+        let w = kept-number p r (x .day) l none (images v) (imagesOf-ends none (backupsIn v (journal x))) a in
         let k = w .0 in
-        let hk : k < length (days x v) = omega (arith, count-images v, w .1) in
-        let hb : k < length (backupsIn v (journal x)) = omega (arith, length-imagesOf none (backupsIn v (journal x)), w .1) in
+        let hk : k < length (days x v) = omega (arith, count-images v, w .1 .0) in
+        let hb : k < length (backupsIn v (journal x)) = omega (arith, length-imagesOf none (backupsIn v (journal x)), w .1 .0) in
         let row = each-at (λ v. all (backupSound x v) (upFrom 1 (length (days x v)))) 0 volumes
         (sym (all-each (λ v. all (backupSound x v) (upFrom 1 (length (days x v)))) volumes) ∙ ok) v (omega arith) hv in
         let s = upFrom-all (backupSound x v) 1 (length (days x v)) row (suc k) (omega arith) (omega arith) in
-        let kept-here : kept (days x v) r (x .day) (suc k) ≡ true = rw (days-images v) (w .2) in
+        let kept-here : kept (days x v) r (x .day) (suc k) ≡ true = rw (days-images v) (w .1 .1) in
         let cells : all (λ j. cellSound x (image x v (suc k) j)) (upFrom 0 (x .sizes .l)) ≡ true = rw kept-here at s in
         let c = upFrom-all (λ j. cellSound x (image x v (suc k) j)) 0 (x .sizes .l) cells l (omega arith) (omega arith) in
-        ap (cellSound x) (eqb-true p (getD (getD (mapsOf (images v)) k none) l unmapped) (w .3) ∙ sym (image-cell v k l hv hb)) ∙ c
+        ap (cellSound x) (eqb-true p (getD (getD (mapsOf (images v)) k none) l unmapped) (w .1 .2) ∙ sym (image-cell v k l hv hb)) ∙ c
 
     pub kept-befores : all (takenSound x) (journal x) ≡ backupsSound x
     unfolding backupsSound backupSound

@@ -14,7 +14,7 @@ use Rattle.words.proofs.Places.{getD-replicated}
 use Rattle.model.specs.Days.{keptBy}
 use Rattle.model.specs.Journal.{Backup, sinceOf}
 use Rattle.model.specs.Audit.{applied, dueOf}
-use Rattle.model.specs.Plain.{Image, daysOf}
+use Rattle.model.specs.Plain.{What, image, retirement, Taken, daysOf}
 use Rattle.claims.proofs.agreement.Agree.{imagesOf}
 use Rattle.claims.proofs.kept.Sound.{Days}
 use Rattle.claims.proofs.kept.KeptOwn
@@ -22,9 +22,13 @@ use Rattle.claims.proofs.kept.KeptOwn.{Item, Good, takes, null}
 use Rattle.claims.proofs.kept.Replays.{mapAfter, Sounds, Linked}
 
 -- a backup kept at day d, where r is the retention, has p at LBN l
-abbrev pub keptAt : ℕ → ℕ → ℕ → ℕ → List Image → Bool
+abbrev pub hasAt : ℕ → ℕ → What → Bool
+hasAt p l (image m) = eqb p (getD m l unmapped)
+hasAt p l retirement = false
+
+abbrev pub keptAt : ℕ → ℕ → ℕ → ℕ → List Taken → Bool
 keptAt p r d l [] = false
-keptAt p r d l (i ∷ is) = (keptBy (i .day) (daysOf is) r d && eqb p (getD (i .cells) l unmapped)) || keptAt p r d l is
+keptAt p r d l (i ∷ is) = (keptBy (i .day) (daysOf is) r d && hasAt p l (i .what)) || keptAt p r d l is
 
 -- the first record of l has the before p, in a backup that keeps what it replaced until day d
 abbrev pub takenAt : ℕ → ℕ → ℕ → ℕ → List Backup → Bool

@@ -16,9 +16,9 @@ use Rattle.book.specs.Form.{pbnOk}
 use Rattle.model.specs.Days.{kept}
 use Rattle.model.specs.Journal.{journal, backupsIn, days}
 use Rattle.model.specs.Audit.{cellSound}
-use Rattle.model.specs.Plain.{Plain, volumeAt, noMap, mapsOf, names, cell}
+use Rattle.model.specs.Plain.{Plain, takenOf, mapsOf, noMap, names, cell}
 use Rattle.claims.proofs.agreement.Agree.{Agree, named, reaches}
-use Rattle.claims.proofs.agreement.AgreeLaws.{days-agree, backups-agree, cell-agree}
+use Rattle.claims.proofs.agreement.AgreeLaws.{images-agree, days-agree, backups-agree, ends-agree, cell-agree}
 use Rattle.claims.proofs.kept.KeptCells.{keptAt, takenAt}
 use Rattle.claims.proofs.kept.KeptNames.{cell-names}
 use Rattle.claims.proofs.kept.KeptNumbers.{number-kept}
@@ -66,12 +66,14 @@ module _ {x : Book} {pool : List ℕ} {q : Plain} (g : Agree x pool q) where
       ok : pbnOk (x .sizes .n) p ≡ true
       ok = ap (pbnOk (x .sizes .n)) (cell-agree g v k l hv) ∙ image-cells x v k l (g .fit .form)
 
-      kept-here : keptAt p (retentionOf x v) (x .day) l (volumeAt q v .images) ≡ true
+      kept-here : keptAt p (retentionOf x v) (x .day) l (takenOf v (q .taken)) ≡ true
       kept-here =
-          number-kept p (retentionOf x v) (x .day) l k (noMap (x .sizes)) (volumeAt q v .images) (rw (backups-agree g v hv) hk)
-          (rw (days-agree g v hv) e)
-          (eq-eqb p (getD (getD (mapsOf (volumeAt q v .images)) k (noMap (x .sizes))) l unmapped)
-          (cell-agree g v k l hv ∙ rw (g .images v hv)))
+          number-kept p (retentionOf x v) (x .day) l k (noMap (x .sizes)) (takenOf v (q .taken)) (ends-agree g v hv) (
+            rw (backups-agree g v hv) hk,
+            rw (days-agree g v hv) e,
+            eq-eqb p (getD (getD (mapsOf (takenOf v (q .taken))) k (noMap (x .sizes))) l unmapped)
+                (cell-agree g v k l hv ∙ rw (images-agree g v hv)),
+          )
 
       bad : p < x .sizes .n → entryAt (x .entries) p .held ≡ false → ⊥
       bad h f =

@@ -2,7 +2,7 @@
 use Prim.Native.Nat.{ℕ, zero, suc, _<_}
 use mathlib.Core.Path.{_≡_, refl, sym}
 use mathlib.Core.Logic.{_≢_, _⊎_, inl, inr}
-use mathlib.Core.Bool.{Bool, true, false, _&&_}
+use mathlib.Core.Bool.{Bool, true, false, _&&_, _||_}
 use mathlib.Core.List.{List, [], _∷_}
 use mathlib.Core.Option.{some}
 use native.Mathlib.Omega.{arith}
@@ -16,40 +16,53 @@ use Rattle.words.specs.Lists.{firstThat}
 use Rattle.book.specs.Book.{Rec}
 use Rattle.model.specs.Days.{keptBy, kept}
 use Rattle.model.specs.Read.{beforeOr}
-use Rattle.model.specs.Plain.{Image, daysOf, mapsOf}
+use Rattle.model.specs.Plain.{What, image, retirement, Taken, daysOf, mapWith, mapsOf}
 use Rattle.model.specs.JournalAt.{firstBefore}
 use Rattle.claims.proofs.kept.KeptOwn.{takes}
-use Rattle.claims.proofs.kept.KeptCells.{keptAt}
+use Rattle.claims.proofs.kept.KeptCells.{hasAt, keptAt}
+use Rattle.claims.proofs.kept.TakenLaws.{Ends, isImage}
 
 -- ---- kept backups by number, and in a row
 
--- a backup of the row that is kept and has p at l is one of the numbers
-pub kept-number : (p r d l : ℕ) (z : List ℕ) (is : List Image) → keptAt p r d l is ≡ true
-    → (k : ℕ) × (k < length is) × (kept (daysOf is) r d (suc k) ≡ true)
-    × (eqb p (getD (getD (mapsOf is) k z) l unmapped) ≡ true)
-unfolding kept
-kept-number p r d l z [] e = absurd (not-both false e refl)
-kept-number p r d l z (i ∷ is) e =
-    go (or-cases (keptBy (i .day) (daysOf is) r d && eqb p (getD (i .cells) l unmapped)) (keptAt p r d l is) e) (kept-number p r d l z is)
-  where
-    go : ((keptBy (i .day) (daysOf is) r d && eqb p (getD (i .cells) l unmapped)) ≡ true) ⊎ (keptAt p r d l is ≡ true)
-        → (keptAt p r d l is ≡ true → (k : ℕ) × (k < length is) × (kept (daysOf is) r d (suc k) ≡ true)
-        × (eqb p (getD (getD (mapsOf is) k z) l unmapped) ≡ true))
-        → (k : ℕ) × (k < suc (length is)) × (kept (daysOf (i ∷ is)) r d (suc k) ≡ true)
-        × (eqb p (getD (getD (mapsOf (i ∷ is)) k z) l unmapped) ≡ true)
-    go (inl a) ih = let w = and-true (keptBy (i .day) (daysOf is) r d) (eqb p (getD (i .cells) l unmapped)) a in (0, omega arith, w .0, w .1)
-    go (inr b) ih = let w = ih b in (suc (w .0), omega arith, w .2, w .3)
+-- backup k + 1 is kept and has p at l; past the last map is z
+abbrev pub Numbered : ℕ → ℕ → ℕ → ℕ → List ℕ → List Taken → ℕ → Type 0
+Numbered p r d l z is k =
+    (k < length (mapsOf is)) × (kept (daysOf is) r d (suc k) ≡ true) × (eqb p (getD (getD (mapsOf is) k z) l unmapped) ≡ true)
 
-pub number-kept : (p r d l k : ℕ) (z : List ℕ) (is : List Image) → k < length is → kept (daysOf is) r d (suc k) ≡ true
-    → eqb p (getD (getD (mapsOf is) k z) l unmapped) ≡ true → keptAt p r d l is ≡ true
+-- a backup of the row that is kept and has p at l is one of the numbers
+pub kept-number : (p r d l : ℕ) (z : List ℕ) (is : List Taken) → Ends is → keptAt p r d l is ≡ true → (k : ℕ) × Numbered p r d l z is k
 unfolding kept
-number-kept p r d l k z [] h e f = absurd (omega arith)
-number-kept p r d l zero z (i ∷ is) h e f =
-    or-l (keptBy (i .day) (daysOf is) r d && eqb p (getD (i .cells) l unmapped)) (keptAt p r d l is)
-    (true-and (keptBy (i .day) (daysOf is) r d) (eqb p (getD (i .cells) l unmapped)) e f)
-number-kept p r d l (suc k) z (i ∷ is) h e f =
-    or-r (keptBy (i .day) (daysOf is) r d && eqb p (getD (i .cells) l unmapped)) (keptAt p r d l is)
-    (number-kept p r d l k z is (omega arith) e f)
+kept-number p r d l z [] s e = absurd (not-both false e refl)
+kept-number p r d l z (i ∷ is) s e =
+    go (i .what) (s .0) (or-cases (keptBy (i .day) (daysOf is) r d && hasAt p l (i .what)) (keptAt p r d l is) e)
+    (kept-number p r d l z is (s .1))
+  where
+    go : (w : What) → (isImage w ≡ false → is ≡ [])
+        → ((keptBy (i .day) (daysOf is) r d && hasAt p l w) ≡ true) ⊎ (keptAt p r d l is ≡ true)
+        → (keptAt p r d l is ≡ true → (k : ℕ) × Numbered p r d l z is k)
+        → (k : ℕ) × ((k < length (mapWith w (mapsOf is))) × (kept (daysOf (i ∷ is)) r d (suc k) ≡ true)
+        × (eqb p (getD (getD (mapWith w (mapsOf is)) k z) l unmapped) ≡ true))
+    go (image m) n (inl a) ih =
+        let w = and-true (keptBy (i .day) (daysOf is) r d) (eqb p (getD m l unmapped)) a in (0, (omega arith, w .0, w .1))
+    go (image m) n (inr b) ih = let w = ih b in let h = w .1 .0 in (suc (w .0), (omega arith, w .1 .1, w .1 .2))
+    go retirement n (inl a) ih = absurd (not-both false (and-true (keptBy (i .day) (daysOf is) r d) false a .1) refl)
+    go retirement n (inr b) ih = absurd (not-both false (rw (n refl) at b) refl)
+
+pub number-kept : (p r d l k : ℕ) (z : List ℕ) (is : List Taken) → Ends is → Numbered p r d l z is k → keptAt p r d l is ≡ true
+unfolding kept
+number-kept p r d l k z [] s n = absurd (let h = n .0 in omega arith)
+number-kept p r d l k z (i ∷ is) s n = go (i .what) k (s .0) (n .0) (n .1) (n .2) (λ j. number-kept p r d l j z is (s .1))
+  where
+    go : (w : What) (k : ℕ) → (isImage w ≡ false → is ≡ []) → k < length (mapWith w (mapsOf is))
+        → kept (daysOf (i ∷ is)) r d (suc k) ≡ true → eqb p (getD (getD (mapWith w (mapsOf is)) k z) l unmapped) ≡ true
+        → ((j : ℕ) → Numbered p r d l z is j → keptAt p r d l is ≡ true)
+        → ((keptBy (i .day) (daysOf is) r d && hasAt p l w) || keptAt p r d l is) ≡ true
+    go (image m) zero n h e f ih =
+        or-l (keptBy (i .day) (daysOf is) r d && eqb p (getD m l unmapped)) (keptAt p r d l is)
+        (true-and (keptBy (i .day) (daysOf is) r d) (eqb p (getD m l unmapped)) e f)
+    go (image m) (suc k) n h e f ih =
+        or-r (keptBy (i .day) (daysOf is) r d && eqb p (getD m l unmapped)) (keptAt p r d l is) (ih k (omega arith, e, f))
+    go retirement k n h e f ih = let h′ : k < 0 = rw (n refl) at h in absurd (omega arith)
 
 -- ---- the first record of l takes p away exactly when its before is p
 

@@ -11,18 +11,18 @@ use lib.ListN.{getD}
 use borrow.Author.Tests.{eqb-true, leb-true, leb-false, lt-ltb, le-ltb}
 use Rattle.words.specs.Blocks.{unmapped}
 use Rattle.words.proofs.ChoiceLaws.{same-test, not-both}
-use Rattle.words.specs.Lists.{someOf, joined}
-use Rattle.words.proofs.Places.{some-place, place-some, countOf-none, someOf-joined}
+use Rattle.words.specs.Lists.{someOf, joined, upFrom}
+use Rattle.words.proofs.Places.{place-some, countOf-none, someOf-joined}
 use Rattle.book.specs.Book.{volumes, Book, entryAt, cellAt, retentionOf}
 use Rattle.book.specs.Form.{sizesOk}
 use Rattle.book.proofs.SizesIn.{sizes-facts}
 use Rattle.model.specs.Journal.{journal, backupsIn}
 use Rattle.model.specs.Audit.{noMaps}
-use Rattle.model.specs.Plain
-use Rattle.model.specs.Plain.{Plain, Volume, volumeAt, names, keptNames, marked}
+use Rattle.model.specs.Plain.{Plain, retentionAt, takenOf, names, keptNames, marked}
 use Rattle.claims.proofs.agreement.Agree.{Agree, named, reaches}
+use Rattle.claims.proofs.kept.TakenLaws.{some-volume, volume-some}
 use Rattle.claims.proofs.kept.Replays.{backupsIn-days, backups-linked}
-use Rattle.claims.proofs.agreement.AgreeLaws.{length-noMaps, sounds-agree, map-after, maps-agree}
+use Rattle.claims.proofs.agreement.AgreeLaws.{length-noMaps, sounds-agree, images-agree, map-after, maps-agree, retention-agree}
 use Rattle.claims.proofs.kept.KeptCells.{keptAt, takenAt, kept-cell}
 use Rattle.claims.proofs.kept.KeptNames.{cell-names, kept-names-cell, cell-kept-names}
 use Rattle.claims.proofs.kept.Reaches.{reachesBy, until-reaches, taken-reaches, reaches-taken}
@@ -44,16 +44,16 @@ pub pbn-mapped : (x : Book) (p : ℕ) → sizesOk (x .sizes) ≡ true → p < x 
 pbn-mapped x p ok h q = omega (arith, sizes-facts (x .sizes) ok .n)
 
 -- a backup of the volume that is kept on day d names p
-abbrev keptIn : ℕ → ℕ → Volume → Bool
-keptIn p d u = keptNames p (u .retention) d (u .images)
+abbrev keptIn : Plain → ℕ → ℕ → ℕ → Bool
+keptIn q p d v = keptNames p (retentionAt q v) d (takenOf v (q .taken))
 
 module _ {x : Book} {pool : List ℕ} {q : Plain} (g : Agree x pool q) where
   -- a volume's kept backups at one LBN, by the book alone
   pub kept-cell-agree : (d p v l : ℕ) → p ≢ unmapped → v < volumes
-      → keptAt p (retentionOf x v) d l (volumeAt q v .images)
+      → keptAt p (retentionOf x v) d l (takenOf v (q .taken))
       ≡ (eqb p (cellAt (x .maps) v l) || takenAt p (retentionOf x v) d l (backupsIn v (journal x)))
   kept-cell-agree d p v l n h =
-      rw (g .images v h, map-after g v h)
+      rw (images-agree g v h, map-after g v h)
       (kept-cell p (retentionOf x v) d l (x .sizes .l) (x .day) (backupsIn v (journal x)) n (sounds-agree g v h)
       (backupsIn-days v 0 (x .day) (journal x) (g .days)) (backups-linked x v))
 
@@ -68,27 +68,29 @@ module _ {x : Book} {pool : List ℕ} {q : Plain} (g : Agree x pool q) where
       go false f = refl
 
   kept-taken : (d p v l : ℕ) → p ≢ unmapped → v < volumes → someOf (names p) (x .maps) ≡ false
-      → keptAt p (retentionOf x v) d l (volumeAt q v .images) ≡ takenAt p (retentionOf x v) d l (backupsIn v (journal x))
+      → keptAt p (retentionOf x v) d l (takenOf v (q .taken)) ≡ takenAt p (retentionOf x v) d l (backupsIn v (journal x))
   kept-taken d p v l n h e = kept-cell-agree d p v l n h ∙ rw (unnamed-cell p v l n h e)
 
-  pub kept-reaches : (d p : ℕ) → p ≢ unmapped → someOf (names p) (x .maps) ≡ false → someOf (keptIn p d) (q .volumes) ≡ reaches x d p
-  unfolding reaches
-  kept-reaches d p n e = same-test (someOf (keptIn p d) (q .volumes)) (someOf (reachesBy x d p) (journal x)) to from
-    where
-      to : someOf (keptIn p d) (q .volumes) ≡ true → someOf (reachesBy x d p) (journal x) ≡ true
-      to f =
-          let w = some-place (keptIn p d) (q .volumes) Plain.unenrolled f in
-          let h : w .0 < volumes = rw (g .volumeCount) at (w .1) in
-          let k = kept-names-cell p (retentionOf x (w .0)) d (volumeAt q (w .0) .images) (rw (g .retentions (w .0) h) at (w .2)) in
-          taken-reaches x d p (w .0) (k .0) (journal x) (sym (kept-taken d p (w .0) (k .0) n h e) ∙ k .1)
+  kept-here : (d p v : ℕ) → keptIn q p d v ≡ keptNames p (retentionOf x v) d (takenOf v (q .taken))
+  kept-here d p v = ap (λ (r : ℕ). keptNames p r d (takenOf v (q .taken))) (retention-agree g v)
 
-      from : someOf (reachesBy x d p) (journal x) ≡ true → someOf (keptIn p d) (q .volumes) ≡ true
+  pub kept-reaches : (d p : ℕ) → p ≢ unmapped → someOf (names p) (x .maps) ≡ false → someOf (keptIn q p d) (upFrom 0 volumes) ≡ reaches x d p
+  unfolding reaches
+  kept-reaches d p n e = same-test (someOf (keptIn q p d) (upFrom 0 volumes)) (someOf (reachesBy x d p) (journal x)) to from
+    where
+      to : someOf (keptIn q p d) (upFrom 0 volumes) ≡ true → someOf (reachesBy x d p) (journal x) ≡ true
+      to f =
+          let w = some-volume (keptIn q p d) f in
+          let k = kept-names-cell p (retentionOf x (w .0)) d (takenOf (w .0) (q .taken)) (sym (kept-here d p (w .0)) ∙ w .2) in
+          taken-reaches x d p (w .0) (k .0) (journal x) (sym (kept-taken d p (w .0) (k .0) n (w .1) e) ∙ k .1)
+
+      from : someOf (reachesBy x d p) (journal x) ≡ true → someOf (keptIn q p d) (upFrom 0 volumes) ≡ true
       from f =
           let w = reaches-taken x d p (noMaps x) (journal x) (g .sound) (g .rising) f in
           let h : w .0 < volumes = rw length-noMaps at (w .1) in
           let k = kept-taken d p (w .0) (w .2 .0) n h e ∙ w .2 .1 in
-          place-some (keptIn p d) (q .volumes) Plain.unenrolled (w .0) (rw (g .volumeCount) h)
-          (rw (g .retentions (w .0) h) (cell-kept-names p (retentionOf x (w .0)) d (w .2 .0) (volumeAt q (w .0) .images) n k))
+          volume-some (keptIn q p d) (w .0) h
+          (kept-here d p (w .0) ∙ cell-kept-names p (retentionOf x (w .0)) d (w .2 .0) (takenOf (w .0) (q .taken)) n k)
 
   -- All that proofs say of an expiry: whether it reaches a day, from the header's on
   pub expiry-reaches : (t p : ℕ) → x .day ≤ t → 0 < t → p < x .sizes .n → leb t (entryAt (x .entries) p .expiry) ≡ reaches x t p
@@ -111,7 +113,7 @@ module _ {x : Book} {pool : List ℕ} {q : Plain} (g : Agree x pool q) where
       expiry : ℕ
       expiry = entryAt (x .entries) p .expiry
 
-      go : (s : Bool) → someOf (names p) (x .maps) ≡ s → (not s && ltb expiry t) ≡ not (s || someOf (keptIn p t) (q .volumes))
+      go : (s : Bool) → someOf (names p) (x .maps) ≡ s → (not s && ltb expiry t) ≡ not (s || someOf (keptIn q p t) (upFrom 0 volumes))
       go true e = refl
       go false e =
           ltb-not-leb expiry t

@@ -1,6 +1,6 @@
 -- One volume's part of a journal: its map after its backups, their images, and what holds of them because it holds of the journal.
 use Prim.Native.Nat.{ℕ, suc, _≤_, _<_}
-use mathlib.Core.Path.{_≡_, refl, sym, ap, _∙_}
+use mathlib.Core.Path.{_≡_, refl, sym, ap, ap₂, _∙_}
 use mathlib.Core.Bool.{Bool, true, false}
 use mathlib.Core.List.{List, [], _∷_, _++_, map}
 use mathlib.Core.Option.{Option, none, some}
@@ -10,15 +10,17 @@ use lib.ListN.{length, getD, set, take, drop, length-set}
 use lib.Seq.{getD-set-same, getD-set-other}
 use borrow.Author.Tests.{eqb-true, eqb-false}
 use Rattle.words.specs.Choice.{if_then_else_}
+use Rattle.words.proofs.ChoiceLaws.{not-both}
 use Rattle.words.specs.Lists.{lastOf}
-use Rattle.book.specs.Book.{Slot, Rec, Book}
+use Rattle.book.specs.Book.{Sizes, Slot, Rec, Book}
 use Rattle.model.specs.Journal.{Backup, lastDay, sinceOf, journalOf, journal, backupsIn}
 use Rattle.model.specs.JournalAt.{goneAfter}
 use Rattle.model.specs.Audit.{applied, replayed}
-use Rattle.model.specs.Plain.{daysOf, mapsOf}
-use Rattle.claims.proofs.agreement.Agree.{imagesOf}
+use Rattle.model.specs.Plain.{Taken, takenOf, daysOf, mapsOf, leaves}
+use Rattle.claims.proofs.agreement.Agree.{takenBy, takenFrom, imagesOf}
 use Rattle.claims.proofs.kept.Sound.{Sound, SoundAll, Days}
 use Rattle.claims.proofs.kept.JournalLaws.{length-applied}
+use Rattle.claims.proofs.kept.TakenLaws.{Ends}
 
 -- the map after a volume's backups
 abbrev pub mapAfter : List ℕ → List Backup → List ℕ
@@ -37,11 +39,14 @@ Linked prev (b ∷ bs) = (b .prev ≡ prev) × Linked (some (b .day)) bs
 
 -- ---- images
 
-pub imagesOf-append : (m : List ℕ) (bs cs : List Backup) → imagesOf m (bs ++ cs) ≡ imagesOf m bs ++ imagesOf (mapAfter m bs) cs
-imagesOf-append m [] cs = refl
-imagesOf-append m (b ∷ bs) cs = rw (imagesOf-append (applied m (b .records)) bs cs)
+pub takenFrom-append : (ms : List (List ℕ)) (bs cs : List Backup)
+    → takenFrom ms (bs ++ cs) ≡ takenFrom ms bs ++ takenFrom (replayed ms bs) cs
+takenFrom-append ms [] cs = refl
+takenFrom-append ms (b ∷ bs) cs =
+    ap (λ (is : List Taken). takenBy (getD ms (b .volume) []) b ∷ is)
+    (takenFrom-append (set ms (b .volume) (applied (getD ms (b .volume) []) (b .records))) bs cs)
 
-pub length-imagesOf : (m : List ℕ) (bs : List Backup) → length (imagesOf m bs) ≡ length bs
+pub length-imagesOf : (m : List ℕ) (bs : List Backup) → length (mapsOf (imagesOf m bs)) ≡ length bs
 length-imagesOf m [] = refl
 length-imagesOf m (b ∷ bs) = ap suc (length-imagesOf (applied m (b .records)) bs)
 
@@ -50,9 +55,15 @@ days-imagesOf m [] = refl
 days-imagesOf m (b ∷ bs) = ap (λ (r : List ℕ). b .day ∷ r) (days-imagesOf (applied m (b .records)) bs)
 
 -- "A volume's current map there is its newest one"
-pub newest-imagesOf : (m : List ℕ) (bs : List Backup) → lastOf m (mapsOf (imagesOf m bs)) ≡ mapAfter m bs
-newest-imagesOf m [] = refl
-newest-imagesOf m (b ∷ bs) = newest-imagesOf (applied m (b .records)) bs
+pub newest-imagesOf : (z : Sizes) (m : List ℕ) (bs : List Backup)
+    → lastOf m (map (λ (i : Taken). leaves z (i .what)) (imagesOf m bs)) ≡ mapAfter m bs
+newest-imagesOf z m [] = refl
+newest-imagesOf z m (b ∷ bs) = newest-imagesOf z (applied m (b .records)) bs
+
+-- nothing follows a retirement, of which there is none
+pub imagesOf-ends : (m : List ℕ) (bs : List Backup) → Ends (imagesOf m bs)
+imagesOf-ends m [] = tt
+imagesOf-ends m (b ∷ bs) = (λ f. absurd (not-both true refl f), imagesOf-ends (applied m (b .records)) bs)
 
 pub length-mapAfter : (m : List ℕ) (bs : List Backup) → length (mapAfter m bs) ≡ length m
 length-mapAfter m [] = refl
@@ -73,6 +84,33 @@ backupsIn-replayed v ms (b ∷ bs) h =
     go true e = rw (eqb-true (b .volume) v e, getD-set-same)
     go false e =
         rw (getD-set-other ms (b .volume) v (applied (getD ms (b .volume) []) (b .records)) [] (λ q. eqb-false (b .volume) v e (sym q)))
+
+-- what was taken of a volume, from what was taken of all
+pub backupsIn-taken : (v : ℕ) (ms : List (List ℕ)) (bs : List Backup) → v < length ms
+    → takenOf v (takenFrom ms bs) ≡ imagesOf (getD ms v []) (backupsIn v bs)
+backupsIn-taken v ms [] h = refl
+backupsIn-taken v ms (b ∷ bs) h =
+    go (eqb (b .volume) v) refl
+    (backupsIn-taken v (set ms (b .volume) (applied (getD ms (b .volume) []) (b .records))) bs (simp length-set h))
+  where
+    next : List (List ℕ)
+    next = set ms (b .volume) (applied (getD ms (b .volume) []) (b .records))
+
+    rest : List Taken
+    rest = takenOf v (takenFrom next bs)
+
+    go : (t : Bool) → eqb (b .volume) v ≡ t → rest ≡ imagesOf (getD next v []) (backupsIn v bs)
+        → (if t then takenBy (getD ms (b .volume) []) b ∷ rest else rest)
+        ≡ imagesOf (getD ms v []) (if t then b ∷ backupsIn v bs else backupsIn v bs)
+    go true e ih =
+        let q = eqb-true (b .volume) v e in
+        let same : getD next v [] ≡ applied (getD ms v []) (b .records) = rw (q, getD-set-same) in
+        ap₂ (λ (m : List ℕ) (is : List Taken). takenBy m b ∷ is) (ap (λ (w : ℕ). getD ms w []) q)
+        (ih ∙ ap (λ (m : List ℕ). imagesOf m (backupsIn v bs)) same)
+    go false e ih =
+        ih
+        ∙ ap (λ (m : List ℕ). imagesOf m (backupsIn v bs))
+        (getD-set-other ms (b .volume) v (applied (getD ms (b .volume) []) (b .records)) [] (λ q. eqb-false (b .volume) v e (sym q)))
 
 pub backupsIn-sound : (v : ℕ) (ms : List (List ℕ)) (bs : List Backup) → SoundAll ms bs → Sounds (getD ms v []) (backupsIn v bs)
 unfolding SoundAll Sounds

@@ -15,7 +15,7 @@ use Rattle.book.specs.Book.{volumes}
 use Rattle.model.specs.Days.{badDay, notAfter, badRetention}
 use Rattle.claims.proofs.kept.DayLaws.{good-day}
 use Rattle.model.specs.Plain
-use Rattle.model.specs.Plain.{Plain, withVolume, volumeAt, isEnrolled, daysOf, collected, enrolNumber, collectNumber}
+use Rattle.model.specs.Plain.{Plain, withRetention, retentionAt, isEnrolled, takenOf, daysOf, collected, enrolNumber, collectNumber}
 use Rattle.model.specs.PlainBackup
 use Rattle.model.specs.PlainBackup.{PlainWork, PlainBacked, backupNumber, runChanges, begun, closed}
 use Rattle.model.specs.Calls.{Call, enrol, backup, collect, read, audit}
@@ -33,12 +33,12 @@ choice-zero : (t : Bool) (n m : ℕ) → (if t then suc n else m) ≡ 0 → (t �
 choice-zero true n m e = absurd (omega arith)
 choice-zero false n m e = (refl, e)
 
-enrol-allowed : (q : Plain) (v r : ℕ) → enrolNumber q v r ≡ 0 → (v < volumes) × (volumeAt q v .retention ≡ 0)
+enrol-allowed : (q : Plain) (v r : ℕ) → enrolNumber q v r ≡ 0 → (v < volumes) × (retentionAt q v ≡ 0)
 unfolding enrolNumber
 enrol-allowed q v r e =
     let a = or-neither (ltb 7 v) (isEnrolled q v) (choice-zero (ltb 7 v || isEnrolled q v) 4 (if badRetention r then 6 else 0) e .0) in (
       omega (arith, ltb-false 7 v (a .0)),
-      eqb-true (volumeAt q v .retention) 0 (not-false (eqb (volumeAt q v .retention) 0) (a .1)),
+      eqb-true (retentionAt q v) 0 (not-false (eqb (retentionAt q v) 0) (a .1)),
     )
 
 collect-allowed : (q : Plain) (t : ℕ) → collectNumber q t ≡ 0 → q .day ≤ t
@@ -46,16 +46,15 @@ unfolding collectNumber
 collect-allowed q t e = good-day (q .day) t .0 (choice-zero (badDay (q .day) t) 6 0 e .0) .0
 
 backup-allowed : (q : Plain) (v t : ℕ) (list : List ℕ) → backupNumber q v t list ≡ 0
-    → (v < volumes) × (volumeAt q v .retention ≡ 0 → ⊥) × (q .day ≤ t)
+    → (retentionAt q v ≡ 0 → ⊥) × (q .day ≤ t)
 unfolding backupNumber
 backup-allowed q v t list e =
     let s = choice-zero (ltb 7 v || not (isEnrolled q v)) 4 _ e in
     let a = or-neither (ltb 7 v) (not (isEnrolled q v)) (s .0) in
     let bad = badDay (q .day) t in
-    let old = notAfter (daysOf (volumeAt q v .images)) t in
+    let old = notAfter (daysOf (takenOf v (q .taken))) t in
     let b = or-neither bad old (choice-zero (bad || old) 6 _ (s .1) .0) in (
-      omega (arith, ltb-false 7 v (a .0)),
-      eqb-false (volumeAt q v .retention) 0 (not-true (eqb (volumeAt q v .retention) 0) (not-false (isEnrolled q v) (a .1))),
+      eqb-false (retentionAt q v) 0 (not-true (eqb (retentionAt q v) 0) (not-false (isEnrolled q v) (a .1))),
       good-day (q .day) t .0 (b .0) .0,
     )
 
@@ -69,7 +68,7 @@ module _ {l d : ℕ} {q : Plain} {h : ℕ → History} (a : AllRecall l d q h) w
     day = a .day;
     room = a .room;
     volumeCount = a .volumeCount;
-    each = λ v. subst (λ (x : History). Recalls l d (q .blocks) (volumeAt q v) x) (e v) (a .each v);
+    each = λ v. subst (λ (x : History). Recalls l d (q .blocks) (retentionAt q v) (takenOf v (q .taken)) x) (e v) (a .each v);
   }
 
   -- a test that no answer passes
@@ -81,7 +80,7 @@ module _ {l d : ℕ} {q : Plain} {h : ℕ → History} (a : AllRecall l d q h) w
   enrol-step v r = go (enrolNumber q v r) refl
     where
       after : Outcome Plain
-      after = accepted (withVolume v (record { retention = r; images = [] }) q)
+      after = accepted (withRetention v r q)
 
       go : (n : ℕ) → enrolNumber q v r ≡ n
           → AllRecall l d (stepOf q (andThen (unless n after) storeEnrolled) .next)
@@ -116,7 +115,7 @@ module _ {l d : ℕ} {q : Plain} {h : ℕ → History} (a : AllRecall l d q h) w
     run-step e (refused k) f = refused-step k (not-refused k (rw f at (changes-proper (changes list) (begun q v))))
     run-step e (accepted w) f =
         let b = backup-allowed q v t list e in
-        backup-recalls a v t (changeCount list) (changes list) w (rw (← (a .day)) (b .2)) (b .0) (b .1) f
+        backup-recalls a v t (changeCount list) (changes list) w (rw (← (a .day)) (b .1)) (b .0) f
 
     abbrev ran : Outcome PlainWork
     ran = runChanges (changes list) (begun q v)

@@ -14,7 +14,7 @@ use Rattle.book.specs.Form.{sizesOk}
 use Rattle.book.proofs.SizesIn.{sizes-facts}
 use Rattle.model.specs.Days.{kept}
 use Rattle.model.specs.Plain
-use Rattle.model.specs.Plain.{Plain, Volume, unenrolled, free, start, volumeAt, isEnrolled, daysOf, bytesOf, cell}
+use Rattle.model.specs.Plain.{free, Taken, Plain, start, retentionAt, isEnrolled, takenOf, daysOf, mapsOf, bytesOf, cell}
 use Rattle.model.specs.Calls.{Call}
 use Rattle.model.specs.Sides.{answersOf, endOf, readAnswer, plain}
 use Rattle.model.specs.History.{Sent, History, historyOf, dayOf, sentBlock, isNone, blockOr, historyNumber, historyRead}
@@ -25,12 +25,11 @@ use Rattle.claims.proofs.plain.PlainRecallsOthers.{start-recalls}
 use Rattle.claims.proofs.plain.PlainHistory.{list-recalls}
 
 module _ {l d : ℕ} {q : Plain} {h : ℕ → History} (a : AllRecall l d q h) (v : ℕ) where
-  abbrev u : Volume
-  u = volumeAt q v
+  abbrev is : List Taken
+  is = takenOf v (q .taken)
 
   -- number 5
   same-enrolled : (ltb 7 v || not (isEnrolled q v)) ≡ eqb (h v .retention) 0
-  unfolding unenrolled
   same-enrolled = go (ltb 7 v) refl
     where
       not-not : (t : Bool) → not (not t) ≡ t
@@ -39,16 +38,15 @@ module _ {l d : ℕ} {q : Plain} {h : ℕ → History} (a : AllRecall l d q h) (
 
       go : (t : Bool) → ltb 7 v ≡ t → (t || not (isEnrolled q v)) ≡ eqb (h v .retention) 0
       go true e =
-          let past : length (q .volumes) ≤ v = omega (arith, a .volumeCount, ltb-true 7 v e) in
-          let z : u .retention ≡ 0 = ap (λ (x : Volume). x .retention) (List·getD-eq-default (q .volumes) unenrolled past) in
-          sym (eq-eqb (h v .retention) 0 (sym (a .each v .retention) ∙ z))
-      go false e = not-not (eqb (u .retention) 0) ∙ ap (λ (r : ℕ). eqb r 0) (a .each v .retention)
+          let past : length (q .retentions) ≤ v = omega (arith, a .volumeCount, ltb-true 7 v e) in
+          sym (eq-eqb (h v .retention) 0 (sym (a .each v .retention) ∙ List·getD-eq-default (q .retentions) 0 past))
+      go false e = not-not (eqb (retentionAt q v) 0) ∙ ap (λ (r : ℕ). eqb r 0) (a .each v .retention)
 
   -- numbers 15, 16 and 17
-  same-count : (k : ℕ) → (eqb k 0 || ltb (length (u .images)) k) ≡ (eqb k 0 || ltb (length (h v .sent)) k)
+  same-count : (k : ℕ) → (eqb k 0 || ltb (length (mapsOf is)) k) ≡ (eqb k 0 || ltb (length (h v .sent)) k)
   same-count k = rw (as-many (a .each v))
 
-  same-kept : (k : ℕ) → kept (daysOf (u .images)) (u .retention) (q .day) k
+  same-kept : (k : ℕ) → kept (daysOf is) (retentionAt q v) (q .day) k
       ≡ kept (map (λ (s : Sent). s .day) (h v .sent)) (h v .retention) d k
   same-kept k = rw (a .each v .days, a .each v .retention, a .day)
 
@@ -56,23 +54,23 @@ module _ {l d : ℕ} {q : Plain} {h : ℕ → History} (a : AllRecall l d q h) (
   same-logical lbn = rw (a .logical)
 
   -- number 18, and the bytes
-  cell-image : (k lbn : ℕ) → 0 < k → cell q v k lbn ≡ getD (imageAt l (u .images) k) lbn unmapped
+  cell-image : (k lbn : ℕ) → 0 < k → cell q v k lbn ≡ getD (imageAt l is k) lbn unmapped
   cell-image zero lbn i = absurd (omega arith)
   cell-image (suc k) lbn i = let e : suc k - 1 ≡ k = omega arith in rw (e, a .logical)
 
   lbn-there : (lbn : ℕ) → leb (q .sizes .l) lbn ≡ false → lbn < l
   lbn-there lbn e = leb-false l lbn (sym (same-logical lbn) ∙ e)
 
-  same-mapped : (k lbn : ℕ) → (eqb k 0 || ltb (length (u .images)) k) ≡ false → leb (q .sizes .l) lbn ≡ false
+  same-mapped : (k lbn : ℕ) → (eqb k 0 || ltb (length (mapsOf is)) k) ≡ false → leb (q .sizes .l) lbn ≡ false
       → eqb (cell q v k lbn) unmapped ≡ isNone (sentBlock (h v) k lbn)
   same-mapped k lbn e f =
-      let n = number-inside k (length (u .images)) e in
+      let n = number-inside k (length (mapsOf is)) e in
       ap (λ (p : ℕ). eqb p unmapped) (cell-image k lbn (n .0)) ∙ a .each v .maps k (n .1) lbn (lbn-there lbn f)
 
-  same-bytes : (k lbn : ℕ) → (eqb k 0 || ltb (length (u .images)) k) ≡ false → kept (daysOf (u .images)) (u .retention) (q .day) k ≡ true
+  same-bytes : (k lbn : ℕ) → (eqb k 0 || ltb (length (mapsOf is)) k) ≡ false → kept (daysOf is) (retentionAt q v) (q .day) k ≡ true
       → leb (q .sizes .l) lbn ≡ false → bytesOf (getD (q .blocks) (cell q v k lbn) free) ≡ blockOr [] (sentBlock (h v) k lbn)
   same-bytes k lbn e g f =
-      let n = number-inside k (length (u .images)) e in
+      let n = number-inside k (length (mapsOf is)) e in
       let c = a .each v .carries k (n .1) (rw (a .day) at g) lbn (lbn-there lbn f) in
       held-bytes-or (getD (q .blocks) (cell q v k lbn) free)
       ∙ ap (λ (p : ℕ). blockOr [] (shownAt (q .blocks) p)) (cell-image k lbn (n .0))
@@ -89,10 +87,10 @@ module _ {l d : ℕ} {q : Plain} {h : ℕ → History} (a : AllRecall l d q h) (
       (λ _. refl) (λ _ _. (refl, refl)) (λ _ e f. same-mapped k lbn e f) (λ _ e g f _. ap accepted (same-bytes k lbn e g f))))
     where
       absent : Bool
-      absent = eqb k 0 || ltb (length (u .images)) k
+      absent = eqb k 0 || ltb (length (mapsOf is)) k
 
       keeps : Bool
-      keeps = kept (daysOf (u .images)) (u .retention) (q .day) k
+      keeps = kept (daysOf is) (retentionAt q v) (q .day) k
 
 -- ---- every list of calls from the start
 

@@ -1,96 +1,98 @@
 -- A backup of the plain store keeps what its volumes sent.
-use Prim.Native.Nat.{ℕ, suc, _≤_, _<_}
-use mathlib.Core.Path.{_≡_, refl, sym, ap, _∙_}
+use Prim.Native.Nat.{ℕ, suc, _≤_}
+use mathlib.Core.Path.{_≡_, refl, sym, ap, subst, _∙_}
 use mathlib.Core.Logic.{_⊎_, inl, inr}
 use mathlib.Core.Bool.{Bool, true, false, _&&_}
-use mathlib.Core.List.{List, [], _∷_, _++_}
+use mathlib.Core.List.{List, [], _∷_, _++_, append-nil}
 use mathlib.Core.Option.{Option}
 use native.Mathlib.Numerals.{add-one}
 use native.Mathlib.Omega.{arith}
 use native.Mathlib.Nat.{le-refl}
 use lib.Dec.{ltb, eqb}
-use lib.ListN.{length, getD, length-append, length-map, length-set}
-use borrow.Author.Tests.{ltb-true, ltb-false}
+use lib.ListN.{length, getD, length-append}
+use borrow.Author.Tests.{ltb-true, ltb-false, eqb-true}
 use Rattle.words.specs.Blocks.{unmapped}
 use Rattle.words.specs.Choice.{if_then_else_}
-use Rattle.words.proofs.Appends.{map-append}
+use Rattle.words.proofs.Appends.{all-append, those-append, map-append}
 use Rattle.words.specs.Outcome.{accepted}
 use Rattle.runs.specs.Changes.{Change}
-use Rattle.book.specs.Book.{volumes}
 use Rattle.model.specs.Days.{kept}
-use Rattle.model.specs.Plain.{Block, Image, Volume, Plain, atDay, withBlocks, withVolume, volumeAt, daysOf, current}
-use Rattle.model.specs.PlainBackup.{PlainWork, runChanges, begun, withImage, closed}
+use Rattle.model.specs.Plain.{Block, image, Taken, Plain, atDay, withBlocks, withTaken, retentionAt, takenOf, daysOf, mapsOf, currentOf}
+use Rattle.model.specs.PlainBackup.{PlainWork, runChanges, begun, closed}
 use Rattle.model.specs.History.{Sent, History, withSent, sentBlock}
 use Rattle.claims.proofs.kept.DayLaws.{kept-newest}
+use Rattle.claims.proofs.kept.TakenLaws.{isBackup, maps-append}
 use Rattle.claims.proofs.plain.HistoryLaws.{sent-earlier, sent-newest, kept-shorter}
 use Rattle.claims.proofs.plain.PlainShows.{Maps, Carries, maps-same, carries-same}
 use Rattle.claims.proofs.plain.PlainPlacing.{grown-self}
 use Rattle.claims.proofs.plain.PlainChanges.{sentOver, Copies, run-copies}
-use Rattle.claims.proofs.plain.PlainRecalls.{imageAt, Recalls, AllRecall, as-many, current-image, image-earlier, image-newest}
-use Rattle.claims.proofs.plain.PlainRecalls.{recalls-later, recalls-set}
+use Rattle.claims.proofs.plain.PlainRecalls.{imageAt, Recalls, AllRecall, maps-days, as-many, current-image, image-earlier}
+use Rattle.claims.proofs.plain.PlainRecalls.{image-newest, recalls-later}
 
 -- ---- one more image, which shows what its changes sent, or else what the one before it shows
 
-module _ (l t n : ℕ) (bs : List Block) (u : Volume) (h : History) (cells : List ℕ) (cs : List Change) (r : Recalls l t bs u h) where
-  abbrev added : Image
-  added = record { day = t; cells = cells; changed = n }
+module _ (l t v n : ℕ) (bs : List Block) (span : ℕ) (is : List Taken) (h : History) (cells : List ℕ) (cs : List Change)
+    (r : Recalls l t bs span is h) where
+  abbrev added : Taken
+  added = record { volume = v; day = t; what = image cells; changes = n }
 
   abbrev sending : Sent
   sending = record { day = t; changes = cs }
 
   abbrev shown : ℕ → Option (List ℕ)
-  shown = sentOver cs (sentBlock h (length (u .images)))
+  shown = sentOver cs (sentBlock h (length (mapsOf is)))
 
-  longer : length (u .images ++ (added ∷ [])) ≡ suc (length (u .images))
-  longer = length-append (u .images) (added ∷ []) ∙ add-one (length (u .images))
+  longer : length (mapsOf (is ++ (added ∷ []))) ≡ suc (length (mapsOf is))
+  longer = ap length (maps-append is (added ∷ [])) ∙ length-append (mapsOf is) (cells ∷ []) ∙ add-one (length (mapsOf is))
 
-  days-longer : daysOf (u .images ++ (added ∷ [])) ≡ daysOf (u .images) ++ (t ∷ [])
-  days-longer = map-append (λ (i : Image). i .day) (u .images) (added ∷ [])
+  days-longer : daysOf (is ++ (added ∷ [])) ≡ daysOf is ++ (t ∷ [])
+  days-longer = map-append (λ (i : Taken). i .day) is (added ∷ [])
 
-  newest-sent : (lbn : ℕ) → shown lbn ≡ sentBlock (withSent sending h) (suc (length (u .images))) lbn
+  newest-sent : (lbn : ℕ) → shown lbn ≡ sentBlock (withSent sending h) (suc (length (mapsOf is))) lbn
   newest-sent lbn = rw (← (as-many r)) (sym (sent-newest h sending lbn))
 
-  earlier-sent : (k lbn : ℕ) → k ≤ length (u .images) → sentBlock h k lbn ≡ sentBlock (withSent sending h) k lbn
+  earlier-sent : (k lbn : ℕ) → k ≤ length (mapsOf is) → sentBlock h k lbn ≡ sentBlock (withSent sending h) k lbn
   earlier-sent k lbn e = sym (sent-earlier h sending k lbn (rw (as-many r) e))
 
   -- a number is an earlier one, or the new one
-  number-cases : (k : ℕ) → k ≤ length (u .images ++ (added ∷ [])) → (k ≤ length (u .images)) ⊎ (k ≡ suc (length (u .images)))
-  number-cases k e = go (ltb (length (u .images)) k) refl
+  number-cases : (k : ℕ) → k ≤ length (mapsOf (is ++ (added ∷ []))) → (k ≤ length (mapsOf is)) ⊎ (k ≡ suc (length (mapsOf is)))
+  number-cases k e = go (ltb (length (mapsOf is)) k) refl
     where
-      go : (b : Bool) → ltb (length (u .images)) k ≡ b → (k ≤ length (u .images)) ⊎ (k ≡ suc (length (u .images)))
-      go true f = inr (omega (arith, longer, ltb-true (length (u .images)) k f))
-      go false f = inl (ltb-false (length (u .images)) k f)
+      go : (b : Bool) → ltb (length (mapsOf is)) k ≡ b → (k ≤ length (mapsOf is)) ⊎ (k ≡ suc (length (mapsOf is)))
+      go true f = inr (omega (arith, longer, ltb-true (length (mapsOf is)) k f))
+      go false f = inl (ltb-false (length (mapsOf is)) k f)
 
-  added-maps : Maps l cells shown → (k : ℕ) → (k ≤ length (u .images)) ⊎ (k ≡ suc (length (u .images)))
-      → Maps l (imageAt l (u .images ++ (added ∷ [])) k) (sentBlock (withSent sending h) k)
+  added-maps : Maps l cells shown → (k : ℕ) → (k ≤ length (mapsOf is)) ⊎ (k ≡ suc (length (mapsOf is)))
+      → Maps l (imageAt l (is ++ (added ∷ [])) k) (sentBlock (withSent sending h) k)
   added-maps maps k (inl e) =
-      maps-same l (imageAt l (u .images) k) (imageAt l (u .images ++ (added ∷ [])) k) (sentBlock h k) (sentBlock (withSent sending h) k)
-      (sym (image-earlier l (u .images) added k e)) (λ lbn. earlier-sent k lbn e) (r .maps k e)
+      maps-same l (imageAt l is k) (imageAt l (is ++ (added ∷ [])) k) (sentBlock h k) (sentBlock (withSent sending h) k)
+      (sym (image-earlier l is added k e)) (λ lbn. earlier-sent k lbn e) (r .maps k e)
   added-maps maps k (inr e) =
       rw e
-      (maps-same l cells (imageAt l (u .images ++ (added ∷ [])) (suc (length (u .images)))) shown
-      (sentBlock (withSent sending h) (suc (length (u .images)))) (sym (image-newest l (u .images) added)) newest-sent maps)
+      (maps-same l cells (imageAt l (is ++ (added ∷ [])) (suc (length (mapsOf is)))) shown
+      (sentBlock (withSent sending h) (suc (length (mapsOf is)))) (sym (image-newest l is added cells refl)) newest-sent maps)
 
-  added-carries : Carries l bs cells shown → (k : ℕ) → (k ≤ length (u .images)) ⊎ (k ≡ suc (length (u .images)))
-      → kept (daysOf (u .images ++ (added ∷ []))) (u .retention) t k ≡ true
-      → Carries l bs (imageAt l (u .images ++ (added ∷ [])) k) (sentBlock (withSent sending h) k)
+  added-carries : Carries l bs cells shown → (k : ℕ) → (k ≤ length (mapsOf is)) ⊎ (k ≡ suc (length (mapsOf is)))
+      → kept (daysOf (is ++ (added ∷ []))) span t k ≡ true
+      → Carries l bs (imageAt l (is ++ (added ∷ [])) k) (sentBlock (withSent sending h) k)
   added-carries carries k (inl e) f =
-      carries-same l (imageAt l (u .images) k) (imageAt l (u .images ++ (added ∷ [])) k) (sentBlock h k) (sentBlock (withSent sending h) k)
-      (sym (image-earlier l (u .images) added k e)) (λ lbn. earlier-sent k lbn e) bs
-      (r .carries k e (kept-shorter (daysOf (u .images)) t (u .retention) t k (rw length-map e) (rw days-longer at f)))
+      carries-same l (imageAt l is k) (imageAt l (is ++ (added ∷ [])) k) (sentBlock h k) (sentBlock (withSent sending h) k)
+      (sym (image-earlier l is added k e)) (λ lbn. earlier-sent k lbn e) bs
+      (r .carries k e (kept-shorter (daysOf is) t span t k (rw (← (maps-days r)) e) (rw days-longer at f)))
   added-carries carries k (inr e) f =
       rw e
-      (carries-same l cells (imageAt l (u .images ++ (added ∷ [])) (suc (length (u .images)))) shown
-      (sentBlock (withSent sending h) (suc (length (u .images)))) (sym (image-newest l (u .images) added)) newest-sent bs carries)
+      (carries-same l cells (imageAt l (is ++ (added ∷ [])) (suc (length (mapsOf is)))) shown
+      (sentBlock (withSent sending h) (suc (length (mapsOf is)))) (sym (image-newest l is added cells refl)) newest-sent bs carries)
 
-  recalls-added : (u .retention ≡ 0 → ⊥) → length cells ≡ l → Maps l cells shown → Carries l bs cells shown
-      → Recalls l t bs (withImage added u) (withSent sending h)
-  unfolding withImage withSent
+  recalls-added : (span ≡ 0 → ⊥) → length cells ≡ l → Maps l cells shown → Carries l bs cells shown
+      → Recalls l t bs span (is ++ (added ∷ [])) (withSent sending h)
+  unfolding withSent
   recalls-added used wide maps carries = record {
     retention = r .retention;
+    backups = all-append isBackup is (added ∷ []) ∙ rw (r .backups);
     days = days-longer ∙ ap (λ (ds : List ℕ). ds ++ (t ∷ [])) (r .days) ∙ sym (map-append (λ (s : Sent). s .day) (h .sent) (sending ∷ []));
     unused = λ e. absurd (used e);
-    wide = rw (longer, image-newest l (u .images) added) wide;
+    wide = rw (longer, image-newest l is added cells refl) wide;
     maps = λ k e. added-maps maps k (number-cases k e);
     carries = λ k e. added-carries carries k (number-cases k e);
   }
@@ -98,31 +100,31 @@ module _ (l t n : ℕ) (bs : List Block) (u : Volume) (h : History) (cells : Lis
 -- ---- the whole call
 
 module _ {l d : ℕ} {q : Plain} {h : ℕ → History} (a : AllRecall l d q h) (v : ℕ) where
-  abbrev images : List Image
-  images = volumeAt q v .images
+  abbrev images : List Taken
+  images = takenOf v (q .taken)
 
   abbrev was : ℕ → Option (List ℕ)
-  was = sentBlock (h v) (length images)
+  was = sentBlock (h v) (length (mapsOf images))
 
-  copy-begun : current (q .sizes) (volumeAt q v) ≡ imageAt l images (length images)
-  copy-begun = current-image (q .sizes) (volumeAt q v) ∙ ap (λ (m : ℕ). imageAt m images (length images)) (a .logical)
+  copy-begun : currentOf q v ≡ imageAt l images (length (mapsOf images))
+  copy-begun = current-image (q .sizes) images (a .each v .backups) ∙ ap (λ (m : ℕ). imageAt m images (length (mapsOf images))) (a .logical)
 
   begun-copies : Copies l (q .blocks) was (begun q v)
   unfolding begun
   begun-copies =
       let r = a .each v in
-      let newest : kept (daysOf images) (volumeAt q v .retention) d (length images) ≡ true =
-      kept-newest (daysOf images) (volumeAt q v .retention) d (length images) (rw length-map (le-refl (length images))) in
-      let maps = r .maps (length images) (le-refl (length images)) in
-      let carries = r .carries (length images) (le-refl (length images)) newest in
+      let newest : kept (daysOf images) (retentionAt q v) d (length (mapsOf images)) ≡ true =
+      kept-newest (daysOf images) (retentionAt q v) d (length (mapsOf images)) (rw (← (maps-days r)) (le-refl (length (mapsOf images)))) in
+      let maps = r .maps (length (mapsOf images)) (le-refl (length (mapsOf images))) in
+      let carries = r .carries (length (mapsOf images)) (le-refl (length (mapsOf images))) newest in
       record {
         grown = grown-self (q .blocks);
         wide = ap length copy-begun ∙ r .wide;
         maps =
-            maps-same l (imageAt l images (length images)) (current (q .sizes) (volumeAt q v)) was was (sym copy-begun)
+            maps-same l (imageAt l images (length (mapsOf images))) (currentOf q v) was was (sym copy-begun)
             (λ lbn. refl) maps;
         carries =
-            carries-same l (imageAt l images (length images)) (current (q .sizes) (volumeAt q v)) was was (sym copy-begun) (λ lbn. refl)
+            carries-same l (imageAt l images (length (mapsOf images))) (currentOf q v) was was (sym copy-begun) (λ lbn. refl)
             (q .blocks) carries;
       }
 
@@ -130,30 +132,38 @@ module _ {l d : ℕ} {q : Plain} {h : ℕ → History} (a : AllRecall l d q h) (
     enough : length (w .blocks) ≤ unmapped
     enough = rw (c .grown .long) (a .room)
 
-    others-recall : (x : ℕ) → Recalls l t (w .blocks) (volumeAt q x) (h x)
+    others-recall : (x : ℕ) → Recalls l t (w .blocks) (retentionAt q x) (takenOf x (q .taken)) (h x)
     others-recall x =
-        recalls-later l d t (q .blocks) (w .blocks) (volumeAt q x) (h x) later enough
-        (λ k lbn b hk e s z. c .grown .keeps (getD (imageAt l (volumeAt q x .images) k) lbn unmapped) b z)
+        recalls-later l d t (q .blocks) (w .blocks) (retentionAt q x) (takenOf x (q .taken)) (h x) later enough
+        (λ k lbn b hk e s z. c .grown .keeps (getD (imageAt l (takenOf x (q .taken)) k) lbn unmapped) b z)
         (a .each x)
 
-    closed-recalls : v < volumes → (volumeAt q v .retention ≡ 0 → ⊥)
-        → AllRecall l t (closed q v t n w .store) (λ x. if eqb v x && true then withSent (record { day = t; changes = cs }) (h x) else h x)
-    unfolding closed atDay withBlocks withVolume
-    closed-recalls inside used =
-        let inside′ : v < length (q .volumes) = rw (a .volumeCount) inside in
-        record {
-          logical = a .logical;
-          day = refl;
-          room = enough;
-          volumeCount = length-set (q .volumes) v _ ∙ a .volumeCount;
-          each =
-              recalls-set l t (w .blocks) (q .volumes) v (withImage (record { day = t; cells = w .copy; changed = n }) (volumeAt q v)) h
-              (withSent (record { day = t; changes = cs })) inside′ others-recall
-              (recalls-added l t n (w .blocks) (volumeAt q v) (h v) (w .copy) cs (others-recall v) used (c .wide) (c .maps) (c .carries));
-        }
+    abbrev new : Taken
+    new = record { volume = v; day = t; what = image (w .copy); changes = n }
 
-  pub backup-recalls : (t n : ℕ) (cs : List Change) (w : PlainWork) → d ≤ t → v < volumes → (volumeAt q v .retention ≡ 0 → ⊥)
+    each-recalls : (retentionAt q v ≡ 0 → ⊥) → (x : ℕ) (s : Bool) → eqb v x ≡ s
+        → Recalls l t (w .blocks) (retentionAt q x) (takenOf x (q .taken) ++ (if s then new ∷ [] else []))
+        (if s && true then withSent (record { day = t; changes = cs }) (h x) else h x)
+    each-recalls used x true e =
+        subst (λ (x : ℕ). Recalls l t (w .blocks) (retentionAt q x) (takenOf x (q .taken) ++ (new ∷ []))
+        (withSent (record { day = t; changes = cs }) (h x))) (eqb-true v x e)
+        (recalls-added l t v n (w .blocks) (retentionAt q v) (takenOf v (q .taken)) (h v) (w .copy) cs (others-recall v) used (c .wide)
+        (c .maps) (c .carries))
+    each-recalls used x false e = rw (append-nil (takenOf x (q .taken))) (others-recall x)
+
+    closed-recalls : (retentionAt q v ≡ 0 → ⊥)
+        → AllRecall l t (closed q v t n w .store) (λ x. if eqb v x && true then withSent (record { day = t; changes = cs }) (h x) else h x)
+    unfolding closed atDay withBlocks withTaken
+    closed-recalls used = record {
+      logical = a .logical;
+      day = refl;
+      room = enough;
+      volumeCount = a .volumeCount;
+      each = λ x. rw (those-append (λ (i : Taken). eqb (i .volume) x) (q .taken) (new ∷ [])) (each-recalls used x (eqb v x) refl);
+    }
+
+  pub backup-recalls : (t n : ℕ) (cs : List Change) (w : PlainWork) → d ≤ t → (retentionAt q v ≡ 0 → ⊥)
       → runChanges cs (begun q v) ≡ accepted w
       → AllRecall l t (closed q v t n w .store) (λ x. if eqb v x && true then withSent (record { day = t; changes = cs }) (h x) else h x)
-  backup-recalls t n cs w later inside used e =
-      closed-recalls t n cs w later (run-copies l (q .blocks) (a .room) cs was (begun q v) w begun-copies e) inside used
+  backup-recalls t n cs w later used e =
+      closed-recalls t n cs w later (run-copies l (q .blocks) (a .room) cs was (begun q v) w begun-copies e) used

@@ -1,34 +1,36 @@
 -- Enrol and collect of the plain store keep what its volumes sent, and so it starts.
 use Prim.Native.Nat.{ℕ, zero, suc, _≤_, _<_}
-use mathlib.Core.Path.{_≡_, refl, sym, ap, _∙_}
+use mathlib.Core.Path.{_≡_, refl, sym, ap, subst, _∙_}
 use mathlib.Core.Bool.{Bool, true, false, _&&_}
 use mathlib.Core.List.{List, [], _∷_, map}
 use mathlib.Core.Option.{none, some}
 use native.Mathlib.Omega.{arith}
 use lib.Dec.{ltb, eqb}
-use lib.ListN.{length, getD, replicate, length-set, length-replicate, List·getD-eq-default}
-use borrow.Author.Tests.{ltb-true, ltb-false, eq-eqb}
+use lib.ListN.{length, getD, set, replicate, length-set, length-replicate, List·getD-eq-default}
+use lib.Seq.{getD-set-same, getD-set-other}
+use borrow.Author.Tests.{ltb-true, ltb-false, eq-eqb, eqb-true, eqb-false}
 use Rattle.words.specs.Blocks.{unmapped}
 use Rattle.words.specs.Choice.{if_then_else_}
 use Rattle.words.proofs.Options.{none-not}
 use Rattle.words.proofs.Places.{getD-replicated}
 use Rattle.book.specs.Book.{volumes, Sizes}
 use Rattle.model.specs.Days.{kept}
-use Rattle.model.specs.Plain.{Block, free, Volume, unenrolled, Plain, start, atDay, withBlocks, withVolume, volumeAt, daysOf, mapsOf}
+use Rattle.model.specs.Plain.{Block, free, Taken, Plain, start, atDay, withBlocks, withRetention, retentionAt, takenOf, daysOf, mapsOf}
 use Rattle.model.specs.Plain.{marked, swept, collected}
 use Rattle.model.specs.History.{Sent, History, noHistory, withEnrol, sentBlock}
 use Rattle.claims.proofs.plain.PlainShows.{heldBytes, shownAt, shown-past, Maps, Carries}
 use Rattle.claims.proofs.kept.KeptNames.{cell-names}
+use Rattle.claims.proofs.kept.TakenLaws.{backups-end}
 use Rattle.claims.proofs.plain.PlainMarks.{kept-marked, length-swept, swept-marked}
-use Rattle.claims.proofs.plain.PlainRecalls.{imageAt, Recalls, AllRecall, as-many, recalls-later, recalls-set}
+use Rattle.claims.proofs.plain.PlainRecalls.{imageAt, Recalls, AllRecall, as-many, recalls-later}
 
 -- nothing is sent before backup 1
 none-sent : (h : History) (lbn : ℕ) → sentBlock h 0 lbn ≡ none
 unfolding sentBlock
 none-sent h lbn = refl
 
--- a volume without images, of which nothing was sent
-module _ (l d r : ℕ) (bs : List Block) (h : History) (room : length bs ≤ unmapped) where
+-- a volume of which nothing was taken and nothing was sent
+module _ (l d span : ℕ) (bs : List Block) (h : History) (room : length bs ≤ unmapped) where
   no-days : (ss : List Sent) → length ss ≡ 0 → [] ≡ map (λ (s : Sent). s .day) ss
   no-days [] e = refl
   no-days (s ∷ ss) e = absurd (omega arith)
@@ -41,9 +43,10 @@ module _ (l d r : ℕ) (bs : List Block) (h : History) (room : length bs ≤ unm
   no-carries zero e lbn i = rw (getD-replicated l unmapped lbn, none-sent h lbn) (shown-past bs unmapped room)
   no-carries (suc k) e lbn i = absurd (omega arith)
 
-  none-recalls : r ≡ h .retention → length (h .sent) ≡ 0 → Recalls l d bs (record { retention = r; images = [] }) h
+  none-recalls : span ≡ h .retention → length (h .sent) ≡ 0 → Recalls l d bs span [] h
   none-recalls e n = record {
     retention = e;
+    backups = refl;
     days = no-days (h .sent) n;
     unused = λ z. refl;
     wide = length-replicate l unmapped;
@@ -54,7 +57,7 @@ module _ (l d r : ℕ) (bs : List Block) (h : History) (room : length bs ≤ unm
 -- ---- the start
 
 pub start-recalls : (z : Sizes) → z .n ≤ unmapped → AllRecall (z .l) 0 (start z) (λ v. noHistory)
-unfolding start unenrolled noHistory
+unfolding start noHistory
 start-recalls z room =
     let enough : length (replicate (z .n) free) ≤ unmapped = rw length-replicate room in
     record {
@@ -62,35 +65,35 @@ start-recalls z room =
       day = refl;
       room = enough;
       volumeCount = refl;
-      each = λ v. rw (getD-replicated volumes unenrolled v) (none-recalls (z .l) 0 0 (replicate (z .n) free) noHistory enough refl refl);
+      each = λ v. rw (getD-replicated {A = ℕ} volumes 0 v) (none-recalls (z .l) 0 0 (replicate (z .n) free) noHistory enough refl refl);
     }
 
 -- ---- collect
 
--- a volume that isn't there has no images
-volume-there : (q : Plain) (v k : ℕ) → k < length (volumeAt q v .images) → v < length (q .volumes)
-unfolding unenrolled
-volume-there q v k h = go (ltb v (length (q .volumes))) refl
-  where
-    go : (t : Bool) → ltb v (length (q .volumes)) ≡ t → v < length (q .volumes)
-    go true e = ltb-true v (length (q .volumes)) e
-    go false e =
-        let z : volumeAt q v ≡ unenrolled = List·getD-eq-default (q .volumes) unenrolled (ltb-false v (length (q .volumes)) e) in
-        absurd (omega (arith, ap (λ (u : Volume). length (u .images)) z))
-
 module _ {l d : ℕ} {q : Plain} {h : ℕ → History} (a : AllRecall l d q h) where
+  -- of a volume that isn't there nothing was taken
+  volume-there : (v k : ℕ) → k < length (mapsOf (takenOf v (q .taken))) → v < volumes
+  volume-there v k i = go (ltb v volumes) refl
+    where
+      go : (t : Bool) → ltb v volumes ≡ t → v < volumes
+      go true e = ltb-true v volumes e
+      go false e =
+          let past : length (q .retentions) ≤ v = omega (arith, a .volumeCount, ltb-false v volumes e) in
+          let none = a .each v .unused (List·getD-eq-default (q .retentions) 0 past) in
+          absurd (omega (arith, ap (λ (is : List Taken). length (mapsOf is)) none))
+
   -- what a map kept at t shows is marked, and stays
-  marked-stays : (t v k lbn : ℕ) (b : List ℕ) → k ≤ length (volumeAt q v .images)
-      → kept (daysOf (volumeAt q v .images)) (volumeAt q v .retention) t k ≡ true → sentBlock (h v) k lbn ≡ some b
-      → shownAt (q .blocks) (getD (imageAt l (volumeAt q v .images) k) lbn unmapped) ≡ some b
-      → shownAt (swept (marked q t) 0 (q .blocks)) (getD (imageAt l (volumeAt q v .images) k) lbn unmapped) ≡ some b
+  marked-stays : (t v k lbn : ℕ) (b : List ℕ) → k ≤ length (mapsOf (takenOf v (q .taken)))
+      → kept (daysOf (takenOf v (q .taken))) (retentionAt q v) t k ≡ true → sentBlock (h v) k lbn ≡ some b
+      → shownAt (q .blocks) (getD (imageAt l (takenOf v (q .taken)) k) lbn unmapped) ≡ some b
+      → shownAt (swept (marked q t) 0 (q .blocks)) (getD (imageAt l (takenOf v (q .taken)) k) lbn unmapped) ≡ some b
   marked-stays t v zero lbn b hk e s z = absurd (none-not b (sym (none-sent (h v) lbn) ∙ s))
   marked-stays t v (suc k) lbn b hk e s z =
-      let m = getD (mapsOf (volumeAt q v .images)) k (replicate l unmapped) in
+      let m = getD (mapsOf (takenOf v (q .taken))) k (replicate l unmapped) in
       let p = getD m lbn unmapped in
       let n : p ≡ unmapped → ⊥ = λ f. not-unmapped p f z in
       ap heldBytes (swept-marked (marked q t) p (q .blocks)
-      (kept-marked q t v k p (replicate l unmapped) (volume-there q v k hk) hk e (cell-names p lbn m n (eq-eqb p p refl))))
+      (kept-marked q t v k p (replicate l unmapped) (volume-there v k hk) (backups-end (takenOf v (q .taken)) (a .each v .backups)) hk e (cell-names p lbn m n (eq-eqb p p refl))))
       ∙ z
     where
       not-unmapped : (p : ℕ) → p ≡ unmapped → shownAt (q .blocks) p ≡ some b → ⊥
@@ -107,28 +110,38 @@ module _ {l d : ℕ} {q : Plain} {h : ℕ → History} (a : AllRecall l d q h) w
         room = room;
         volumeCount = a .volumeCount;
         each = λ v.
-            recalls-later l d t (q .blocks) (swept (marked q t) 0 (q .blocks)) (volumeAt q v) (h v) later room
+            recalls-later l d t (q .blocks) (swept (marked q t) 0 (q .blocks)) (retentionAt q v) (takenOf v (q .taken)) (h v) later room
             (marked-stays t v) (a .each v);
       }
 
   -- ---- enrol
 
-  enrolled-recalls : (v r : ℕ) → volumeAt q v .retention ≡ 0
-      → Recalls l d (q .blocks) (record { retention = r; images = [] }) (withEnrol r (h v))
+  enrolled-recalls : (v r : ℕ) → retentionAt q v ≡ 0 → Recalls l d (q .blocks) r (takenOf v (q .taken)) (withEnrol r (h v))
   unfolding withEnrol
   enrolled-recalls v r e =
-      none-recalls l d r (q .blocks) (withEnrol r (h v)) (a .room) refl (as-many (a .each v) ∙ a .each v .unused e)
+      let none = a .each v .unused e in
+      let unsent : length (h v .sent) ≡ 0 = as-many (a .each v) ∙ ap (λ (is : List Taken). length (mapsOf is)) none in
+      subst (λ (is : List Taken). Recalls l d (q .blocks) r is (withEnrol r (h v))) (sym none)
+      (none-recalls l d r (q .blocks) (withEnrol r (h v)) (a .room) refl unsent)
 
-  pub enrol-recalls : (v r : ℕ) → v < volumes → volumeAt q v .retention ≡ 0
-      → AllRecall l d (withVolume v (record { retention = r; images = [] }) q) (λ x. if eqb v x && true then withEnrol r (h x) else h x)
-  unfolding withVolume
-  enrol-recalls v r inside e =
-      record {
-        logical = a .logical;
-        day = a .day;
-        room = a .room;
-        volumeCount = length-set (q .volumes) v _ ∙ a .volumeCount;
-        each =
-            recalls-set l d (q .blocks) (q .volumes) v (record { retention = r; images = [] }) h (withEnrol r) (rw (a .volumeCount) inside)
-            (a .each) (enrolled-recalls v r e);
-      }
+  pub enrol-recalls : (v r : ℕ) → v < volumes → retentionAt q v ≡ 0
+      → AllRecall l d (withRetention v r q) (λ x. if eqb v x && true then withEnrol r (h x) else h x)
+  unfolding withRetention
+  enrol-recalls v r inside e = record {
+    logical = a .logical;
+    day = a .day;
+    room = a .room;
+    volumeCount = length-set (q .retentions) v r ∙ a .volumeCount;
+    each = λ w. go w (eqb v w) refl;
+  }
+    where
+      there : v < length (q .retentions)
+      there = rw (a .volumeCount) inside
+
+      go : (w : ℕ) (t : Bool) → eqb v w ≡ t
+          → Recalls l d (q .blocks) (getD (set (q .retentions) v r) w 0) (takenOf w (q .taken)) (if t && true then withEnrol r (h w) else h w)
+      go w true f =
+          subst (λ (x : ℕ). Recalls l d (q .blocks) (getD (set (q .retentions) v r) x 0) (takenOf x (q .taken)) (withEnrol r (h x)))
+          (eqb-true v w f)
+          (rw (getD-set-same (q .retentions) v r 0 there) (enrolled-recalls v r e))
+      go w false f = rw (getD-set-other (q .retentions) v w r 0 (λ g. eqb-false v w f (sym g))) (a .each w)
