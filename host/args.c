@@ -20,6 +20,7 @@ const struct option_name option_names[OPTION_COUNT] = {
     [OPTION_DAY] = {"--day", "DATE"},
     [OPTION_DAY_NUMBER] = {"--day-number", "D"},
     [OPTION_AHEAD] = {"--ahead", NULL},
+    [OPTION_YES] = {"--yes", NULL},
     [OPTION_LATEST] = {"--latest", NULL},
     [OPTION_DATE] = {"--date", "DATE"},
     [OPTION_LBNS] = {"--lbns", "A-B"},

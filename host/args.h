@@ -14,6 +14,7 @@ enum option {
     OPTION_DAY,
     OPTION_DAY_NUMBER,
     OPTION_AHEAD,
+    OPTION_YES,
     OPTION_LATEST,
     OPTION_DATE,
     OPTION_LBNS,

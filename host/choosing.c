@@ -10,3 +10,10 @@ uint16_t newest_by(struct bytes rows, long day)
         number--;
     return number;
 }
+
+uint16_t newest_kept(struct bytes rows)
+{
+    uint16_t newest = newest_by(rows, ASPEN_MAX_DAY);
+
+    return newest > 0 && view_backup(rows, newest).kept ? newest : 0;
+}

@@ -8,4 +8,8 @@
  * none. */
 uint16_t newest_by(struct bytes rows, long day);
 
+/* The newest backup if it is kept, and 0 if it isn't or there is none. Only that of a retired volume
+ * may not be kept, and then no earlier one is either: each is kept for as many days. */
+uint16_t newest_kept(struct bytes rows);
+
 #endif

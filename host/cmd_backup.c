@@ -20,11 +20,14 @@ struct answer {
 static void compare(struct store *store, const struct request *request, struct asked *asked,
                     struct image *image)
 {
+    struct volume volume;
+
     open_to_write(store, request);
     store_load_pool(store);
     if (store->pool.length != aspen_pool_size(view_figures(store->book).blocks))
         refuse_store(store, ASPEN_BAD_POOL);
-    if (!view_volume(store->book, asked->volume).enrolled)
+    volume = view_volume(store->book, asked->volume);
+    if (!volume.enrolled || volume.retired)
         refuse(ASPEN_BAD_VOLUME, asked);
     asked->day = day_asked(store, request);
     image_fit(image, store);

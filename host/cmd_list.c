@@ -38,10 +38,12 @@ static struct shown look_up(const struct store *store, struct bytes rows, uint16
 /* Which backups restore would take. */
 static void show_chosen_text(const struct listing *listing, struct bytes rows)
 {
-    uint16_t newest = (uint16_t)(rows.length / ASPEN_BACKUP_ROW), number;
+    uint16_t newest = newest_kept(rows), number;
 
     if (newest > 0)
         say("  restore --latest takes backup %u", newest);
+    else if (rows.length > 0)
+        say("  restore --latest takes none: no backup is kept any more");
     if (listing->date == NULL)
         return;
     number = newest_by(rows, listing->day);
@@ -51,13 +53,28 @@ static void show_chosen_text(const struct listing *listing, struct bytes rows)
         say("  restore --date %s takes none: there is no backup by then", listing->date);
 }
 
-static void show_text(const struct listing *listing, uint16_t volume, uint16_t keep,
+static void show_head_text(const struct listing *listing, uint16_t volume,
+                           const struct volume *found)
+{
+    char date[DATE_TEXT];
+
+    if (found->retired)
+        say("volume %u was retired on %s; its backups are kept %u days", volume,
+            store_date(listing->store, found->retired_on, date), found->keep);
+    else
+        say("volume %u keeps its backups %u days", volume, found->keep);
+    if (found->backups > 0)
+        say("  number  day         kept until  changed");
+    else
+        say("%s", found->retired ? "  no backup" : "  no backup yet");
+}
+
+static void show_text(const struct listing *listing, uint16_t volume, const struct volume *found,
                       struct bytes rows)
 {
     uint16_t backups = (uint16_t)(rows.length / ASPEN_BACKUP_ROW);
 
-    say("volume %u keeps its backups %u days", volume, keep);
-    say("%s", backups == 0 ? "  no backup yet" : "  number  day         kept until  changed");
+    show_head_text(listing, volume, found);
     for (uint16_t number = 1; number <= backups; number++) {
         struct shown shown = look_up(listing->store, rows, number);
 
@@ -92,19 +109,22 @@ static void json_choice(const char *key, uint16_t number)
         json_null(key);
 }
 
-static void show_json(const struct listing *listing, uint16_t volume, uint16_t keep,
+static void show_json(const struct listing *listing, uint16_t volume, const struct volume *found,
                       struct bytes rows)
 {
     uint16_t backups = (uint16_t)(rows.length / ASPEN_BACKUP_ROW);
+    char date[DATE_TEXT];
 
     json_open(NULL, '{');
     json_number("volume", volume);
-    json_number("keep", keep);
+    json_number("keep", found->keep);
+    if (found->retired)
+        json_string("retired", store_date(listing->store, found->retired_on, date));
     json_open("backups", '[');
     for (uint16_t number = 1; number <= backups; number++)
         show_backup_json(listing->store, rows, number);
     json_close(']');
-    json_choice("latest_takes", backups);
+    json_choice("latest_takes", newest_kept(rows));
     if (listing->date != NULL)
         json_choice("date_takes", newest_by(rows, listing->day));
     json_close('}');
@@ -119,7 +139,7 @@ static void show_volumes(const struct listing *listing, uint16_t first, uint16_t
         if (!found.enrolled)
             continue;
         rows = view_backups(listing->store->book, volume);
-        (messages_json() ? show_json : show_text)(listing, volume, found.keep, rows);
+        (messages_json() ? show_json : show_text)(listing, volume, &found, rows);
         bytes_free(&rows);
     }
 }

@@ -55,6 +55,20 @@ static void read_lbns(struct restored *restored, const char *text)
     free(first);
 }
 
+/* --latest of a retired volume all of whose backups are past their days. */
+static _Noreturn void refuse_latest(const struct asked *asked, struct bytes rows)
+{
+    const struct store *store = asked->store;
+    struct volume volume = view_volume(store->book, asked->volume);
+    char retired[DATE_TEXT], until[DATE_TEXT];
+
+    fail_refused(STATUS_REFUSED, ASPEN_NOT_KEPT,
+                 "volume %u was retired on %s and no backup of it is kept any more; the newest was "
+                 "until %s",
+                 asked->volume, store_date(store, volume.retired_on, retired),
+                 store_date(store, view_backup(rows, volume.backups).until, until));
+}
+
 /* The number of the backup that is meant: a word, or that which an option chooses. */
 static void choose_backup(struct asked *asked, const struct request *request)
 {
@@ -69,8 +83,10 @@ static void choose_backup(struct asked *asked, const struct request *request)
     if (!view_volume(store->book, asked->volume).enrolled)
         refuse(ASPEN_BAD_VOLUME, asked);
     rows = view_backups(store->book, asked->volume);
-    asked->number =
-        newest_by(rows, date != NULL ? day_of_option(store, request, OPTION_DATE) : ASPEN_MAX_DAY);
+    asked->number = date != NULL ? newest_by(rows, day_of_option(store, request, OPTION_DATE))
+                                 : newest_kept(rows);
+    if (asked->number == 0 && rows.length > 0 && date == NULL)
+        refuse_latest(asked, rows);
     if (asked->number == 0 && rows.length > 0)
         fail_refused(STATUS_REFUSED, ASPEN_NO_BACKUP,
                      "volume %u has no backup on or before %s; its first is of %s", asked->volume,

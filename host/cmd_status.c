@@ -30,8 +30,8 @@ struct summary {
 
 struct newest {
     struct volume volume;
-    uint16_t day; /* of its newest backup, if it has one */
-    long age;     /* in days by the clock */
+    struct backup backup; /* its newest, if it has one */
+    long age;             /* in days by the clock */
 };
 
 static struct newest newest_of(const struct store *store, uint16_t volume)
@@ -42,8 +42,8 @@ static struct newest newest_of(const struct store *store, uint16_t volume)
     if (!newest.volume.enrolled || newest.volume.backups == 0)
         return newest;
     rows = view_backups(store->book, volume);
-    newest.day = view_backup(rows, newest.volume.backups).day;
-    newest.age = date_today() - store->lock.day_zero - newest.day;
+    newest.backup = view_backup(rows, newest.volume.backups);
+    newest.age = date_today() - store->lock.day_zero - newest.backup.day;
     bytes_free(&rows);
     return newest;
 }
@@ -58,9 +58,11 @@ static bool is_nearly_full(const struct summary *summary, const struct fill *fil
     return 100 * fill->used >= summary->percent * fill->room;
 }
 
+/* No further backup of a retired volume is waited for. */
 static bool is_old(const struct summary *summary, const struct newest *newest)
 {
-    return summary->older >= 0 && (newest->volume.backups == 0 || newest->age > summary->older);
+    return summary->older >= 0 && !newest->volume.retired &&
+           (newest->volume.backups == 0 || newest->age > summary->older);
 }
 
 static void summarize(struct summary *summary, const struct request *request)
@@ -112,17 +114,34 @@ static void warn(struct summary *summary)
 
 /* ---- in words */
 
+static void show_retired_text(const struct store *store, uint16_t volume,
+                              const struct newest *newest)
+{
+    char retired[DATE_TEXT], date[DATE_TEXT], until[DATE_TEXT];
+
+    store_date(store, newest->volume.retired_on, retired);
+    if (newest->volume.backups == 0)
+        say("volume %u: retired on %s, no backup", volume, retired);
+    else
+        say("volume %u: retired on %s, %u backup%s, the newest of %s %s kept until %s", volume,
+            retired, newest->volume.backups, newest->volume.backups == 1 ? "" : "s",
+            store_date(store, newest->backup.day, date), newest->backup.kept ? "is" : "was",
+            store_date(store, newest->backup.until, until));
+}
+
 static void show_volume_text(const struct store *store, uint16_t volume,
                              const struct newest *newest)
 {
     char date[DATE_TEXT];
 
-    if (newest->volume.backups == 0)
+    if (newest->volume.retired)
+        show_retired_text(store, volume, newest);
+    else if (newest->volume.backups == 0)
         say("volume %u: no backup yet", volume);
     else
         say("volume %u: %u backup%s, the newest of %s, %ld day%s %s", volume,
             newest->volume.backups, newest->volume.backups == 1 ? "" : "s",
-            store_date(store, newest->day, date), labs(newest->age),
+            store_date(store, newest->backup.day, date), labs(newest->age),
             labs(newest->age) == 1 ? "" : "s", newest->age < 0 ? "ahead of the clock" : "ago");
 }
 
@@ -158,10 +177,15 @@ static void show_volume_json(const struct store *store, uint16_t volume,
     json_open(NULL, '{');
     json_number("volume", volume);
     json_number("keep", newest->volume.keep);
+    if (newest->volume.retired)
+        json_string("retired", store_date(store, newest->volume.retired_on, date));
     json_number("backups", newest->volume.backups);
     if (newest->volume.backups > 0) {
-        json_string("newest", store_date(store, newest->day, date));
-        json_number("age", newest->age);
+        json_string("newest", store_date(store, newest->backup.day, date));
+        if (newest->volume.retired)
+            json_string("kept_until", store_date(store, newest->backup.until, date));
+        else
+            json_number("age", newest->age);
     }
     json_close('}');
 }
@@ -220,7 +244,8 @@ static void show_volumes_metrics(const struct summary *summary)
     for (uint16_t volume = 0; volume < ASPEN_VOLUMES; volume++) {
         struct newest newest = newest_of(summary->store, volume);
 
-        if (newest.volume.enrolled && newest.volume.backups > 0)
+        /* An alarm goes by this age, and no backup of a retired volume is waited for. */
+        if (newest.volume.enrolled && !newest.volume.retired && newest.volume.backups > 0)
             say("aspenbox_volume_newest_age_days{volume=\"%u\"} %ld", volume, newest.age);
     }
 }

@@ -26,6 +26,12 @@ const struct command commands[] = {
      "Frees the blocks that no volume and no backup kept on that day needs, by default today.\n"
      "Days are given as for backup.",
      run_collect},
+    {"retire", "DIR VOLUME", 2, 2, 0, DAYS | OPTION(YES),
+     "Retires a volume whose aid has left, as of that day, by default today. Its backups can be\n"
+     "read until their days run out, the newest too, which may be past them at once. It takes no\n"
+     "backup any more, and its number is never used again. What ends is told first. Then it asks\n"
+     "on a terminal, and elsewhere needs --yes. Days are given as for backup.",
+     run_retire},
     {"read", "DIR VOLUME NUMBER LBN", 4, 4, 0, 0,
      "Writes to standard output the block that the volume had at this LBN in its backup of\n"
      "this number.",

@@ -161,6 +161,11 @@ void note_now(const char *format, ...)
     va_start(arguments, format);
     add_note(worded(format, arguments));
     va_end(arguments);
+    notes_now();
+}
+
+void notes_now(void)
+{
     if (!as_json)
         send_notes();
 }

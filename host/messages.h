@@ -27,6 +27,8 @@ _Noreturn void fail_refused(enum status status, unsigned number, const char *for
 void note(const char *format, ...) __attribute__((format(printf, 1, 2)));
 /* The same, but written at once; for what is told before the store is locked. */
 void note_now(const char *format, ...) __attribute__((format(printf, 1, 2)));
+/* Writes the notes so far at once, for somebody who is asked something. */
+void notes_now(void);
 
 /* Writes the notes into the open JSON object. */
 void notes_to_json(void);

@@ -49,6 +49,12 @@ void open_to_write(struct store *store, const struct request *request)
     expect_whole(store);
 }
 
+void open_to_plan(struct store *store, const struct request *request)
+{
+    open_as(store, request, LOCK_TO_READ);
+    expect_whole(store);
+}
+
 void open_to_upgrade(struct store *store, const struct request *request)
 {
     open_any(store, request, LOCK_TO_WRITE);

@@ -12,7 +12,11 @@ void open_to_look(struct store *store, const struct request *request);
 void open_to_read(struct store *store, const struct request *request);
 /* Nothing is written on the word of a book that is at fault. */
 void open_to_write(struct store *store, const struct request *request);
-/* The same for a book whose layout may be an older one. All others take today's layout alone. */
+/* To work out what a command will write, and let the store go before it is written: the same, but
+ * beside other readers. */
+void open_to_plan(struct store *store, const struct request *request);
+/* As to write, for a book whose layout may be an older one. All others take today's layout
+ * alone. */
 void open_to_upgrade(struct store *store, const struct request *request);
 
 /* The status to end with: that of the work, or 1 if the book was at fault. */

@@ -65,12 +65,35 @@ void refuse_sizes(void)
 
 static _Noreturn void refuse_volume(const struct store *store, uint16_t volume)
 {
+    struct volume found = view_volume(store->book, volume);
+    char date[DATE_TEXT];
+
     if (volume >= ASPEN_VOLUMES)
         fail_refused(STATUS_REFUSED, ASPEN_BAD_VOLUME, "there is no volume %u; volumes are 0 to %d",
                      volume, ASPEN_VOLUMES - 1);
+    if (found.retired)
+        fail_refused(STATUS_REFUSED, ASPEN_BAD_VOLUME,
+                     "volume %u was retired on %s and takes no backup any more; another aid needs "
+                     "another volume",
+                     volume, store_date(store, found.retired_on, date));
     fail_refused(STATUS_REFUSED, ASPEN_BAD_VOLUME,
                  "volume %u isn't enrolled; run aspenbox enrol %s %u --keep DAYS first", volume,
                  store->folder, volume);
+}
+
+/* 5 of enrol for a volume that there is. */
+static _Noreturn void refuse_enrolled(const struct store *store, uint16_t volume)
+{
+    struct volume found = view_volume(store->book, volume);
+    char date[DATE_TEXT];
+
+    if (found.retired)
+        fail_refused(STATUS_REFUSED, ASPEN_BAD_VOLUME,
+                     "volume %u was retired on %s and can't be enrolled again; take another",
+                     volume, store_date(store, found.retired_on, date));
+    fail_refused(STATUS_REFUSED, ASPEN_BAD_VOLUME,
+                 "volume %u is enrolled already and keeps its backups %u days; take another",
+                 volume, found.keep);
 }
 
 void refuse_enrol(const struct store *store, uint16_t number, uint16_t volume, uint16_t keep)
@@ -79,9 +102,7 @@ void refuse_enrol(const struct store *store, uint16_t number, uint16_t volume, u
         fail_refused(STATUS_REFUSED, number, "backups can't be kept %u days; give --keep 1 to %d",
                      keep, ASPEN_MAX_RETENTION);
     if (number == ASPEN_BAD_VOLUME && volume < ASPEN_VOLUMES)
-        fail_refused(STATUS_REFUSED, number,
-                     "volume %u is enrolled already and keeps its backups %u days; take another",
-                     volume, view_volume(store->book, volume).keep);
+        refuse_enrolled(store, volume);
     if (number == ASPEN_BAD_VOLUME)
         refuse_volume(store, volume);
     refuse_store(store, number);
@@ -103,8 +124,25 @@ static _Noreturn void refuse_day(const struct asked *asked)
                      "%s is before the box's day, %s; look at the clock, or give a later day",
                      asked_date, store_date(store, last, last_date));
     fail_refused(STATUS_REFUSED, ASPEN_BAD_DAY,
-                 "volume %u has a backup of %s already; back it up on a later day", asked->volume,
-                 asked_date);
+                 "volume %u has a backup of %s already; %s it %son a later day", asked->volume,
+                 asked_date, asked->retiring ? "retire" : "back", asked->retiring ? "" : "up ");
+}
+
+/* Nothing frees any room, and a second store is no help to a volume of this one. */
+static _Noreturn void refuse_room_to_retire(uint16_t number, const struct asked *asked)
+{
+    struct figures figures = view_figures(asked->store->book);
+
+    if (number == ASPEN_NO_SLOT)
+        fail_refused(STATUS_REFUSED, number,
+                     "all %u backup slots are used, and retiring volume %u takes one; leave it as "
+                     "it is: its newest backup stays",
+                     figures.slots, asked->volume);
+    fail_refused(STATUS_REFUSED, number,
+                 "the journal has %d of its %u places left, and retiring volume %u takes %u, one "
+                 "for each of its blocks; leave it as it is: its newest backup stays",
+                 figures.records - figures.records_used, figures.records, asked->volume,
+                 asked->changes);
 }
 
 static _Noreturn void refuse_room(uint16_t number, const struct asked *asked)
@@ -112,6 +150,8 @@ static _Noreturn void refuse_room(uint16_t number, const struct asked *asked)
     struct figures figures = view_figures(asked->store->book);
     bool more = figures.slots < ASPEN_MAX_SLOTS, longer = figures.records < ASPEN_MAX_RECORDS;
 
+    if (asked->retiring)
+        refuse_room_to_retire(number, asked);
     if (number == ASPEN_NO_SLOT)
         fail_refused(STATUS_REFUSED, number, "all %u backup slots are used; format %s",
                      figures.slots, more ? "a store with more slots" : "a second store");
@@ -185,13 +225,15 @@ static _Noreturn void refuse_lbn(uint16_t number, const struct asked *asked)
 static _Noreturn void refuse_read(uint16_t number, const struct asked *asked)
 {
     struct bytes book = asked->store->book;
-    unsigned volume = asked->volume, backups = view_volume(book, asked->volume).backups;
+    struct volume found = view_volume(book, asked->volume);
+    unsigned volume = asked->volume;
 
-    if (number == ASPEN_NO_BACKUP && backups == 0)
-        fail_refused(STATUS_REFUSED, number, "volume %u has no backup yet", volume);
+    if (number == ASPEN_NO_BACKUP && found.backups == 0)
+        fail_refused(STATUS_REFUSED, number, "volume %u %s", volume,
+                     found.retired ? "was retired without a backup" : "has no backup yet");
     if (number == ASPEN_NO_BACKUP)
         fail_refused(STATUS_REFUSED, number, "volume %u has backups 1 to %u and none of number %u",
-                     volume, backups, asked->number);
+                     volume, found.backups, asked->number);
     if (number == ASPEN_NOT_KEPT)
         refuse_kept(asked);
     if (number == ASPEN_BAD_LBN || number == ASPEN_BAD_RUN)

@@ -7,7 +7,8 @@
 /* What was asked of the box; a call fills in what it has. */
 struct asked {
     const struct store *store;
-    uint16_t volume, day, changes; /* for backup and collect */
+    uint16_t volume, day, changes; /* for backup, retire and collect */
+    bool retiring;                 /* for retire */
     uint16_t number, lbn;          /* for read, and for restore with the first LBN */
 };
 

@@ -9,6 +9,7 @@ struct search {
     struct bytes labels;  /* the pool whose blocks have their own numbers */
     struct bytes run;     /* what is restored from it */
     struct bytes current; /* the volume's current map */
+    bool trusted;         /* whether that says where no backup has a block */
     struct bytes places;  /* what was found: a row for each LBN */
     size_t length;
 };
@@ -69,12 +70,18 @@ static size_t mapped_from(struct search *search, size_t index, size_t most)
     return known;
 }
 
-/* Whether the backup may have a block at this LBN. In a book that audit says yes to, no cell ever
- * becomes unmapped again: what the current map lacks, no backup has. Of a book at fault nothing is
- * taken on trust. */
+/* In a book that audit says yes to, a cell becomes unmapped again only when its volume is retired:
+ * what the current map of any other lacks, no backup has. Of a book at fault nothing is taken on
+ * trust. */
+static bool is_trusted(const struct asked *asked)
+{
+    return asked->store->fault == NULL && !view_volume(asked->store->book, asked->volume).retired;
+}
+
+/* Whether the backup may have a block at this LBN. */
 static bool may_have(const struct search *search, size_t index)
 {
-    return search->asked->store->fault != NULL ||
+    return !search->trusted ||
            view_cell(search->current, (uint16_t)(search->asked->lbn + index)) != ASPEN_UNMAPPED_PBN;
 }
 
@@ -108,6 +115,7 @@ struct bytes runs_places(const struct asked *asked, struct bytes labels, uint16_
     put_labels(labels);
     search.run = bytes_new(aspen_run_size(length));
     search.current = view_cells(book, asked->volume);
+    search.trusted = is_trusted(asked);
     search.places = bytes_new(aspen_cells_size(length));
     for (size_t i = 0; i < length; i++)
         put_number(search.places.at + aspen_cells_size(i), ASPEN_UNMAPPED_PBN);

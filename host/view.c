@@ -21,11 +21,13 @@ struct figures view_figures(struct bytes book)
 struct volume view_volume(struct bytes book, uint16_t volume)
 {
     struct volume v = {0};
-    uint16_t number = aspen_volume(book.at, book.length, volume, &v.keep, &v.backups);
+    uint16_t number =
+        aspen_volume(book.at, book.length, volume, &v.keep, &v.backups, &v.retired_on);
 
     if (number != ASPEN_BAD_VOLUME)
         expect_done(number);
     v.enrolled = number == ASPEN_OK;
+    v.retired = v.enrolled && v.retired_on != ASPEN_NO_END;
     return v;
 }
 

@@ -16,6 +16,8 @@ struct figures {
 struct volume {
     bool enrolled; /* only then is there: */
     uint16_t keep, backups;
+    bool retired;
+    uint16_t retired_on; /* its day, if it is */
 };
 
 struct backup {

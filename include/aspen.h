@@ -4,20 +4,21 @@
  * An aid writes the list of its changed blocks (aspen_write_list). The box takes such a list as
  * a backup (aspen_backup), keeps equal blocks once, frees what no kept backup needs
  * (aspen_collect), and reads old backups, a block (aspen_read) or a run of blocks (aspen_restore).
+ * When the aid leaves the clinic, its volume is retired (aspen_retire).
  * aspen_play makes a whole list of such calls that is stored as bytes. A book of an earlier layout
  * becomes one that these calls take by converters (aspen_convert_1_2, then aspen_convert_2_3).
  *
  * Memory. The box lives in two buffers of the caller's: the book, which notes what each volume
  * held and when, and the pool, which holds the blocks. The library allocates nothing and keeps
  * no pointer after a call. Hashing, transport and files are the caller's part. Days are counted
- * by the caller, and the book's day is that of its last backup or collection.
+ * by the caller, and the book's day is that of its last backup, collection or retirement.
  *
  * Pointers. No pointer may be null, even at length 0. The buffers and answers given to one call
  * must not overlap. Byte buffers need no alignment; numbers in them are little-endian.
  *
  * Results. Each function returns ASPEN_OK or the number of its refusal. Checks are made in the
- * order of the numbers and the first that fails decides; 11 to 14 are checked change by change, and
- * 21 before 18.
+ * order of the numbers and the first that fails decides; 11 to 14 are checked change by change, or
+ * LBN by LBN for a retirement, and 21 before 18.
  * A refused call leaves every buffer but the spare as it was and writes no answer. A byte
  * buffer may hold any bytes and have any length: what doesn't fit is refused.
  *
@@ -40,9 +41,9 @@ extern "C" {
 #endif
 
 /* The version of the library, as text and in numbers. */
-#define ASPEN_VERSION "0.3.0"
+#define ASPEN_VERSION "0.4.0"
 #define ASPEN_VERSION_MAJOR 0
-#define ASPEN_VERSION_MINOR 3
+#define ASPEN_VERSION_MINOR 4
 #define ASPEN_VERSION_PATCH 0
 
 /* Limits. The numbers of blocks, slots and records, the blocks of a run, and the retention, are 1
@@ -53,7 +54,7 @@ extern "C" {
 #define ASPEN_MAX_BLOCKS 4096     /* n: blocks of the pool */
 #define ASPEN_MAX_LBNS 1024       /* l: logical blocks of each volume */
 #define ASPEN_MAX_RUN 64          /* blocks of one run of a change list */
-#define ASPEN_MAX_SLOTS 1024      /* s: backups that the book has room for */
+#define ASPEN_MAX_SLOTS 1024      /* s: backups and retirements that the book has room for */
 #define ASPEN_MAX_RECORDS 16384   /* j: changes that the book has room for */
 #define ASPEN_MAX_RETENTION 5000  /* days */
 #define ASPEN_MAX_DAY 60000
@@ -97,9 +98,10 @@ extern "C" {
 #define aspen_cells_size(l) ((size_t)ASPEN_CELL_ROW * (l))
 #define aspen_blocks_size(n) ((size_t)ASPEN_BLOCK_ROW * (n))
 
-/* Numbers in rows that stand for none. */
+/* Numbers that stand for none. */
 #define ASPEN_UNMAPPED_PBN 65535  /* no pool block at this LBN; ASPEN_UNMAPPED is a refusal */
-#define ASPEN_NO_END 65535        /* no last day: the newest backup is always kept */
+#define ASPEN_NO_END 65535        /* no last day: a volume isn't retired, and its newest backup is
+                                     always kept */
 
 /* A call in a list for aspen_play starts with a head of so many bytes. */
 #define ASPEN_CALL_HEAD 14
@@ -119,14 +121,15 @@ enum aspen_call {
     ASPEN_CALL_COLLECT = 2,  /* a is the day */
     ASPEN_CALL_READ = 3,     /* a is the volume, b the backup's number, c the LBN */
     ASPEN_CALL_AUDIT = 4,    /* none */
-    ASPEN_CALL_RESTORE = 5   /* a and b as for a read, c the first LBN, d the length */
+    ASPEN_CALL_RESTORE = 5,  /* a and b as for a read, c the first LBN, d the length */
+    ASPEN_CALL_RETIRE = 6    /* a is the volume, b the day */
 };
 
 /* The tags of the answers to a list, with what follows each. */
 enum aspen_answer {
     ASPEN_ANSWER_NUMBER = 0,  /* the number of the call's refusal; ASPEN_OK for an enrol */
     ASPEN_ANSWER_BACKED = 1,  /* of a backup: number, taken, touched */
-    ASPEN_ANSWER_FREED = 2,   /* of a collect: freed */
+    ASPEN_ANSWER_FREED = 2,   /* one number: of a collect freed, of a retire cells */
     ASPEN_ANSWER_BLOCK = 3,   /* of a read: the ASPEN_BLOCK_SIZE bytes of the block */
     ASPEN_ANSWER_SOUND = 4,   /* of an audit: sound */
     ASPEN_ANSWER_RUN = 5      /* of a restore: the length, and then the bytes of its blocks */
@@ -140,12 +143,14 @@ enum aspen_result {
     ASPEN_BAD_POOL = 3,       /* the pool isn't aspen_pool_size(n) bytes long */
     ASPEN_SHORT_SPARE = 4,    /* the spare is shorter than the book, or a converter's output than
                                  the book to write */
-    ASPEN_BAD_VOLUME = 5,     /* no such volume, or not enrolled; for enrol, enrolled already */
+    ASPEN_BAD_VOLUME = 5,     /* no such volume, or not enrolled; for enrol, enrolled already; for
+                                 backup and retire, retired too */
     ASPEN_BAD_RETENTION = 6,  /* the retention is 0 or above ASPEN_MAX_RETENTION */
     ASPEN_BAD_DAY = 7,        /* above the limit, before the book's, not after the last backup's */
     ASPEN_BAD_LIST = 8,       /* the bytes are no change list for this book */
     ASPEN_NO_SLOT = 9,        /* all backup slots are used */
-    ASPEN_NO_RECORD = 10,     /* the changes are more than the records left */
+    ASPEN_NO_RECORD = 10,     /* the changes, or the cells to retire, are more than the records
+                                 left */
     ASPEN_OTHER_BYTES = 11,   /* the held block with this fingerprint has other bytes */
     ASPEN_NO_BLOCK = 12,      /* no block of the pool is free */
     ASPEN_COUNT_ZERO = 13,    /* the replaced block has count 0: the book is damaged */
@@ -171,8 +176,9 @@ uint16_t aspen_format(uint8_t *book, size_t book_len, uint16_t n, uint16_t l, ui
 
 /*
  * Enrols a volume, 0 to 7. A backup of it is kept for `retention` days from the day on which it was
- * taken; the newest one is always kept. So after a pause longer than that the backup before is past
- * its days as soon as the next one is taken.
+ * taken; the newest one is always kept while the volume isn't retired. So after a pause longer than
+ * that the backup before is past its days as soon as the next one is taken. A retired volume can't
+ * be enrolled again.
  *
  * Returns ASPEN_OK, ASPEN_BAD_LAYOUT, ASPEN_BAD_FORM, ASPEN_BAD_VOLUME or ASPEN_BAD_RETENTION.
  */
@@ -200,6 +206,25 @@ uint16_t aspen_backup(uint8_t *book, size_t book_len, uint8_t *pool, size_t pool
                       uint8_t *spare, size_t spare_len, uint16_t volume, uint16_t day,
                       const uint8_t *list, size_t list_len, uint16_t *number, uint16_t *taken,
                       uint16_t *touched);
+
+/*
+ * Retires a volume, whose aid leaves the clinic, on this day, which has to be after its last backup
+ * and not before the book's day. No LBN has a block any more, and the volume takes no more backups.
+ * Its old backups are read until their days run out, and the newest isn't exempt any more: where
+ * that one's days have run out already, it is gone at once, and the next collection frees its
+ * blocks. A volume without backups can be retired too.
+ *
+ * A retirement takes one of the backup slots, and a record for each LBN that has a block. It is no
+ * backup, and has no number. The spare is as for aspen_backup; the pool isn't needed.
+ * ASPEN_COUNT_ZERO never comes in a book that calls made: it is damaged then.
+ *
+ * Answer: *cells, how many LBNs had a block.
+ *
+ * Returns ASPEN_OK, ASPEN_BAD_LAYOUT, ASPEN_BAD_FORM, ASPEN_SHORT_SPARE, ASPEN_BAD_VOLUME,
+ * ASPEN_BAD_DAY, ASPEN_NO_SLOT, ASPEN_NO_RECORD or ASPEN_COUNT_ZERO.
+ */
+uint16_t aspen_retire(uint8_t *book, size_t book_len, uint8_t *spare, size_t spare_len,
+                      uint16_t volume, uint16_t day, uint16_t *cells);
 
 /*
  * Frees every held block with count 0 whose days ended before this day: in a book that calls made,
@@ -280,8 +305,8 @@ uint16_t aspen_count(const uint8_t *book, size_t book_len, uint16_t *blocks, uin
 /*
  * Tells the sizes that the book was formatted with.
  *
- * Answers: *blocks, pool blocks; *cells, logical blocks of each volume; *slots, backups that the
- * book has room for; *records, changes that it has room for.
+ * Answers: *blocks, pool blocks; *cells, logical blocks of each volume; *slots, backups and
+ * retirements that the book has room for; *records, changes that it has room for.
  *
  * Returns ASPEN_OK, ASPEN_BAD_LAYOUT or ASPEN_BAD_FORM.
  */
@@ -291,7 +316,8 @@ uint16_t aspen_sizes(const uint8_t *book, size_t book_len, uint16_t *blocks, uin
 /*
  * Tells how much of the book is used.
  *
- * Answers: *slots, backups so far; *records, changes so far; *day, the book's day.
+ * Answers: *slots, backups and retirements so far; *records, their changes so far; *day, the book's
+ * day.
  *
  * Returns ASPEN_OK, ASPEN_BAD_LAYOUT or ASPEN_BAD_FORM.
  */
@@ -301,19 +327,21 @@ uint16_t aspen_used(const uint8_t *book, size_t book_len, uint16_t *slots, uint1
 /*
  * Tells about an enrolled volume.
  *
- * Answers: *retention, the days that it was enrolled with; *backups, how many it has.
+ * Answers: *retention, the days that it was enrolled with; *backups, how many it has; *retired, the
+ * day on which it was retired, ASPEN_NO_END while it isn't.
  *
  * Returns ASPEN_OK, ASPEN_BAD_LAYOUT, ASPEN_BAD_FORM or ASPEN_BAD_VOLUME.
  */
 uint16_t aspen_volume(const uint8_t *book, size_t book_len, uint16_t volume, uint16_t *retention,
-                      uint16_t *backups);
+                      uint16_t *backups, uint16_t *retired);
 
 /*
  * Lists the backups of a volume, from number 1 on. A row of ASPEN_BACKUP_ROW bytes has four
  * numbers:
  *   0  the backup's day
  *   2  how many changes it has
- *   4  the last day on which it is kept, its day plus the retention; ASPEN_NO_END for the newest
+ *   4  the last day on which it is kept, its day plus the retention; ASPEN_NO_END for the newest of
+ *      a volume that isn't retired
  *   6  1 if it is kept at the book's day, else 0
  * aspen_backups_size(backups) bytes are enough, with the backups that aspen_volume answers.
  *
@@ -352,7 +380,7 @@ uint16_t aspen_blocks(const uint8_t *book, size_t book_len, uint8_t *out, size_t
  * number, and the list goes on. Bytes that are no list are refused as a whole.
  *
  * A call in bytes is a head of ASPEN_CALL_HEAD bytes and then its data:
- *    0  its kind in one byte, from ASPEN_CALL_ENROL to ASPEN_CALL_RESTORE
+ *    0  its kind in one byte, from ASPEN_CALL_ENROL to ASPEN_CALL_RETIRE
  *    1  a zero byte
  *    2  four numbers of two bytes, a, b, c and d; what its kind doesn't use is 0
  *   10  how many bytes of data follow, in four bytes; 0 unless it is a backup
@@ -399,8 +427,9 @@ uint16_t aspen_write_list(uint16_t l, const uint8_t *marks, size_t marks_len,
  * next.
  *
  * Between layouts 1 and 2 every field stays equal but the layout number: the count of a block has
- * one byte in layout 1 and two in layout 2. Layout 3 has the same bytes as layout 2 and another rule
+ * one byte in layout 1 and two in layout 2. Layout 3 has the same places as layout 2 and another rule
  * of what is kept: in layouts 1 and 2 a backup was kept for its days after that of the next backup.
+ * Only in layout 3 are there retirements.
  */
 
 /*
@@ -440,7 +469,7 @@ static inline const char *aspen_text(uint16_t number)
         "the book is out of form: it is damaged",
         "the pool has the wrong length",
         "the spare is shorter than the book, or a converter's output than the book to write",
-        "no such volume, or not enrolled; for enrol, enrolled already",
+        "no such volume, not enrolled, or retired; for enrol, enrolled already",
         "the retention is out of range",
         "the day is above the limit or too early",
         "no change list for this book",

@@ -25,7 +25,7 @@ enum {
 
 /* Fields of an entry and of a slot. */
 enum { ENTRY_COUNT = 0, ENTRY_STATE = 2, ENTRY_EXPIRY = 3, ENTRY_PRINT = 5 };
-enum { SLOT_VOLUME = 0, SLOT_ZERO = 1, SLOT_DAY = 2, SLOT_FIRST = 4, SLOT_NUMBER = 6 };
+enum { SLOT_VOLUME = 0, SLOT_KIND = 1, SLOT_DAY = 2, SLOT_FIRST = 4, SLOT_NUMBER = 6 };
 enum { RECORD_LBN = 0, RECORD_BEFORE = 2, RECORD_AFTER = 4 };
 
 enum { PBN_UNMAPPED = 65535 };

@@ -36,6 +36,7 @@ void call_enrol(struct box *box, uint16_t volume, uint16_t retention, uint16_t e
 /* Frees the list. */
 struct backed_up call_backup(struct box *box, uint16_t volume, uint16_t day, struct buffer list,
                              uint16_t expected);
+uint16_t call_retire(struct box *box, uint16_t volume, uint16_t day, uint16_t expected);
 uint16_t call_collect(struct box *box, uint16_t day, uint16_t expected);
 uint32_t call_read(const struct box *box, uint16_t volume, uint16_t number, uint16_t lbn,
                    uint16_t expected);

@@ -85,6 +85,23 @@ struct backed_up call_backup(struct box *box, uint16_t volume, uint16_t day, str
     return answers;
 }
 
+uint16_t call_retire(struct box *box, uint16_t volume, uint16_t day, uint16_t expected)
+{
+    struct box before = copied(box);
+    uint16_t cells[3] = { untouched, untouched, untouched };
+    uint16_t number = aspen_retire(box->book.bytes, box->book.length, box->spare.bytes,
+                                   box->spare.length, volume, day, &cells[1]);
+
+    CHECK_EQ(number, expected);
+    CHECK_EQ(cells[0], untouched);
+    CHECK_EQ(cells[2], untouched);
+    if (number != ASPEN_OK)
+        CHECK_EQ(cells[1], untouched);
+    check_unchanged(&box->pool, &before.pool);
+    check_after(box, &before, number == ASPEN_OK);
+    return cells[1];
+}
+
 uint16_t call_collect(struct box *box, uint16_t day, uint16_t expected)
 {
     struct box before = copied(box);

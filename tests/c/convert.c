@@ -242,7 +242,7 @@ static void check_shown(struct box *box)
     CHECK_EQ(aspen_count(book, length, &a, &b, &c, &wide), ASPEN_BAD_LAYOUT);
     CHECK_EQ(aspen_sizes(book, length, &a, &b, &c, &d), ASPEN_BAD_LAYOUT);
     CHECK_EQ(aspen_used(book, length, &a, &b, &c), ASPEN_BAD_LAYOUT);
-    CHECK_EQ(aspen_volume(book, length, 0, &a, &b), ASPEN_BAD_LAYOUT);
+    CHECK_EQ(aspen_volume(book, length, 0, &a, &b, &c), ASPEN_BAD_LAYOUT);
     CHECK_EQ(aspen_backups(book, length, 0, out, room, &a), ASPEN_BAD_LAYOUT);
     CHECK_EQ(aspen_cells(book, length, 0, out, room), ASPEN_BAD_LAYOUT);
     CHECK_EQ(aspen_blocks(book, length, out, room), ASPEN_BAD_LAYOUT);

@@ -15,6 +15,7 @@ int main(void)
     test_changes();
     test_alike();
     test_restore();
+    test_retire();
     test_convert();
     test_convert_2_3();
     test_play();

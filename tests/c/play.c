@@ -144,6 +144,7 @@ static struct buffer one_of_each(void)
     add(&calls, ASPEN_CALL_READ, 0, 1, 0, NULL);
     add(&calls, ASPEN_CALL_AUDIT, 0, 0, 0, NULL);
     add_four(&calls, ASPEN_CALL_RESTORE, 0, 1, 0, 2, NULL);
+    add(&calls, ASPEN_CALL_RETIRE, 1, 10, 0, NULL);
     add_backup(&calls, 0, 10, 2, "D", "D");
     return calls;
 }
@@ -151,13 +152,13 @@ static struct buffer one_of_each(void)
 /* Room for their longest answers. */
 static size_t room_of_each(void)
 {
-    return aspen_answers_bound(1, 1, 3) + aspen_runs_bound(1, 2);
+    return aspen_answers_bound(1, 1, 4) + aspen_runs_bound(1, 2);
 }
 
 static void test_cut(void)
 {
     struct buffer calls = one_of_each();
-    size_t room = room_of_each(), last = 5 * ASPEN_CALL_HEAD;
+    size_t room = room_of_each(), last = 6 * ASPEN_CALL_HEAD;
 
     check_about("lists cut off");
     check_play(&calls, room, ASPEN_OK);
@@ -184,14 +185,14 @@ static void check_head(size_t at, uint8_t byte, uint16_t expected)
 
 static void test_heads(void)
 {
-    static const size_t used[] = { 6, 4, 8, 2, 10, 6 };
+    static const size_t used[] = { 6, 4, 8, 2, 10, 6, 6 };
     size_t call, at;
 
     check_about("heads of calls");
-    for (call = 0; call < 6; call++) {
+    for (call = 0; call < 7; call++) {
         size_t place = call * ASPEN_CALL_HEAD;
 
-        check_head(place, 6, ASPEN_BAD_INPUT);
+        check_head(place, 7, ASPEN_BAD_INPUT);
         check_head(place, 255, ASPEN_BAD_INPUT);
         check_head(place + 1, 1, ASPEN_BAD_INPUT);
         for (at = 2; at < used[call]; at++)
@@ -205,7 +206,7 @@ static void test_heads(void)
 static void check_data(uint32_t length)
 {
     struct buffer calls = one_of_each();
-    uint8_t *head = calls.bytes + 5 * ASPEN_CALL_HEAD;
+    uint8_t *head = calls.bytes + 6 * ASPEN_CALL_HEAD;
 
     put_u16(head, 10, (unsigned)(length & 0xFFFF));
     put_u16(head, 12, (unsigned)(length >> 16));
@@ -222,7 +223,7 @@ static void test_data(void)
     check_data(right - 1);
     check_data(right + 1);
     check_data(65536 + right);
-    for (less = 0; less < 5 * ASPEN_CALL_HEAD; less++)
+    for (less = 0; less < 6 * ASPEN_CALL_HEAD; less++)
         check_data(0xFFFFFFFFu - less);
 }
 
@@ -244,8 +245,9 @@ static void test_room(void)
 /* A list goes on after a refused call, and knows the lengths of pool and spare. */
 static void test_refused_calls(void)
 {
-    static const uint8_t expected[] = { 0, 5, 0, 2, 0, 0, 0, 3, 0, 4, 1, 0, 0, 3, 0, 0, 3, 0 };
-    static const uint8_t short_spare[] = { 0, 4, 0 };
+    static const uint8_t expected[] = { 0, 5, 0, 2, 0, 0, 0, 3, 0, 4, 1,
+                                        0, 0, 3, 0, 2, 1, 0, 0, 3, 0 };
+    static const uint8_t short_spare[] = { 0, 4, 0, 0, 4, 0 };
     struct buffer calls = one_of_each(), answers = buffer_filled(room_of_each(), OUT_BYTE);
     struct box box = box_after_d();
 
@@ -257,7 +259,7 @@ static void test_refused_calls(void)
     box_free(&box);
     box = box_after_d();
     buffer_resize(&box.spare, box.spare.length - 1);
-    CHECK_EQ(play(&box, &calls, &answers, ASPEN_OK), 3 + 3 + 513 + 3 + 1027 + 3);
+    CHECK_EQ(play(&box, &calls, &answers, ASPEN_OK), 3 + 3 + 513 + 3 + 1027 + 3 + 3);
     CHECK_BYTES(answers.bytes + 1549, short_spare, sizeof short_spare);
     box_free(&box);
     buffer_free(&calls);
@@ -293,6 +295,33 @@ static void test_restores(void)
     buffer_free(&answers);
 }
 
+/* Retirements in a list: of two cells, refused, of one, and what is left. */
+static void test_retirements(void)
+{
+    static const uint8_t expected[] = { 0, 7, 0, 2, 2, 0, 0, 5, 0, 0, 5, 0, 0, 5, 0,
+                                        2, 1, 0, 0, 16, 0, 2, 3, 0, 4, 1, 0, OUT_BYTE };
+    size_t room = aspen_answers_bound(0, 1, 8), length = sizeof expected - 1;
+    struct buffer calls = buffer_new(0), answers = buffer_filled(room, OUT_BYTE);
+    struct box box = box_after_d();
+
+    check_about("retirements in a list");
+    add(&calls, ASPEN_CALL_RETIRE, 0, 8, 0, NULL);
+    add(&calls, ASPEN_CALL_RETIRE, 0, 10, 0, NULL);
+    add(&calls, ASPEN_CALL_RETIRE, 0, 11, 0, NULL);
+    add(&calls, ASPEN_CALL_RETIRE, 8, 11, 0, NULL);
+    add(&calls, ASPEN_CALL_ENROL, 0, 5, 0, NULL);
+    add(&calls, ASPEN_CALL_RETIRE, 1, 20, 0, NULL);
+    add(&calls, ASPEN_CALL_READ, 0, 2, 0, NULL);
+    add(&calls, ASPEN_CALL_COLLECT, 20, 0, 0, NULL);
+    add(&calls, ASPEN_CALL_AUDIT, 0, 0, 0, NULL);
+    CHECK_EQ(play(&box, &calls, &answers, ASPEN_OK), length);
+    CHECK_BYTES(answers.bytes, expected, sizeof expected);
+    check_play(&calls, room - 1, ASPEN_SHORT_OUTPUT);
+    box_free(&box);
+    buffer_free(&calls);
+    buffer_free(&answers);
+}
+
 /* Restores that ask in all for 390 bytes more than four bytes can tell. */
 static void test_wrapping_room(void)
 {
@@ -318,5 +347,6 @@ void test_play(void)
     test_room();
     test_refused_calls();
     test_restores();
+    test_retirements();
     test_wrapping_room();
 }

@@ -20,6 +20,7 @@ void test_lists(void);
 void test_changes(void);
 void test_alike(void);
 void test_restore(void);
+void test_retire(void);
 void test_convert(void);
 void test_convert_2_3(void);
 

@@ -25,7 +25,7 @@ static uint16_t call(enum view view, const struct box *box, uint16_t volume, str
     case USED:
         return aspen_used(book, length, &a[1], &a[3], &a[5]);
     case VOLUME:
-        return aspen_volume(book, length, volume, &a[1], &a[3]);
+        return aspen_volume(book, length, volume, &a[1], &a[3], &a[5]);
     case BACKUPS:
         return aspen_backups(book, length, volume, out->bytes, out->length, &a[1]);
     case CELLS:
@@ -38,7 +38,7 @@ static uint16_t call(enum view view, const struct box *box, uint16_t volume, str
 /* How many answers a call has. */
 static size_t answers_of(enum view view)
 {
-    static const size_t answers[VIEWS] = { 4, 3, 2, 1, 0, 0 };
+    static const size_t answers[VIEWS] = { 4, 3, 3, 1, 0, 0 };
 
     return answers[view];
 }
@@ -152,7 +152,7 @@ static void check_blocks(const struct box *box, const uint16_t (*blocks)[3], con
 static void test_after_d(void)
 {
     static const uint16_t sizes[] = { CASE_N, CASE_L, CASE_S, CASE_J }, used[] = { 4, 5, 9 };
-    static const uint16_t volumes[][2] = { { 10, 2 }, { 3, 2 } };
+    static const uint16_t volumes[][3] = { { 10, 2, ASPEN_NO_END }, { 3, 2, ASPEN_NO_END } };
     static const uint16_t of_0[][4] = { { 5, 2, 15, 1 }, { 8, 1, ASPEN_NO_END, 1 } };
     static const uint16_t of_1[][4] = { { 6, 1, 9, 1 }, { 9, 1, ASPEN_NO_END, 1 } };
     static const uint16_t none = ASPEN_UNMAPPED_PBN;
@@ -207,7 +207,7 @@ static void test_kept(void)
 
 static void test_without_backups(void)
 {
-    static const uint16_t none = ASPEN_UNMAPPED_PBN, facts[] = { ASPEN_MAX_RETENTION, 0 };
+    static const uint16_t none = ASPEN_UNMAPPED_PBN, facts[] = { ASPEN_MAX_RETENTION, 0, 65535 };
     static const uint16_t used[] = { 0, 0, 0 }, no_blocks[CASE_N][3] = { { 0, 0, 0 } };
     const uint16_t map[] = { none, none, none, none };
     struct box box = box_fresh();
@@ -219,6 +219,51 @@ static void test_without_backups(void)
     check_backups(&box, 7, NULL, 0);
     check_cells(&box, 7, map);
     check_blocks(&box, no_blocks, "\0\0\0");
+    box_free(&box);
+}
+
+/* A retired volume: the day, no row for the retirement, and an end for the newest backup. */
+static void test_retired(void)
+{
+    static const uint16_t on_10[][4] = { { 5, 2, 15, 1 }, { 8, 1, 18, 1 } };
+    static const uint16_t on_18[][4] = { { 5, 2, 15, 0 }, { 8, 1, 18, 1 } };
+    static const uint16_t on_19[][4] = { { 5, 2, 15, 0 }, { 8, 1, 18, 0 } };
+    static const uint16_t used[] = { 5, 7, 10 }, facts[] = { 10, 2, 10 };
+    static const uint16_t of_1[] = { 3, 2, ASPEN_NO_END }, none = ASPEN_UNMAPPED_PBN;
+    static const uint16_t blocks[][3] = { { 1, 0, 15 }, { 1, 1, 18 }, { 1, 0, 18 }, { 0, 0, 0 } };
+    const uint16_t map[] = { none, none, none, none };
+    struct box box = box_after_d();
+
+    check_about("a retired volume shown");
+    call_retire(&box, 0, 10, ASPEN_OK);
+    check_answers(USED, &box, 0, used);
+    check_answers(VOLUME, &box, 0, facts);
+    check_answers(VOLUME, &box, 1, of_1);
+    check_backups(&box, 0, on_10, 2);
+    check_cells(&box, 0, map);
+    check_blocks(&box, blocks, "ABC");
+    call_collect(&box, 18, ASPEN_OK);
+    check_backups(&box, 0, on_18, 2);
+    call_collect(&box, 19, ASPEN_OK);
+    check_backups(&box, 0, on_19, 2);
+    check_answers(VOLUME, &box, 0, facts);
+    box_free(&box);
+}
+
+/* Retired on both ends of the days, without backups. */
+static void test_retired_days(void)
+{
+    static const uint16_t first[] = { 1, 0, 0 }, last[] = { 2, 0, ASPEN_MAX_DAY };
+    struct box box = box_fresh();
+
+    check_about("days of retired volumes");
+    call_enrol(&box, 0, 1, ASPEN_OK);
+    call_enrol(&box, 7, 2, ASPEN_OK);
+    call_retire(&box, 0, 0, ASPEN_OK);
+    call_retire(&box, 7, ASPEN_MAX_DAY, ASPEN_OK);
+    check_answers(VOLUME, &box, 0, first);
+    check_answers(VOLUME, &box, 7, last);
+    check_backups(&box, 0, NULL, 0);
     box_free(&box);
 }
 
@@ -274,5 +319,7 @@ void test_views(void)
     test_after_d();
     test_kept();
     test_without_backups();
+    test_retired();
+    test_retired_days();
     test_order();
 }

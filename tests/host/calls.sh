@@ -43,6 +43,18 @@ asks 4 first 0 1 --lbns 0-1023
 asks 2 first 0 1 --lbns 0-195
 asks 1 first 0 1 --lbns 196-1023
 
+# A retired volume has no current map to go by. What lies past the image's length isn't asked for.
+store=large
+expect 0 "retired" retire large 0 --day-number 5 --yes
+for number in 1 2 3 4; do
+    asks 2 large 0 $number
+done
+asks 850 large 0 1 --lbns 0-1023
+store=first
+expect 0 "retired" retire first 0 --day-number 2 --yes
+asks 850 first 0 1
+check "all of it" cmp out <(cat short && head -c $((196 * 512 - 100000)) /dev/zero)
+
 # Every second LBN of a small volume has a block, as pokes into book and journal leave it.
 store=holes
 expect 0 "made" format holes --blocks 40 --cells 64 --slots 8 --journal 40 --day-zero 2026-01-01

@@ -17,7 +17,8 @@ all_say() {
         expect "$wanted" "$text" $command
     done
 }
-changing=("enrol box 2 --keep 3" "backup box 0 aid --day-number 9" "collect box --day-number 9" "scrub box --heal aid" "upgrade box")
+changing=("enrol box 2 --keep 3" "backup box 0 aid --day-number 9" "collect box --day-number 9" "scrub box --heal aid" "upgrade box"
+    "retire box 0 --day-number 9 --yes" "retire box 0 --day-number 9")
 book_only=("audit box" "tally box" "list box" "status box" "book box")
 with_pool=("read box 0 1 0" "restore box 0 1 out" "scrub box")
 
@@ -45,7 +46,7 @@ for change in -1 +1; do
     truncate -s $change box/pool
     all_say 5 "refused 3: box/pool has $((2048 + change)) bytes where the book says 2048; nothing was written" \
         "backup box 0 aid --day-number 9" "scrub box --heal aid" "${with_pool[@]}"
-    all_say 0 "" "${book_only[@]}" "enrol box 2 --keep 3" "collect box --day-number 9"
+    all_say 0 "" "${book_only[@]}" "enrol box 2 --keep 3" "collect box --day-number 9" "retire box 0 --day-number 9 --yes"
 done
 fresh
 rm box/pool

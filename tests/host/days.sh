@@ -21,7 +21,7 @@ clinic 10 "$(from_today -1)"
 
 # A year too late, in both forms, by the commands that take a day.
 late=$(from_today 365)
-for command in "backup box 1 aid" "collect box"; do
+for command in "backup box 1 aid" "collect box" "retire box 1 --yes"; do
     for day in "--day $late" "--day-number 375" "--day $(from_today 2)" "--day-number 12"; do
         # shellcheck disable=SC2086
         expect 2 "is later than tomorrow by the clock. The box's day would become " $command $day
@@ -45,7 +45,7 @@ expect 0 "as of $late" collect box --day-number 375 --ahead
 clinic 100 "$(from_today -90)"
 expect 0 "as of $(from_today -30)" collect box --day "$(from_today -30)"
 clinic 100 "$(from_today -90)"
-for command in "backup box 1 aid" "collect box"; do
+for command in "backup box 1 aid" "collect box" "retire box 1 --yes"; do
     # shellcheck disable=SC2086
     expect 2 "is more than 60 days after the box's day, $(from_today -90). The box's day would become" $command --day "$(from_today -29)"
     # shellcheck disable=SC2086

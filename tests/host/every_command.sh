@@ -33,6 +33,12 @@ expect 0 "has its bytes back from aid" scrub box --heal aid
 poke box/pool 3 00
 expect 0 '"healed":1' backup box 1 aid --day-number 2 --json
 expect 0 "blocks freed: 1" collect box --day-number 13
+expect 2 "give --yes" retire box 1 --day-number 13
+expect 0 '"ended":[1]' retire box 1 --day-number 13 --yes --json
+expect 3 "refused 5: volume 1 was retired" backup box 1 aid --day-number 14
+expect 3 "refused 16" restore box 1 --latest out --force
+expect 0 "was retired on 2026-01-14" list box 1
+expect 0 "retired on 2026-01-14" status box --warn 100
 expect 3 "refused 16" restore box 0 1 out --force
 expect 3 "refused 7" backup box 0 aid --day-number 2
 expect 2 "later than tomorrow" collect box --day 2126-01-01

@@ -25,6 +25,8 @@ expect_held --shared 0 "restored" restore box 0 1 out
 expect_held --shared 0 "volume 0" list box --no-wait
 expect_held --shared 0 "sound" audit box --no-wait
 expect_held --shared 6 "another aspenbox uses the store" collect box --day-number 2 --no-wait
+expect_held --shared 6 "another aspenbox uses the store" retire box 0 --yes --day-number 2 --no-wait
+expect_held --shared 2 "give --yes" retire box 0 --day-number 2 --no-wait
 expect_held --exclusive 6 "another aspenbox uses the store" backup box 0 aid --day-number 2 --no-wait
 expect_held --shared 6 "another aspenbox uses the store" upgrade box --no-wait
 expect_held --exclusive 6 "another aspenbox uses the store" read box 0 1 0 --no-wait

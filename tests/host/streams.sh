@@ -16,6 +16,7 @@ commands=(
     "0 backup box 0 aid3 --day 2026-01-04" "3 backup box 0 aid3 --day 2026-01-03" "2 backup box 0 none --day 2026-01-04"
     "0 backup box 1 aid1 --day 2026-01-04 --json" "3 backup box 1 aid1 --day 2026-01-02 --json"
     "0 collect box --day 2026-01-20" "3 collect box --day 2026-01-01"
+    "0 retire box 0 --day 2026-01-20 --yes" "2 retire box 0 --day 2026-01-20" "3 retire box 0 --day 2026-01-03 --yes --json"
     "0 read box 0 2 0" "1 read box 0 1 1" "3 read box 0 1 3" "0 read box 0 2 0 --json"
     "0 restore box 0 2 out" "1 restore box 0 1 out --json" "1 restore box 0 1 -" "3 restore box 0 3 out"
     "2 restore box 0 2 box/pool --force" "0 restore box 0 out --latest"

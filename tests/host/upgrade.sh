@@ -69,7 +69,7 @@ ending() {
 
 image ABXDYF 2900 >aid
 others=("enrol box 6 --keep 3" "backup box 0 aid --day-number 40" "collect box --day-number 40" "scrub box --heal aid" "scrub box"
-    "read box 0 3 0" "restore box 0 3 out" "list box" "status box" "audit box" "tally box" "book box")
+    "retire box 0 --day-number 40 --yes" "retire box 0 --day-number 40" "read box 0 3 0" "restore box 0 3 out" "list box" "status box" "audit box" "tally box" "book box")
 for first in 1 2; do
     from $first
     layout_is "$layout"

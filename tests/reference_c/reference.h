@@ -8,6 +8,7 @@
 extern __typeof__(aspen_format) reference_format;
 extern __typeof__(aspen_enrol) reference_enrol;
 extern __typeof__(aspen_backup) reference_backup;
+extern __typeof__(aspen_retire) reference_retire;
 extern __typeof__(aspen_collect) reference_collect;
 extern __typeof__(aspen_read) reference_read;
 extern __typeof__(aspen_restore) reference_restore;
@@ -39,8 +40,8 @@ struct reference_made {
 };
 
 /* Makes the box of a run, and disturbs its book so many times. Shape, seed and calls choose among
- * some hundred runs. `call` is 'e', 'b', 'c', 'r' or 's' for enrol, backup, collect, read and restore;
- * others send no numbers. */
+ * some hundred runs. `call` is 'e', 'b', 'c', 'r', 's' or 't' for enrol, backup, collect, read,
+ * restore and retire; others send no numbers. */
 struct reference_made reference_make(uint8_t shape, uint16_t seed, uint8_t calls,
                                      uint8_t disturbed, uint8_t call);
 

@@ -101,7 +101,7 @@ module _ (l : ℕ) (small : l ≤ rowSize) where
   replayed-row (r ∷ rs) z e a ms v m hv ok t =
       let w = and-true (recOk z r) (all (recOk z) rs) ok in
       let lbn = ltb (r .lbn) (z .l) in
-      let k = and-true lbn (pbnOk (z .n) (r .before)) (and-true (lbn && pbnOk (z .n) (r .before)) (ltb (r .after) (z .n)) (w .0) .0) .0 in
+      let k = and-true lbn (pbnOk (z .n) (r .before)) (and-true (lbn && pbnOk (z .n) (r .before)) (pbnOk (z .n) (r .after)) (w .0) .0) .0 in
       let h : r .lbn < l = omega (arith, ltb-true (r .lbn) (z .l) k) in
       let count : v < length ms = omega (arith, t .maps, length-set ms v m) in
       let cell : getD a (v * rowSize + r .lbn) 0 ≡ getD m (r .lbn) unmapped =

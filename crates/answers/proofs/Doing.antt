@@ -13,24 +13,25 @@ use Rattle.words.specs.Numbers.{two}
 use Rattle.words.specs.Outcome.{Outcome, refused, accepted, andThen}
 use Rattle.words.specs.Sections.{part}
 use Rattle.book.specs.Layout.{bookOf}
-use Rattle.model.specs.Calls.{enrol, backup, collect, read, audit}
-use Rattle.model.specs.OnBytes.{BackedBytes, CollectedBytes, numberOf, bookAfter, enrolBytes, backupBytes, after}
-use Rattle.model.specs.OnBytes.{collectBytes, readBytes}
+use Rattle.model.specs.Calls.{enrol, backup, collect, retire, read, audit}
+use Rattle.model.specs.OnBytes.{BackedBytes, CollectedBytes, RetiredBytes, numberOf, bookAfter, enrolBytes, backupBytes, after}
+use Rattle.model.specs.OnBytes.{collectBytes, retireBytes, readBytes}
 use Rattle.model.specs.OnBytes.{readNumberBytes, auditBytes, soundAfter}
 use Rattle.model.specs.Pool.{blockAt}
 use Rattle.model.specs.Read.{image}
-use Rattle.model.specs.Sides.{Step, stepOf, readAnswer, auditAnswer, Ours, enrolledTo, backedTo, collectedTo, ours}
+use Rattle.model.specs.Sides.{Step, stepOf, readAnswer, auditAnswer, Ours, enrolledTo, backedTo, collectedTo, retiredTo, ours}
 use Rattle.calls.specs.Asked.{listed, replyTo, nextAfter}
 use Rattle.calls.specs.Answers.{answerBytes}
 use Rattle.calls.specs.Contracts.{at}
 use Rattle.calls.specs.Doing.{Did}
 use Rattle.claims.proofs.form.Proper.{Proper, not-refused}
-use Rattle.calls.proofs.Proper.{collect-proper, audit-proper, backup-proper}
+use Rattle.calls.proofs.Proper.{collect-proper, audit-proper, backup-proper, retire-proper}
 use Rattle.setup.specs.Contracts.{Enrolled}
 use Rattle.collector.specs.Contracts.{Swept}
 use Rattle.auditor.specs.Contracts.{Audited}
 use Rattle.restorer.specs.Contracts.{Located}
 use Rattle.intake.specs.Contracts.{BackedUp}
+use Rattle.retirer.specs.Contracts.{RetiredBy}
 use Rattle.answers.proofs.Blocks.{located-readable, located-offset, located-inside, read-is}
 use Rattle.answers.proofs.AnswersLaid.{answered-block, lent-length}
 
@@ -101,6 +102,33 @@ module _ (spare : ℕ) (book : Lent (List ℕ)) (pool out : List ℕ) (to : ℕ)
             → Stored out to (answerBytes (auditAnswer o)) out′ r
         go (refused j) p n a = absurd (not-refused j p (sym n ∙ z))
         go (accepted d) p n a = rw a at s
+
+module _ (book room : Lent (List ℕ)) (v t : ℕ) (f : Lent ℕ) (k : ℕ) (e : RetiredBy book room v t f k) (pool out : List ℕ) (to : ℕ)
+    {out′ : List ℕ} {r : ℕ} where
+  pub retire-refused : (k ≡ 0 → ⊥) → Stored out to (0 ∷ two k) out′ r
+      → Did (length (was room)) (was book) pool (listed (retire v t)) out to (is book) pool out′ r
+  unfolding replyTo nextAfter ours stepOf
+  retire-refused h s =
+      let g = go (retireBytes (was book) (length (was room)) v t) (e .refusal) (e .book) in record { next = g .0; answer = g .1 }
+    where
+      go : (o : Outcome RetiredBytes) → k ≡ numberOf o → is book ≡ after (λ d. d .book) o (was book)
+          → By (stepOf (at (was book) pool) (andThen o (retiredTo (at (was book) pool)))) out to (is book) pool out′ r
+      go (refused j) n m = (ap (λ (x : List ℕ). at x pool) m, rw n at s)
+      go (accepted d) n m = absurd (h n)
+
+  pub retire-done : k ≡ 0 → Stored out to (2 ∷ two (now (f .exit))) out′ r
+      → Did (length (was room)) (was book) pool (listed (retire v t)) out to (is book) pool out′ r
+  unfolding replyTo nextAfter ours stepOf
+  retire-done z s =
+      let g =
+      go (retireBytes (was book) (length (was room)) v t) (retire-proper (was book) (length (was room)) v t) (e .refusal)
+      (e .book) (e .cells) in record { next = g .0; answer = g .1 }
+    where
+      go : (o : Outcome RetiredBytes) → Proper o → k ≡ numberOf o → is book ≡ after (λ d. d .book) o (was book)
+          → now (f .exit) ≡ after (λ d. d .cells) o (now (f .entry))
+          → By (stepOf (at (was book) pool) (andThen o (retiredTo (at (was book) pool)))) out to (is book) pool out′ r
+      go (refused j) p n m a = absurd (not-refused j p (sym n ∙ z))
+      go (accepted d) p n m a = (ap (λ (x : List ℕ). at x pool) m, rw a at s)
 
 module _ (spare : ℕ) (book pool : Lent (List ℕ)) (out : List ℕ) (to v k lbn : ℕ) (p : Lent ℕ) (n : ℕ)
     (e : Located book pool v k lbn p n) {out′ : List ℕ} where

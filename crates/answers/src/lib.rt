@@ -5,15 +5,16 @@ ghost use mathlib.Core.List.{_∷_};
 ghost use lib.ListN.{length};
 ghost use Rattle.words.specs.Numbers.{two};
 ghost use Rattle.words.specs.Laying.{Stored};
-ghost use Rattle.model.specs.Calls.{enrol, backup, collect, read, audit};
+ghost use Rattle.model.specs.Calls.{enrol, backup, collect, retire, read, audit};
 ghost use Rattle.calls.specs.Asked.{listed, restore};
-ghost use Rattle.calls.specs.Doing.{DidLent, DidAnySpare, DidAnyPool};
+ghost use Rattle.calls.specs.Doing.{DidLent, DidSpared, DidAnySpare, DidAnyPool};
 use engine::audit::aspen_audit;
 use engine::backup::aspen_backup;
 use engine::collect::aspen_collect;
 use engine::enrol::aspen_enrol;
 use engine::read::aspen_read;
 use engine::restore::aspen_restore;
+use engine::retire::aspen_retire;
 use words::BLOCK_SIZE;
 use words::put_bytes;
 use words::put_three;
@@ -23,7 +24,8 @@ const NUMBER: u8 = 0;
 
 const BACKED: u8 = 1;
 
-const FREED: u8 = 2;
+// One number: a collect's freed, a retire's cells.
+const GAVE: u8 = 2;
 
 const BLOCK: u8 = 3;
 
@@ -58,7 +60,26 @@ pub fn answer_collect(book: &mut [u8], day: u16, answers: &mut [u8], to: usize) 
     if refusal != 0 {
         return tell(answers, to, NUMBER, refusal);
     }
-    tell(answers, to, FREED, freed)
+    tell(answers, to, GAVE, freed)
+}
+
+pub fn answer_retire(
+    book: &mut [u8],
+    spare: &mut [u8],
+    v: u16,
+    day: u16,
+    answers: &mut [u8],
+    to: usize,
+) -> usize
+    requires { ⌜ to + 3 ≤ length (now answers) ⌝ }
+    ensures { λ r. ⌜ DidSpared book spare (listed (retire v day)) answers to r ⌝ }
+{
+    let mut cells = 0u16;
+    let refusal = aspen_retire(book, spare, v, day, &mut cells);
+    if refusal != 0 {
+        return tell(answers, to, NUMBER, refusal);
+    }
+    tell(answers, to, GAVE, cells)
 }
 
 pub fn answer_read(

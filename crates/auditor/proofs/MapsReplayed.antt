@@ -16,13 +16,15 @@ use Rattle.words.specs.Lists.{all, upFrom}
 use Rattle.words.proofs.Same.{same-equal}
 use Rattle.words.proofs.SetLaws.{getD-set}
 use Rattle.book.specs.Book.{volumes, Sizes, Slot, Rec, Book, Sized}
-use Rattle.book.specs.Form.{enrolled, pbnOk, recOk, slotOk, laterOk, daysOk}
+use Rattle.book.specs.Form.{pbnOk, recOk, slotOk, laterOk, daysOk}
 use Rattle.book.specs.FormFacts.{BookParts}
-use Rattle.model.specs.Journal.{Backup, journalOf, journal, backupsIn}
+use Rattle.book.proofs.Conditions.{slot-facts}
+use Rattle.model.specs.Journal.{Backup, journalOf, journal, slotsIn}
 use Rattle.model.specs.Audit.{applied, replayed, beforesIn, befores, noMaps, sameMap, mapsSound}
 use Rattle.claims.proofs.kept.Sound.{Sound, SoundAll, Days}
 use Rattle.claims.proofs.kept.JournalLaws.{length-applied}
-use Rattle.claims.proofs.kept.Replays.{mapAfter, backupsIn-replayed, backupsIn-sound, backupsIn-days}
+use Rattle.claims.proofs.kept.Replays.{mapAfter, slotsIn-replayed, slotsIn-sound, slotsIn-days}
+use Rattle.claims.proofs.kept.Retirements.{slots-end}
 use Rattle.claims.proofs.kept.KeptBefores.{Replayed}
 use Rattle.replay.proofs.JournalRead.{backupIn, journal-in}
 
@@ -34,7 +36,7 @@ befores-sound z m [] l ok e = tt
 befores-sound z m (r ∷ rs) l ok e =
     let w = and-true (recOk z r) (all (recOk z) rs) ok in
     let lbn = ltb (r .lbn) (z .l) in
-    let k = and-true lbn (pbnOk (z .n) (r .before)) (and-true (lbn && pbnOk (z .n) (r .before)) (ltb (r .after) (z .n)) (w .0) .0) .0 in
+    let k = and-true lbn (pbnOk (z .n) (r .before)) (and-true (lbn && pbnOk (z .n) (r .before)) (pbnOk (z .n) (r .after)) (w .0) .0) .0 in
     let f = and-true (eqb (getD m (r .lbn) unmapped) (r .before)) (beforesIn (set m (r .lbn) (r .after)) rs) e in (
       omega (arith, ltb-true (r .lbn) (z .l) k),
       sym (eqb-true (getD m (r .lbn) unmapped) (r .before) (f .0)),
@@ -98,7 +100,7 @@ module _ (x : Book) (s : Sized x) (p : BookParts x) where
       (all-weaker (slotOk x) (λ t. leb 0 (t .day)) (x .slots) (λ t f. le-leb 0 (t .day) (omega arith)) (p .slots))
       (p .days)
       (all-weaker (slotOk x) (λ t. leb (t .day) (x .day)) (x .slots)
-      (λ t f. and-true (enrolled x (t .volume)) (leb (t .day) (x .day)) f .1) (p .slots))
+      (λ t f. slot-facts x t f .1) (p .slots))
 
   row-none : (v : ℕ) → v < volumes → getD (noMaps x) v [] ≡ replicate (x .sizes .l) unmapped
   unfolding noMaps
@@ -120,13 +122,14 @@ module _ (x : Book) (s : Sized x) (p : BookParts x) where
       each-at (sameMap (x .maps) (replayed (noMaps x) (journal x))) 0 volumes
       (sym (all-each (sameMap (x .maps) (replayed (noMaps x) (journal x))) volumes) ∙ w .1) in
       record {
-        sounds = λ v h. rw (row-none v h) at (backupsIn-sound v (noMaps x) (journal x) sound);
+        sounds = λ v h. rw (row-none v h) at (slotsIn-sound v (noMaps x) (journal x) sound);
         maps = λ v h.
-            ap (λ (m : List ℕ). mapAfter m (backupsIn v (journal x))) (sym (row-none v h))
-            ∙ sym (backupsIn-replayed v (noMaps x) (journal x) (omega (arith, count-none)))
+            ap (λ (m : List ℕ). mapAfter m (slotsIn v (journal x))) (sym (row-none v h))
+            ∙ sym (slotsIn-replayed v (noMaps x) (journal x) (omega (arith, count-none)))
             ∙ sym (same-equal (getD (x .maps) v []) (getD (replayed (noMaps x) (journal x)) v []) (same v (omega arith) h));
-        days = λ v. backupsIn-days v 0 (x .day) (journal x) days-journal;
+        days = λ v. slotsIn-days v 0 (x .day) (journal x) days-journal;
         volumes =
             all-weaker (backupIn (x .sizes)) (λ b. ltb (b .volume) volumes) (journal x)
             (λ b f. and-true (ltb (b .volume) volumes) (all (recOk (x .sizes)) (b .records)) f .0) ok;
+        ends = λ v. slots-end x v (p .days);
       }

@@ -81,9 +81,9 @@ module _ (b : List ℕ) (small : (i : ℕ) → getD b i 0 < 256) where
   entry-part g o h hs =
       (λ i. count-part g o (omega arith) i ++ rest-part (countSize g) o h hs i) ∙ sym (part-add b o (countSize g) 19)
 
-  slot-part : (o : ℕ) → o + slotSize ≤ length b → getD b (o + 1) 0 ≡ 0 → slotBytes (slotOf b o) ≡ part b o slotSize
+  slot-part : (o : ℕ) → o + slotSize ≤ length b → getD b (o + 1) 0 ≤ 1 → slotBytes (slotOf b o) ≡ part b o slotSize
   slot-part o h hs =
-      let second : _≡_ {A = ℕ} 0 (getD b (o + 1) 0) = sym hs in
+      let second = state-byte (getD b (o + 1) 0) hs in
       let first = part-two o (omega arith) in
       let three : flat two (num b (o + 2) ∷ num b (o + 4) ∷ num b (o + 6) ∷ []) ≡ part b (o + 2) 6 =
       nums-part 3 (o + 2) (λ c. num b (o + (2 + c * 2))) (omega arith) (λ c hc. ap (λ (a : ℕ). num b a) (sym (add-assoc o 2 (c * 2))))
@@ -149,24 +149,26 @@ module _ (b : List ℕ) (small : (i : ℕ) → getD b i 0 < 256) where
         let at : (j : ℕ) → j < slotSize → (i : ℕ) → i ≡ o + j → getD b i 0 ≡ 0 = λ j hj i e. s .freeSlots i (omega arith) (omega arith) in
         λ i. record {
           volume = at 0 (omega arith) o (omega arith) i;
+          retire = eqb (at 1 (omega arith) (o + 1) refl i) 1;
           day = num-free (o + 2) (at 2 (omega arith) (o + 2) refl) (at 3 (omega arith) (o + 2 + 1) (omega arith)) i;
           first = num-free (o + 4) (at 4 (omega arith) (o + 4) refl) (at 5 (omega arith) (o + 4 + 1) (omega arith)) i;
           number = num-free (o + 6) (at 6 (omega arith) (o + 6) refl) (at 7 (omega arith) (o + 6 + 1) (omega arith)) i;
         }
 
-    second-zero : (q : ℕ) → q < z .s → getD b (slotOffset z q + 1) 0 ≡ 0
-    second-zero q hq = go (ltb q (num b bOffset)) refl
+    second-small : (q : ℕ) → q < z .s → getD b (slotOffset z q + 1) 0 ≤ 1
+    second-small q hq = go (ltb q (num b bOffset)) refl
       where
-        go : (t : Bool) → ltb q (num b bOffset) ≡ t → getD b (slotOffset z q + 1) 0 ≡ 0
+        go : (t : Bool) → ltb q (num b bOffset) ≡ t → getD b (slotOffset z q + 1) 0 ≤ 1
         go true e = s .seconds q (ltb-true q (num b bOffset) e)
-        go false e = s .freeSlots (slotOffset z q + 1) (omega (arith, ltb-false q (num b bOffset) e)) (omega arith)
+        go false e =
+            let zero = s .freeSlots (slotOffset z q + 1) (omega (arith, ltb-false q (num b bOffset) e)) (omega arith) in omega arith
 
     slots-part : flat slotBytes (fit noSlot (z .s) (tab (num b bOffset) (λ q. slotOf b (slotOffset z q))))
         ≡ part b (slotsFrom z) (z .s * slotSize)
     slots-part =
         rw (fit-tab noSlot (num b bOffset) (z .s) (λ q. slotOf b (slotOffset z q)) (s .slots) slot-free)
         (flat-tab (z .s) slotSize slotBytes (λ q. slotOf b (slotOffset z q)) b (slotsFrom z)
-        (λ q hq. slot-part (slotOffset z q) (omega (arith, s .len)) (second-zero q hq)))
+        (λ q hq. slot-part (slotOffset z q) (omega (arith, s .len)) (second-small q hq)))
 
     rec-free : (q : ℕ) → num b uOffset ≤ q → q < z .j → recOf b (recOffset z q) ≡ noRec
     unfolding noRec

@@ -14,7 +14,7 @@ use Rattle.words.specs.Sections.{part}
 use Rattle.book.specs.Book.{Book}
 use Rattle.book.specs.Layout.{nOffset, sOffset, jOffset, bOffset, uOffset, zeroOffset, slotSize, recSize, slotOffset, recOffset}
 use Rattle.book.specs.Layout.{sizesOf}
-use Rattle.book.specs.Form.{retentionOk, entryOk, pbnOk, recOk, slotOk, daysOk, pairsOk, bookOk, stateOk, secondOk, rawOk}
+use Rattle.book.specs.Form.{retentionOk, entryOk, pbnOk, recOk, aftersOk, slotOk, daysOk, pairsOk, bookOk, stateOk, secondOk, rawOk}
 use Rattle.book.specs.FormFacts.{BookParts}
 
 pub book-parts : (x : Book) → bookOk x ≡ true → BookParts x
@@ -28,7 +28,9 @@ book-parts x e =
     let c₆ = c₅ && all (slotOk x) (x .slots) in
     let c₇ = c₆ && daysOk (x .slots) in
     let c₈ = c₇ && pairsOk 0 (x .slots) (length (x .records)) in
-    let t₉ = and-true c₈ (all (recOk (x .sizes)) (x .records)) e in
+    let c₉ = c₈ && all (recOk (x .sizes)) (x .records) in
+    let t₁₀ = and-true c₉ (aftersOk (x .slots) (x .records)) e in
+    let t₉ = and-true c₈ (all (recOk (x .sizes)) (x .records)) (t₁₀ .0) in
     let t₈ = and-true c₇ (pairsOk 0 (x .slots) (length (x .records))) (t₉ .0) in
     let t₇ = and-true c₆ (daysOk (x .slots)) (t₈ .0) in
     let t₆ = and-true c₅ (all (slotOk x) (x .slots)) (t₇ .0) in
@@ -46,6 +48,7 @@ book-parts x e =
       days = t₇ .1;
       pairs = t₈ .1;
       records = t₉ .1;
+      afters = t₁₀ .1;
     }
 
 pub parts-book : (x : Book) → BookParts x → bookOk x ≡ true
@@ -60,7 +63,8 @@ parts-book x p =
       p .slots,
       p .days,
       p .pairs,
-    ) (p .records)
+      p .records,
+    ) (p .afters)
 
 -- what only the bytes show
 pub record RawParts (b : List ℕ) : Type 0 where

@@ -9,7 +9,7 @@ use native.Mathlib.Nat.{le-of-suc-le-suc, not-suc-le-zero, suc-inj, suc-ne-zero}
 use native.Mathlib.Omega.{arith}
 use lib.Dec.{leb, ltb, eqb}
 use lib.ListN.{length, getD, replicate, List·getD-eq-default}
-use borrow.Author.Tests.{leb-true, ltb-true, eqb-true, eq-eqb}
+use borrow.Author.Tests.{leb-true, ltb-true, eqb-true, eq-eqb, not-true}
 use Rattle.words.proofs.Places.{all-place}
 use Rattle.words.specs.Blocks.{unmapped}
 use Rattle.words.proofs.ChoiceLaws.{and-true, or-cases}
@@ -51,11 +51,18 @@ entry-facts e h =
     in
     record { expiry = leb-true (e .expiry) 65000 (t .0); count = λ f. eqb-true (e .count) 0 (free f .0); zero = λ f. free f .1 }
 
+-- a used slot: its volume is enrolled, its day is not past the header's
+pub slot-facts : (x : Book) (t : Slot) → slotOk x t ≡ true → (enrolled x (t .volume) ≡ true) × (leb (t .day) (x .day) ≡ true)
+unfolding slotOk
+slot-facts x t e =
+    and-true (enrolled x (t .volume)) (leb (t .day) (x .day))
+    (and-true (enrolled x (t .volume) && leb (t .day) (x .day)) (leb 3 (x .sizes .layout) || not (t .retire)) e .0)
+
 -- a used record: its LBN, its before and its after
 pub record RecIn (n l : ℕ) (r : Rec) : Type 0 where
   pub lbn : r .lbn < l
   pub before : (r .before < n) ⊎ (r .before ≡ unmapped)
-  pub after : r .after < n
+  pub after : (r .after < n) ⊎ (r .after ≡ unmapped)
 
 module _ (x : Book) (h : BookParts x) where
   pub retention-in : (v : ℕ) → retentionOf x v ≤ 5000
@@ -86,7 +93,7 @@ module _ (x : Book) (h : BookParts x) where
   unfolding slotOk
   slot-in q l =
       let t = slotAt (x .slots) q in
-      let s = and-true (enrolled x (t .volume)) (leb (t .day) (x .day)) (all-place (slotOk x) (x .slots) noSlot q (h .slots) l) in
+      let s = slot-facts x t (all-place (slotOk x) (x .slots) noSlot q (h .slots) l) in
       (s .0, leb-true (t .day) (x .day) (s .1))
 
   pub rec-in : (q : ℕ) → q < length (x .records) → RecIn (x .sizes .n) (x .sizes .l) (recAt (x .records) q)
@@ -95,36 +102,45 @@ module _ (x : Book) (h : BookParts x) where
       let r = recAt (x .records) q in
       let lbn = ltb (r .lbn) (x .sizes .l) in
       let t =
-      and-true (lbn && pbnOk (x .sizes .n) (r .before)) (ltb (r .after) (x .sizes .n))
+      and-true (lbn && pbnOk (x .sizes .n) (r .before)) (pbnOk (x .sizes .n) (r .after))
       (all-place (recOk (x .sizes)) (x .records) noRec q (h .records) l) in
       let u = and-true lbn (pbnOk (x .sizes .n) (r .before)) (t .0) in
       record {
         lbn = ltb-true (r .lbn) (x .sizes .l) (u .0);
         before = pbn-cases (x .sizes .n) (r .before) (u .1);
-        after = ltb-true (r .after) (x .sizes .n) (t .1);
+        after = pbn-cases (x .sizes .n) (r .after) (t .1);
       }
 
 -- ---- days
 
 -- a later slot's day is not below, and above within a volume
-later-facts : (t u : Slot) → laterOk t u ≡ true → (t .day ≤ u .day) × (t .volume ≡ u .volume → t .day < u .day)
+pub record Later (t u : Slot) : Type 0 where
+  pub day : t .day ≤ u .day
+  pub above : t .volume ≡ u .volume → t .day < u .day
+  pub living : t .volume ≡ u .volume → t .retire ≡ false
+
+pub later-facts : (t u : Slot) → laterOk t u ≡ true → Later t u
 unfolding laterOk
 later-facts t u e =
-    let s = and-true (leb (t .day) (u .day)) (not (eqb (t .volume) (u .volume)) || ltb (t .day) (u .day)) e in
-    (leb-true (t .day) (u .day) (s .0), λ v. ltb-true (t .day) (u .day) (rw (eq-eqb (t .volume) (u .volume) v) at (s .1)))
+    let s = and-true (leb (t .day) (u .day)) (not (eqb (t .volume) (u .volume)) || (ltb (t .day) (u .day) && not (t .retire))) e in
+    let own : t .volume ≡ u .volume → (ltb (t .day) (u .day) ≡ true) × (not (t .retire) ≡ true) =
+    λ v. and-true (ltb (t .day) (u .day)) (not (t .retire)) (rw (eq-eqb (t .volume) (u .volume) v) at (s .1))
+    in
+    record { day = leb-true (t .day) (u .day) (s .0); above = λ v. ltb-true (t .day) (u .day) (own v .0); living = λ v. not-true (t .retire) (own v .1) }
 
 pub days-in : (ts : List Slot) → daysOk ts ≡ true → (q r : ℕ) → q < r → r < length ts
     → (slotAt ts q .day ≤ slotAt ts r .day) × (slotAt ts q .volume ≡ slotAt ts r .volume → slotAt ts q .day < slotAt ts r .day)
 days-in [] e q r h l = absurd (not-suc-le-zero l)
 days-in (t ∷ ts) e q zero h l = absurd (not-suc-le-zero h)
 days-in (t ∷ ts) e zero (suc r) h l =
-    later-facts t (slotAt ts r) (all-place (laterOk t) ts noSlot r (and-true (all (laterOk t) ts) (daysOk ts) e .0) (le-of-suc-le-suc l))
+    let f = later-facts t (slotAt ts r) (all-place (laterOk t) ts noSlot r (and-true (all (laterOk t) ts) (daysOk ts) e .0) (le-of-suc-le-suc l)) in
+    (f .day, f .above)
 days-in (t ∷ ts) e (suc q) (suc r) h l =
     days-in ts (and-true (all (laterOk t) ts) (daysOk ts) e .1) q r (le-of-suc-le-suc h) (le-of-suc-le-suc l)
 
 -- ---- pairs
 
-pairs-le : (ts : List Slot) (at u : ℕ) → pairsOk at ts u ≡ true → at ≤ u
+pub pairs-le : (ts : List Slot) (at u : ℕ) → pairsOk at ts u ≡ true → at ≤ u
 pairs-le [] at u e = let z = eqb-true at u e in omega arith
 pairs-le (t ∷ ts) at u e =
     let z =

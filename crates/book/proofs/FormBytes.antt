@@ -52,7 +52,7 @@ outline-parts b l r =
           (each-at (stateOk (num b 0) b) 0 (num b nOffset) (sym (all-each (stateOk (num b 0) b) (num b nOffset)) ∙ r .states) p
           (omega arith) h);
       seconds =
-          λ q h. eqb-true (getD b (slotOffset (sizesOf b) q + 1) 0) 0
+          λ q h. leb-true (getD b (slotOffset (sizesOf b) q + 1) 0) 1
           (each-at (secondOk b) 0 (num b bOffset) (sym (all-each (secondOk b) (num b bOffset)) ∙ r .seconds) q
           (omega arith) h);
       freeSlots =
@@ -80,7 +80,7 @@ parts-outline b h =
       seconds =
           all-each (secondOk b) (num b bOffset)
           ∙ at-each (secondOk b) 0 (num b bOffset)
-          (λ q _ l. eq-eqb (getD b (slotOffset (sizesOf b) q + 1) 0) 0 (h .seconds q l));
+          (λ q _ l. le-leb (getD b (slotOffset (sizesOf b) q + 1) 0) 1 (h .seconds q l));
       restSlots =
           byte-zero b (slotOffset (sizesOf b) (num b bOffset)) ((num b sOffset - num b bOffset) * slotSize)
           (omega arith) (λ i lo hi. h .freeSlots i lo (omega arith));

@@ -147,6 +147,7 @@ module _ (x : Book) where
       let at = slotOffset (x .sizes) q in
       λ i. record {
         volume = get-slot x q 0 at hq (omega arith) (omega arith) i;
+        retire = (ap (λ (k : ℕ). eqb k 1) (get-slot x q 1 (at + 1) hq (omega arith) refl) ∙ state-back (t .retire)) i;
         day = slot-num q 2 (t .day) hq (omega arith) refl refl i;
         first = slot-num q 4 (t .first) hq (omega arith) refl refl i;
         number = slot-num q 6 (t .number) hq (omega arith) refl refl i;

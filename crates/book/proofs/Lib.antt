@@ -1,3 +1,4 @@
+pub mod ARetireSlot
 pub mod AnEntry
 pub mod Widths
 pub mod SizesIn

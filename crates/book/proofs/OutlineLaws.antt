@@ -71,7 +71,8 @@ module _ (x : Book) (s : Sized x) where
             (state-at p hp));
         seconds =
             λ q. rw (num-layout x, num-n x, num-l x, num-b x)
-            (λ hq. get-slot x q 1 (slotOffset z q + 1) (omega (arith, s .slots)) (omega arith) refl);
+            (λ hq. rw (get-slot x q 1 (slotOffset z q + 1) (omega (arith, s .slots)) (omega arith) refl)
+            (state-small (slotAt (x .slots) q .retire)));
         freeSlots = λ i. rw (num-layout x, num-n x, num-l x, num-s x, num-b x) (free-slots i);
         freeRecords = λ i. rw (num-layout x, num-n x, num-l x, num-s x, num-j x, num-u x) (free-records i);
       }

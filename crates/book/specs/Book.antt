@@ -26,9 +26,11 @@ pub record Entry : Type 0 where
   pub expiry : ℕ
   pub print : List ℕ
 
--- a used backup slot: "volume, day, then the pair first record and number of records"
+-- a used backup slot: "volume, day, then the pair first record and number of records". "Retiring a volume .. takes a backup slot whose second
+-- byte is 1" (document 02, K6)
 pub record Slot : Type 0 where
   pub volume : ℕ
+  pub retire : Bool
   pub day : ℕ
   pub first : ℕ
   pub number : ℕ
@@ -58,7 +60,7 @@ unfoldable pub freeEntry : Entry
 freeEntry = record { count = 0; held = false; expiry = 0; print = noPrint }
 
 unfoldable pub noSlot : Slot
-noSlot = record { volume = 0; day = 0; first = 0; number = 0 }
+noSlot = record { volume = 0; retire = false; day = 0; first = 0; number = 0 }
 
 unfoldable pub noRec : Rec
 noRec = record { lbn = 0; before = 0; after = 0 }

@@ -7,18 +7,20 @@
 --   states are 0 or 1                                           rawOk: stateOk
 --   a free entry has count 0 and a zero fingerprint             bookOk: entryOk
 --   PBNs in maps and records are below N or 65,535              bookOk: pbnOk, and recOk for a record's before
---   an after is below N; record LBNs are below L                bookOk: recOk
+--   an after is below N; record LBNs are below L                bookOk: recOk, and aftersOk for where an after is unmapped
 --   used slots name enrolled volumes                            bookOk: slotOk
+--   retire slots are from layout 3 on, and end their volume     bookOk: slotOk, and daysOk
 --   their days never fall, rise strictly within a volume        bookOk: daysOk
 --   and don't pass the header's day                             bookOk: slotOk
 --   pairs: the first at 0, each next, the last ends at U        bookOk: pairsOk
 --   unused slots and records are zero                           rawOk
---   a slot's second byte, the spare header field are zero       rawOk: secondOk, and zeroOffset
+--   a slot's second byte is zero, in a retire slot 1            rawOk: secondOk
+--   the spare header field is zero                              rawOk: zeroOffset
 -- rawOk has what only the bytes show, bookOk what the book that they say shows.
 use Prim.Native.Nat.{ℕ, _+_, _-_, _*_}
 use mathlib.Core.Bool.{Bool, true, not, _&&_, _||_}
 use mathlib.Core.List.{List, [], _∷_}
-use lib.ListN.{length, getD}
+use lib.ListN.{length, getD, take, drop}
 use lib.Dec.{leb, ltb, eqb}
 use Rattle.words.specs.Blocks.{unmapped}
 use Rattle.words.specs.Choice.{if_then_else_}
@@ -56,21 +58,30 @@ entryOk e = leb (e .expiry) 65000 && (e .held || (eqb (e .count) 0 && allZero (e
 unfoldable pub pbnOk : ℕ → ℕ → Bool
 pbnOk n p = ltb p n || eqb p unmapped
 
--- "and an after is below N; record LBNs are below L"
+-- "and an after is below N", or unmapped where aftersOk asks for it; "record LBNs are below L"
 unfoldable pub recOk : Sizes → Rec → Bool
-recOk z r = ltb (r .lbn) (z .l) && pbnOk (z .n) (r .before) && ltb (r .after) (z .n)
+recOk z r = ltb (r .lbn) (z .l) && pbnOk (z .n) (r .before) && pbnOk (z .n) (r .after)
+
+-- "a record has that after exactly when its slot is a retire slot" (document 02, K6): so for each slot and its records
+unfoldable pub afterOk : Bool → Rec → Bool
+afterOk retire r = if retire then eqb (r .after) unmapped else not (eqb (r .after) unmapped)
+
+abbrev pub aftersOk : List Slot → List Rec → Bool
+aftersOk [] rs = true
+aftersOk (t ∷ ts) rs = all (afterOk (t .retire)) (take (t .number) rs) && aftersOk ts (drop (t .number) rs)
 
 -- a volume above 7 has no retention, so it is not enrolled
 abbrev pub enrolled : Book → ℕ → Bool
 enrolled x v = not (eqb (retentionOf x v) 0)
 
--- "used slots name enrolled volumes"; their days "don't pass the header's day"
+-- "used slots name enrolled volumes"; their days "don't pass the header's day"; "from layout 3 on" a slot may retire its volume
 unfoldable pub slotOk : Book → Slot → Bool
-slotOk x t = enrolled x (t .volume) && leb (t .day) (x .day)
+slotOk x t = enrolled x (t .volume) && leb (t .day) (x .day) && (leb 3 (x .sizes .layout) || not (t .retire))
 
--- "their days never fall, rise strictly within a volume": so for each slot and every later one
+-- "their days never fall, rise strictly within a volume", and after a retire slot "no slot of the volume follows it" (document 02, K6): so for
+-- each slot and every later one
 unfoldable pub laterOk : Slot → Slot → Bool
-laterOk t u = leb (t .day) (u .day) && (not (eqb (t .volume) (u .volume)) || ltb (t .day) (u .day))
+laterOk t u = leb (t .day) (u .day) && (not (eqb (t .volume) (u .volume)) || (ltb (t .day) (u .day) && not (t .retire)))
 
 abbrev pub daysOk : List Slot → Bool
 daysOk [] = true
@@ -92,16 +103,17 @@ bookOk x =
     && daysOk (x .slots)
     && pairsOk 0 (x .slots) (length (x .records))
     && all (recOk (x .sizes)) (x .records)
+    && aftersOk (x .slots) (x .records)
 
--- ---- number 2, as far as only the bytes show it: "B ≤ S, U ≤ J", "states are 0 or 1", "unused slots and records, a slot's second byte and
--- the spare header field are zero"
+-- ---- number 2, as far as only the bytes show it: "B ≤ S, U ≤ J", "states are 0 or 1", "unused slots and records .. and the spare header field are
+-- zero"; a slot's second byte is zero, or 1 in a retire slot
 
 -- of entry p, in layout g
 unfoldable pub stateOk : ℕ → List ℕ → ℕ → Bool
 stateOk g b p = leb (getD b (entryOffset g p + countSize g) 0) 1
 
 unfoldable pub secondOk : List ℕ → ℕ → Bool
-secondOk b q = eqb (getD b (slotOffset (sizesOf b) q + 1) 0) 0
+secondOk b q = leb (getD b (slotOffset (sizesOf b) q + 1) 0) 1
 
 unfoldable pub rawOk : List ℕ → Bool
 rawOk b =

@@ -103,8 +103,9 @@ bookSize z = recordsFrom z + z .j * recSize
 
 -- ---- the bytes of a book, section after section, unused places zero
 
+-- an entry's state, and a slot's second byte
 abbrev pub stateByte : Bool → ℕ
-stateByte held = if held then 1 else 0
+stateByte on = if on then 1 else 0
 
 abbrev pub countBytes : ℕ → ℕ → List ℕ
 countBytes g c = if eqb g 1 then c ∷ [] else two c
@@ -121,7 +122,7 @@ abbrev pub mapBytes : ℕ → List ℕ → List ℕ
 mapBytes l m = flat two (fit unmapped l m)
 
 abbrev pub slotBytes : Slot → List ℕ
-slotBytes t = t .volume ∷ 0 ∷ flat two (t .day ∷ t .first ∷ t .number ∷ [])
+slotBytes t = t .volume ∷ stateByte (t .retire) ∷ flat two (t .day ∷ t .first ∷ t .number ∷ [])
 
 abbrev pub recBytes : Rec → List ℕ
 recBytes r = flat two (r .lbn ∷ r .before ∷ r .after ∷ [])
@@ -177,7 +178,13 @@ abbrev pub cellOf : List ℕ → ℕ → ℕ → ℕ
 cellOf b v l = num b (cellOffset (sizesOf b) v l)
 
 abbrev pub slotOf : List ℕ → ℕ → Slot
-slotOf b at = record { volume = getD b at 0; day = num b (at + 2); first = num b (at + 4); number = num b (at + 6) }
+slotOf b at = record {
+  volume = getD b at 0;
+  retire = eqb (getD b (at + 1) 0) 1;
+  day = num b (at + 2);
+  first = num b (at + 4);
+  number = num b (at + 6);
+}
 
 abbrev pub recOf : List ℕ → ℕ → Rec
 recOf b at = record { lbn = num b at; before = num b (at + 2); after = num b (at + 4) }

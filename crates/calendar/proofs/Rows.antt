@@ -9,7 +9,7 @@ use Rattle.words.proofs.LayingLaws.{Left, left-all}
 use Rattle.book.specs.Book.{Book, slotAt, retentionOf}
 use Rattle.book.specs.Form.{pairsOk}
 use Rattle.model.specs.Journal.{Backup}
-use Rattle.model.specs.JournalAt.{backupsFrom}
+use Rattle.model.specs.JournalAt.{ownFrom}
 use Rattle.claims.proofs.kept.JournalAtLaws.{from-start, from-own, from-end}
 use Rattle.model.specs.Views.{backupRows, backupsOf}
 use Rattle.calendar.specs.Own.{NextIs}
@@ -17,7 +17,7 @@ use Rattle.calendar.specs.Row.{rowFrom}
 use Rattle.calendar.proofs.RowLaws.{row-is}
 
 unfoldable pub rowsFrom : Book → ℕ → ℕ → List ℕ
-rowsFrom x v q = backupRows (retentionOf x v) (x .day) (backupsFrom x v q)
+rowsFrom x v q = backupRows (retentionOf x v) (x .day) (ownFrom x v q)
 
 module _ {x : Book} {v q : ℕ} where
   -- at the first of the volume's slots all of them are left

@@ -9,7 +9,7 @@ use Rattle.words.specs.Lent.{Lent}
 use borrow.Author.Tests.{lt-ltb, le-ltb}
 use Rattle.words.proofs.Accepted.{unless-refused}
 use Rattle.book.specs.Layout.{bookOf}
-use Rattle.model.specs.Journal.{backups}
+use Rattle.model.specs.Journal.{backupCount}
 use Rattle.model.specs.Views.{enrolledNumber, outputNumber, backupsOf, withRoom, backupsBytes}
 use Rattle.claims.proofs.views.WrittenLaws.{written-refused, written-short, written-whole}
 use Rattle.calendar.specs.Contracts.{BackupsTold}
@@ -40,7 +40,7 @@ module _ (book : Lent (List ℕ)) (v : ℕ) (out : Lent (List ℕ)) (n : Lent �
     }
 
   pub told-whole : enrolledNumber b v ≡ 0 → length rows ≤ room → now (out .exit) ≡ sets (now (out .entry)) 0 rows
-      → now (n .exit) ≡ length (backups (bookOf b) v)
+      → now (n .exit) ≡ backupCount (bookOf b) v
       → BackupsTold book v out n 0
   unfolding backupsBytes withRoom outputNumber
   told-whole e h s c = record {

@@ -7,7 +7,7 @@ use denote.Ref.{now}
 use Rattle.words.specs.Lent.{Lent}
 use Rattle.words.specs.Outcome.{Outcome}
 use Rattle.book.specs.Layout.{told}
-use Rattle.model.specs.Journal.{backups}
+use Rattle.model.specs.Journal.{backupCount}
 use Rattle.model.specs.OnBytes.{after}
 use Rattle.model.specs.Views.{backupsBytes}
 use Rattle.model.specs.Written.{Written}
@@ -18,4 +18,4 @@ rowsFor b v out = backupsBytes (now (b .entry)) v (length (now (out .entry)))
 -- n is how many backups there are, r what the call returns
 pub record BackupsTold (b : Lent (List ℕ)) (v : ℕ) (out : Lent (List ℕ)) (n : Lent ℕ) (r : ℕ) : Type 0 where
   pub written : Written (rowsFor b v out) (now (out .entry)) r (now (out .exit))
-  pub count : now (n .exit) ≡ after (λ c. length (backups (told (b .entry)) v)) (rowsFor b v out) (now (n .entry))
+  pub count : now (n .exit) ≡ after (λ c. backupCount (told (b .entry)) v) (rowsFor b v out) (now (n .entry))

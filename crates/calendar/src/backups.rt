@@ -10,7 +10,7 @@ ghost use Rattle.words.specs.Laying.{Stored};
 ghost use Rattle.model.specs.Views.{backupsOf};
 ghost use Rattle.calendar.specs.Contracts.{BackupsTold};
 ghost use Rattle.calendar.specs.Own.{NextIs};
-ghost use Rattle.calendar.specs.Row.{rowSize, untilFrom, rowFrom};
+ghost use Rattle.calendar.specs.Row.{untilFrom, rowFrom};
 use fields::header;
 use figures::enrolled::enrolled_number;
 use figures::volume::count_backups;
@@ -22,7 +22,7 @@ use words::refusals;
 
 const ROW_SIZE: usize = 8;
 
-// The last day of the newest backup.
+// The last day of the newest backup, while the volume isn't retired.
 const ALWAYS: u16 = 65535;
 
 // The first slot from q on that is the volume's; where there is none, the answer is past the used slots.
@@ -42,8 +42,7 @@ fn next_own(book: &[u8], v: u16, q: u16) -> u16
     r
 }
 
-// The last day on which a backup that was taken on day `taken` is kept: slot `at` holds the one that came after it, if
-// any.
+// The last day on which a backup that was taken on day `taken` is kept: slot `at` is the volume's next, if any.
 fn kept_until(book: &[u8], taken: u16, at: u16, days: u16) -> u16
     requires { ⌜ FormFacts (now book) ⌝ }
     requires { ⌜ (taken ≤ 60000) × (days ≤ 5000) ⌝ }
@@ -55,15 +54,18 @@ fn kept_until(book: &[u8], taken: u16, at: u16, days: u16) -> u16
     taken + days
 }
 
-// The row of the backup in slot q, where slot `next` holds the one that came after it, if any. It answers the offset
-// past the row.
+// The row of the backup in slot q, where slot `next` is the volume's next, if any. A retire slot has no row. It answers
+// the offset past the row.
 fn put_row(book: &[u8], q: u16, next: u16, days: u16, out: &mut [u8], at: usize) -> usize
     requires { ⌜ FormFacts (now book) ⌝ }
     requires { ⌜ (q < length (told book .slots)) × (days ≤ 5000) ⌝ }
-    requires { ⌜ at + rowSize ≤ length (now out) ⌝ }
+    requires { ⌜ at + length (rowFrom (told book) q next days) ≤ length (now out) ⌝ }
     ensures { λ r. ⌜ Stored (now (out .entry)) at (rowFrom (told (book .entry)) q next days) (now (out .exit)) r ⌝ }
 {
     let slot = slot::slot_at(book, q);
+    if slot.retire {
+        return at;
+    }
     let until = kept_until(book, slot.day, next, days);
     let kept = is_kept(book, slot.day, next, days) as u16;
     put_three(out, at, slot.day, slot.number, until);

@@ -13,7 +13,7 @@ use Rattle.words.proofs.NumberLaws.{two-back}
 use Rattle.words.specs.Outcome.{Outcome, accepted, andThen}
 use Rattle.words.proofs.Pieces.{part-past}
 use Rattle.words.specs.Sections.{flat, part}
-use Rattle.model.specs.Calls.{enrol, backup, collect, read, audit}
+use Rattle.model.specs.Calls.{enrol, backup, collect, retire, read, audit}
 use Rattle.calls.specs.Asked.{Asked, listed, restore}
 use Rattle.calls.proofs.ReadingLaws.{calls-end, calls-more}
 use Rattle.calls.specs.Coding.{dataSize, callSize, unusedZero, unusedZeroAt, callOf, isCall, callAt, before, callsFrom, callsOf}
@@ -137,6 +137,13 @@ call-back p rest (restore v k first many) =
       is = row-call p rest 5 v k first many [] refl;
       call = row-back p rest 5 v k first many [];
       size = row-size p rest 5 v k first many [];
+      some = omega arith;
+    }
+call-back p rest (listed (retire v t)) =
+    record {
+      is = row-call p rest 6 v t 0 0 [] refl;
+      call = row-back p rest 6 v t 0 0 [];
+      size = row-size p rest 6 v t 0 0 [];
       some = omega arith;
     }
 

@@ -4,7 +4,7 @@ use Prim.Native.Nat.{ℕ, _/_, _%_}
 use mathlib.Core.List.{List, [], _∷_, _++_}
 use lib.ListN.{length}
 use Rattle.words.specs.Numbers.{two}
-use Rattle.model.specs.Calls.{enrol, backup, collect, read, audit}
+use Rattle.model.specs.Calls.{enrol, backup, collect, retire, read, audit}
 use Rattle.calls.specs.Asked.{Asked, listed, restore}
 
 -- ---- the bytes of a call
@@ -20,3 +20,4 @@ callBytes (listed (collect t)) = rowBytes 2 t 0 0 0 []
 callBytes (listed (read v k lbn)) = rowBytes 3 v k lbn 0 []
 callBytes (listed audit) = rowBytes 4 0 0 0 0 []
 callBytes (restore v k first many) = rowBytes 5 v k first many []
+callBytes (listed (retire v t)) = rowBytes 6 v t 0 0 []

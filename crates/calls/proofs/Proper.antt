@@ -3,10 +3,13 @@ use Prim.Native.Nat.{ℕ, zero, suc}
 use mathlib.Core.Bool.{Bool, true, false}
 use mathlib.Core.List.{List, [], _∷_}
 use mathlib.Core.Option.{Option, none, some}
+use lib.Dec.{eqb}
+use Rattle.words.specs.Blocks.{unmapped}
 use Rattle.words.specs.Choice.{if_then_else_}
-use Rattle.words.specs.Lists.{same}
-use Rattle.words.specs.Outcome.{Outcome, refused, accepted}
+use Rattle.words.specs.Lists.{same, upFrom}
+use Rattle.words.specs.Outcome.{Outcome, refused, accepted, unless}
 use Rattle.runs.specs.Changes.{Change, changes}
+use Rattle.book.specs.Book.{Book, cellAt}
 use Rattle.book.specs.Form.{formNumber}
 use Rattle.book.specs.Layout.{bookOf}
 use Rattle.model.specs.Backup
@@ -16,11 +19,13 @@ use Rattle.model.specs.Collect
 use Rattle.model.specs.Collect.{collectNumber}
 use Rattle.model.specs.Pool.{blockAt}
 use Rattle.model.specs.Kept.{keptNumber}
-use Rattle.model.specs.OnBytes.{poolNumber, spareNumber, backupBytes, collectBytes, collectedBytes, restoreBytes, auditBytes}
+use Rattle.model.specs.OnBytes.{poolNumber, spareNumber, backupBytes, retireBytes, collectBytes, collectedBytes, restoreBytes, auditBytes}
 use Rattle.model.specs.Read
 use Rattle.model.specs.Read.{readNumber}
 use Rattle.model.specs.Restore
 use Rattle.model.specs.Restore.{runNumber, readsFrom}
+use Rattle.model.specs.Retire
+use Rattle.model.specs.Retire.{retireNumber, clearNumber, cleared, clearCell, clearCells}
 use Rattle.claims.proofs.form.Proper.{Proper, proper-accepted, proper-refused, proper-unless, proper-then}
 
 pub collect-proper : (b : List ℕ) (t : ℕ) → Proper (collectBytes b t)
@@ -71,6 +76,32 @@ backup-proper b pool spare v t list =
     (proper-then (runChanges v (untilNext (bookOf b) v) (changes list) (begun (bookOf b) pool)) _
     (changes-proper v _ (changes list) _) (λ w. proper-accepted _)))
     (λ d. proper-accepted _))))
+
+clear-proper : (v until lbn before : ℕ) (x : Book) → Proper (clearCell v until lbn before x)
+unfolding clearCell
+clear-proper v until lbn before x = go (eqb before unmapped)
+  where
+    go : (t : Bool) → Proper (if t then accepted x else unless (clearNumber x before) (accepted (cleared v until lbn before x)))
+    go true = proper-accepted x
+    go false = proper-unless (clearNumber x before) _ (proper-accepted _)
+
+clears-proper : (v until : ℕ) (ls : List ℕ) (x : Book) → Proper (clearCells v until ls x)
+clears-proper v until [] x = proper-accepted x
+clears-proper v until (l ∷ ls) x =
+    proper-then (clearCell v until l (cellAt (x .maps) v l) x) _ (clear-proper v until l (cellAt (x .maps) v l) x)
+    (λ y. clears-proper v until ls y)
+
+pub retire-proper : (b : List ℕ) (spare v t : ℕ) → Proper (retireBytes b spare v t)
+unfolding retireBytes Retire.retire
+retire-proper b spare v t =
+    let x = bookOf b in
+    proper-unless (formNumber b) _
+    (proper-unless (spareNumber b spare) _
+    (proper-then (Retire.retire x v t) _
+    (proper-unless (retireNumber x v t) _
+    (proper-then (clearCells v (untilNext x v) (upFrom 0 (x .sizes .l)) x) _ (clears-proper v _ (upFrom 0 (x .sizes .l)) x)
+    (λ y. proper-accepted _)))
+    (λ d. proper-accepted _)))
 
 reads-proper : (one : ℕ → Outcome (List ℕ)) → ((l : ℕ) → Proper (one l)) → (first many : ℕ) → Proper (readsFrom one first many)
 reads-proper one h first zero = proper-accepted []

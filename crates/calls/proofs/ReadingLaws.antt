@@ -14,7 +14,7 @@ use Rattle.words.proofs.ChoiceLaws.{and-true, same-test}
 use Rattle.words.specs.Numbers.{num}
 use Rattle.words.specs.Outcome.{Outcome, refused, accepted, andThen}
 use Rattle.words.specs.Sections.{part}
-use Rattle.model.specs.Calls.{enrol, backup, collect, read, audit}
+use Rattle.model.specs.Calls.{enrol, backup, collect, retire, read, audit}
 use Rattle.calls.specs.Asked.{Asked, listed, restore}
 use Rattle.calls.specs.Coding.{dataSize, callSize, unusedZeroAt, callOf, isCall, callAt, before, callsFrom}
 use Rattle.calls.specs.Reading.{restOf, Good}
@@ -178,6 +178,13 @@ module _ (b : List ℕ) where
     unfolding callAt callOf
     call-restore m n o p e = rw (ne-eqb kind 0 m, ne-eqb kind 1 n, ne-eqb kind 2 o, ne-eqb kind 3 p, eq-eqb kind 5 e)
 
-    pub call-audit : (kind ≡ 0 → ⊥) → (kind ≡ 1 → ⊥) → (kind ≡ 2 → ⊥) → (kind ≡ 3 → ⊥) → (kind ≡ 5 → ⊥) → callAt b at ≡ listed audit
+    pub call-retire : (kind ≡ 0 → ⊥) → (kind ≡ 1 → ⊥) → (kind ≡ 2 → ⊥) → (kind ≡ 3 → ⊥) → (kind ≡ 5 → ⊥) → kind ≡ 6
+        → callAt b at ≡ listed (retire (num b (at + 2)) (num b (at + 4)))
     unfolding callAt callOf
-    call-audit m n o p q = rw (ne-eqb kind 0 m, ne-eqb kind 1 n, ne-eqb kind 2 o, ne-eqb kind 3 p, ne-eqb kind 5 q)
+    call-retire m n o p q e = rw (ne-eqb kind 0 m, ne-eqb kind 1 n, ne-eqb kind 2 o, ne-eqb kind 3 p, ne-eqb kind 5 q, eq-eqb kind 6 e)
+
+    pub call-audit : (kind ≡ 0 → ⊥) → (kind ≡ 1 → ⊥) → (kind ≡ 2 → ⊥) → (kind ≡ 3 → ⊥) → (kind ≡ 5 → ⊥) → (kind ≡ 6 → ⊥)
+        → callAt b at ≡ listed audit
+    unfolding callAt callOf
+    call-audit m n o p q r =
+        rw (ne-eqb kind 0 m, ne-eqb kind 1 n, ne-eqb kind 2 o, ne-eqb kind 3 p, ne-eqb kind 5 q, ne-eqb kind 6 r)

@@ -13,8 +13,8 @@ use Rattle.words.specs.Outcome.{Outcome, refused, accepted, andThen, unless}
 use Rattle.words.specs.Sections.{flat, part}
 use Rattle.book.specs.Form.{formNumber}
 use Rattle.book.specs.Layout.{bookOf}
-use Rattle.model.specs.Calls.{Call, enrol, backup, collect, read, audit}
-use Rattle.model.specs.OnBytes.{poolNumber, enrolBytes, backupBytes, collectBytes, readBytes, auditBytes}
+use Rattle.model.specs.Calls.{Call, enrol, backup, collect, retire, read, audit}
+use Rattle.model.specs.OnBytes.{poolNumber, enrolBytes, backupBytes, collectBytes, retireBytes, readBytes, auditBytes}
 use Rattle.model.specs.OnBytes.{restoreBytes}
 use Rattle.model.specs.Read
 use Rattle.model.specs.Read.{image, readNumber}
@@ -56,6 +56,7 @@ answer-short spare o (enrol v r) = changed-short o (enrolBytes (o .book) v r) _ 
 answer-short spare o (backup v t list) =
     changed-short o (backupBytes (o .book) (o .pool) spare v t list) _ 3 (omega arith) (λ d. omega arith)
 answer-short spare o (collect t) = changed-short o (collectBytes (o .book) t) _ 1 (omega arith) (λ d. omega arith)
+answer-short spare o (retire v t) = changed-short o (retireBytes (o .book) spare v t) _ 1 (omega arith) (λ d. omega arith)
 answer-short spare o (read v k lbn) = go (formNumber (o .book)) (poolNumber (o .book) (o .pool)) (readNumber (bookOf (o .book)) v k lbn)
   where
     found : List ℕ
@@ -128,20 +129,22 @@ answers-short spare o (a ∷ xs) =
 -- by the kind in a head
 longest-kind : (kind a b c d : ℕ) (list : List ℕ) → longestReply (callOf kind a b c d list) ≡ longestOf kind d
 unfolding callOf longestOf
-longest-kind kind a b c d list = go (eqb kind 0) (eqb kind 1) (eqb kind 2) (eqb kind 3) (eqb kind 5) refl refl refl refl refl
+longest-kind kind a b c d list =
+    go (eqb kind 0) (eqb kind 1) (eqb kind 2) (eqb kind 3) (eqb kind 5) (eqb kind 6) refl refl refl refl refl refl
   where
     at : (i : ℕ) → eqb kind i ≡ true → longestReply (callOf i a b c d list) ≡ longestOf i d
         → longestReply (callOf kind a b c d list) ≡ longestOf kind d
     at i e = subst (λ j. longestReply (callOf j a b c d list) ≡ longestOf j d) (sym (eqb-true kind i e))
 
-    go : (s t u w x : Bool) → eqb kind 0 ≡ s → eqb kind 1 ≡ t → eqb kind 2 ≡ u → eqb kind 3 ≡ w → eqb kind 5 ≡ x
+    go : (s t u w x y : Bool) → eqb kind 0 ≡ s → eqb kind 1 ≡ t → eqb kind 2 ≡ u → eqb kind 3 ≡ w → eqb kind 5 ≡ x → eqb kind 6 ≡ y
         → longestReply (callOf kind a b c d list) ≡ longestOf kind d
-    go true t u w x e f g h i = at 0 e refl
-    go false true u w x e f g h i = at 1 f refl
-    go false false true w x e f g h i = at 2 g refl
-    go false false false true x e f g h i = at 3 h refl
-    go false false false false true e f g h i = at 5 i refl
-    go false false false false false e f g h i = rw (e, f, g, h, i)
+    go true t u w x y e f g h i j = at 0 e refl
+    go false true u w x y e f g h i j = at 1 f refl
+    go false false true w x y e f g h i j = at 2 g refl
+    go false false false true x y e f g h i j = at 3 h refl
+    go false false false false true y e f g h i j = at 5 i refl
+    go false false false false false true e f g h i j = at 6 j refl
+    go false false false false false false e f g h i j = rw (e, f, g, h, i, j)
 
 pub longest-at : (b : List ℕ) (at : ℕ) → longestReply (callAt b at) ≡ longestOf (getD b at 0) (num b (at + 8))
 unfolding callAt

@@ -23,6 +23,12 @@ pub record DidAll (spare : ℕ) (b pool : List ℕ) (xs : List Asked) (out b′ 
 
 -- ---- of what was lent
 
+-- a call that looks at the spare and not at the pool
+abbrev pub DidSpared : Lent (List ℕ) → Lent (List ℕ) → Asked → Lent (List ℕ) → ℕ → ℕ → Type 0
+DidSpared book spare a out to r =
+    (pool : List ℕ)
+    → Did (length (now (spare .entry))) (now (book .entry)) pool a (now (out .entry)) to (now (book .exit)) pool (now (out .exit)) r
+
 module _ (book : Lent (List ℕ)) where
   -- a call that looks at neither spare nor pool, and one that doesn't look at the spare
   abbrev pub DidAnyPool : Asked → Lent (List ℕ) → ℕ → ℕ → Type 0

@@ -56,7 +56,7 @@ crowded = record {
         ∷ record { count = 1; held = true; expiry = 0; print = printOf B }
         ∷ [];
     maps = crowdedMaps;
-    slots = map (λ v. record { volume = v; day = 0; first = 0; number = 0 }) (upFrom 0 8);
+    slots = map (λ v. record { volume = v; retire = false; day = 0; first = 0; number = 0 }) (upFrom 0 8);
     records = [];
   });
   pool = blockOf A ++ blockOf B;
@@ -168,7 +168,7 @@ idle = enrol 0 9 ∷ backup 0 1 empty ∷ read 0 1 0 ∷ []
 
 pub record Idle : Type 0 where
   pub both : Both small idle (number 0 ∷ backed 1 0 0 ∷ number 18 ∷ [])
-  pub slots : bookOf (ourEnd small idle .book) .slots ≡ record { volume = 0; day = 1; first = 0; number = 0 } ∷ []
+  pub slots : bookOf (ourEnd small idle .book) .slots ≡ record { volume = 0; retire = false; day = 1; first = 0; number = 0 } ∷ []
   pub day : bookOf (ourEnd small idle .book) .day ≡ 1
 
 pub no-change-is-a-backup : Idle

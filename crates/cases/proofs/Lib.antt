@@ -10,3 +10,4 @@ pub mod Restores
 pub mod Shown
 pub mod Converts
 pub mod Days
+pub mod Retire

@@ -9,6 +9,7 @@ use Rattle.model.specs.Days
 use Rattle.model.specs.Journal
 use Rattle.model.specs.Enrol
 use Rattle.model.specs.Backup
+use Rattle.model.specs.Retire
 use Rattle.model.specs.Collect
 use Rattle.model.specs.Read
 use Rattle.model.specs.Kept
@@ -19,6 +20,7 @@ use Rattle.model.specs.OnBytes
 use Rattle.model.specs.Views
 use Rattle.model.specs.Plain
 use Rattle.model.specs.PlainBackup
+use Rattle.model.specs.PlainRetire
 use Rattle.model.specs.Sides
 use Rattle.model.specs.History
 use Rattle.claims.specs.Claims
@@ -29,16 +31,17 @@ unfolding
     Changes.changeAt Changes.changes Changes.listNumber
     Book.noPrint Book.freeEntry Book.noSlot Book.noRec
     Layout.entrySize Layout.bytes Layout.bookOf
-    Form.between Form.sizesAs Form.layoutAs Form.retentionOk Form.entryOk Form.pbnOk Form.recOk Form.slotOk Form.laterOk Form.bookOk
+    Form.between Form.sizesAs Form.layoutAs Form.retentionOk Form.entryOk Form.pbnOk Form.recOk Form.afterOk Form.slotOk Form.laterOk Form.bookOk
     Form.stateOk Form.secondOk Form.rawOk Form.formAs
     Next.withDay Next.withCursor Next.withRetention Next.withEntries Next.withMaps Next.withSlot Next.withRecord Next.countAs Next.expiryAs
     Next.heldAs Next.madeFree Next.withLayout Next.fresh
     Days.kept Days.badDay Days.notAfter Days.badRetention
-    Journal.journal Journal.backups Journal.days Journal.noVolume
+    Journal.journal Journal.slotsOf Journal.backupCount Journal.days Journal.isRetired Journal.noVolume Journal.noLiving
     Enrol.enrolNumber Enrol.enrol
     Backup.backupNumber Backup.findHeld Backup.findFree Backup.takeBlock Backup.placeFree Backup.placeHeld Backup.place Backup.lowered
     Backup.lower Backup.raised Backup.nameBlock Backup.moveNumber Backup.moved Backup.moveTo Backup.changeStep Backup.begun Backup.closed
     Backup.backup
+    Retire.mappedCells Retire.retireNumber Retire.clearNumber Retire.cleared Retire.clearCell Retire.retired Retire.retire
     Collect.collectNumber Collect.isOver Collect.sweptEntry Collect.collected Collect.collect
     Read.image Read.readNumber Read.read
     Kept.keptNumber Restore.runNumber Restore.restore
@@ -46,7 +49,7 @@ unfolding
     Audit.backupsSound Audit.audit
     Convert.roomNumber Convert.converted Convert.narrowNumber Convert.toTwo Convert.toOne Convert.refreshedEntry Convert.refreshed Convert.toThree
     OnBytes.poolNumber OnBytes.spareNumber OnBytes.formatNumber OnBytes.formatBytes OnBytes.enrolBytes
-    OnBytes.backedBytes OnBytes.backupBytes
+    OnBytes.backedBytes OnBytes.backupBytes OnBytes.retiredBytes OnBytes.retireBytes
     OnBytes.collectedBytes OnBytes.collectBytes OnBytes.readBytes OnBytes.readNumberBytes OnBytes.readPlaceBytes
     OnBytes.restoreBytes OnBytes.auditBytes
     Views.enrolledNumber Views.outputNumber Views.usedOf Views.volumeOf Views.backupsOf Views.cellsOf Views.blocksOf Views.sizesBytes
@@ -57,8 +60,9 @@ unfolding
     PlainBackup.takeBlock
     PlainBackup.placeFree PlainBackup.placeHeld PlainBackup.place PlainBackup.moved
     PlainBackup.changeStep PlainBackup.begun PlainBackup.closed PlainBackup.backup
+    PlainRetire.retireNumber PlainRetire.retired PlainRetire.retire
     Sides.stepOf Sides.readAnswer Sides.auditAnswer Sides.ours Sides.plain Sides.oursShown Sides.plainShown
-    History.noHistory History.withEnrol History.withSent History.historyOf History.dayOf History.sentBlock History.historyNumber
+    History.noHistory History.withEnrol History.withSent History.withLeft History.historyOf History.dayOf History.sentBlock History.historyNumber
     History.historyRead History.historyRunNumber History.historyRestore
     Claims.changesName
 model = 0

@@ -22,8 +22,8 @@ afterG = endOf (ours 280) (box sizes) (take 10 calls) .book
 pub record Shown (b : List ℕ) (today kept : ℕ) (block0 : List ℕ) : Type 0 where
   pub sized : sizesBytes b ≡ accepted sizes
   pub used : usedBytes b ≡ accepted (record { slots = 4; records = 5; day = today })
-  pub volume0 : volumeBytes b 0 ≡ accepted (record { retention = 10; backups = 2 })
-  pub volume1 : volumeBytes b 1 ≡ accepted (record { retention = 3; backups = 2 })
+  pub volume0 : volumeBytes b 0 ≡ accepted (record { retention = 10; backups = 2; retired = 65535 })
+  pub volume1 : volumeBytes b 1 ≡ accepted (record { retention = 3; backups = 2; retired = 65535 })
   -- of days 5 and 8, and of 6 and 9
   pub backups0 : backupsBytes b 0 16 ≡ accepted (5 ∷ 0 ∷ 2 ∷ 0 ∷ 15 ∷ 0 ∷ kept ∷ 0 ∷ 8 ∷ 0 ∷ 1 ∷ 0 ∷ 255 ∷ 255 ∷ 1 ∷ 0 ∷ [])
   pub backups1 : backupsBytes b 1 16 ≡ accepted (6 ∷ 0 ∷ 1 ∷ 0 ∷ 9 ∷ 0 ∷ kept ∷ 0 ∷ 9 ∷ 0 ∷ 1 ∷ 0 ∷ 255 ∷ 255 ∷ 1 ∷ 0 ∷ [])

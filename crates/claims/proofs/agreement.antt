@@ -15,6 +15,7 @@ pub mod Placing
 pub mod Moving
 pub mod Level
 pub mod Trail
+pub mod Clearing
 pub mod Lockstep
 pub mod BackupStart
 pub mod SoFar
@@ -23,4 +24,6 @@ pub mod Touching
 pub mod BackupAfter
 pub mod BackupTouching
 pub mod BackupAgree
+pub mod RetireAfter
+pub mod RetireAgree
 pub mod Standing

@@ -14,6 +14,8 @@ pub mod WorkFit
 pub mod MoveFit
 pub mod RunFit
 pub mod BackupFit
+pub mod RetireAllowed
+pub mod RetireFit
 pub mod OnBytesFit
 pub mod ImageIn
 pub mod ConvertFit

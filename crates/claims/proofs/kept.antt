@@ -3,9 +3,11 @@ pub mod DayLaws
 pub mod Sound
 pub mod JournalLaws
 pub mod TakenLaws
+pub mod Retirements
 pub mod Replays
 pub mod KeptOwn
 pub mod KeptCells
+pub mod TakenIn
 pub mod KeptNames
 pub mod Reaches
 pub mod Marks
@@ -13,6 +15,7 @@ pub mod ReadRule
 pub mod ReadNumbers
 pub mod KeptHeld
 pub mod JournalAtLaws
+pub mod RetireAt
 pub mod KeptNumbers
 pub mod KeptBefores
 pub mod RestoreLaws

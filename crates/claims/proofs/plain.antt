@@ -6,6 +6,7 @@ pub mod PlainChanges
 pub mod PlainMarks
 pub mod PlainRecalls
 pub mod PlainRecallsBackup
+pub mod PlainRecallsRetire
 pub mod PlainRecallsOthers
 pub mod PlainProper
 pub mod PlainHistory

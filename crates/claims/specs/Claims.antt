@@ -16,7 +16,7 @@ use Rattle.book.specs.Book.{volumes, Sizes, Entry, Rec, Book, entryAt, isFree, 
 use Rattle.book.specs.Layout.{bookSize, bookOf}
 use Rattle.model.specs.Pool.{poolSize, blockAt}
 use Rattle.model.specs.Days
-use Rattle.model.specs.Journal.{Backup, journal, days}
+use Rattle.model.specs.Journal.{Backup, journal, backupCount, days}
 use Rattle.model.specs.Backup.{Backed}
 use Rattle.model.specs.Read.{image}
 use Rattle.model.specs.Audit.{applied, replayed, noMaps, untilIn}
@@ -231,6 +231,6 @@ pub record Means (x : Book) : Type 0 where
   pub prints : Differ (x .entries)
   -- "no current map and no kept backup names a free block"
   pub current : (v l : ℕ) → v < length (x .maps) → l < length (getD (x .maps) v []) → Holds x (cellAt (x .maps) v l)
-  pub kept : (v k l : ℕ) → v < volumes → 1 ≤ k → k ≤ length (days x v)
+  pub kept : (v k l : ℕ) → v < volumes → 1 ≤ k → k ≤ backupCount x v
       → Days.kept (days x v) (retentionOf x v) (x .day) k ≡ true → l < x .sizes .l
       → Holds x (image x v k l)

@@ -40,7 +40,7 @@ module _ (b out : List ℕ) (f : FormFactsAs 2 b) {len : ℕ} (el : len ≡ book
       (ap (λ (o : List ℕ). take len o) same ∙ take-at c (drop len out) len long)
 
   pub front-parts : BookParts (bookOf (take len o₁))
-  front-parts = rw (front-is .book) (book-parts (withLayout 3 x) (layout-ok 3 x ∙ parts-book x (f .parts)))
+  front-parts = rw (front-is .book) (book-parts (withLayout 3 x) (layout-ok 3 x (rw (f .layout)) (parts-book x (f .parts))))
 
   long-renewed : length (bytes (withLayout 3 (refreshed x))) ≡ len
   unfolding withLayout refreshed withEntries bookOf

@@ -10,4 +10,5 @@ pub mod in_form;
 pub mod listing;
 pub mod read;
 pub mod restore;
+pub mod retire;
 pub mod sizes;

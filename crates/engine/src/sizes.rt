@@ -27,8 +27,9 @@ pub extern "C" fn aspen_volume(
     volume: u16,
     retention: &mut u16,
     backups: &mut u16,
+    retired: &mut u16,
 ) -> u16
-    ensures { λ r. ⌜ VolumeTold book volume retention backups r ⌝ }
+    ensures { λ r. ⌜ VolumeTold book volume retention backups retired r ⌝ }
 {
-    figures::volume::volume(book, volume, retention, backups)
+    figures::volume::volume(book, volume, retention, backups, retired)
 }

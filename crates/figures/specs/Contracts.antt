@@ -21,7 +21,8 @@ pub record UsedTold (b : Lent (List ℕ)) (s u d : Lent ℕ) (r : ℕ) : Type 0 
   pub records : now (u .exit) ≡ after (λ w. w .records) (usedBytes (now (b .entry))) (now (u .entry))
   pub day : now (d .exit) ≡ after (λ w. w .day) (usedBytes (now (b .entry))) (now (d .entry))
 
-pub record VolumeTold (b : Lent (List ℕ)) (v : ℕ) (k n : Lent ℕ) (r : ℕ) : Type 0 where
+pub record VolumeTold (b : Lent (List ℕ)) (v : ℕ) (k n t : Lent ℕ) (r : ℕ) : Type 0 where
   pub number : r ≡ numberOf (volumeBytes (now (b .entry)) v)
   pub retention : now (k .exit) ≡ after (λ w. w .retention) (volumeBytes (now (b .entry)) v) (now (k .entry))
   pub backups : now (n .exit) ≡ after (λ w. w .backups) (volumeBytes (now (b .entry)) v) (now (n .entry))
+  pub retired : now (t .exit) ≡ after (λ w. w .retired) (volumeBytes (now (b .entry)) v) (now (t .entry))

@@ -7,7 +7,6 @@ use mathlib.Core.List.{List}
 use native.Mathlib.Omega.{arith}
 use native.Mathlib.Decide.{decLt}
 use native.Mathlib.Nat.{mul-assoc}
-use lib.Dec.{leb}
 use lib.ListN.{length}
 use borrow.Author.Tests.{lt-ltb}
 use Rattle.words.proofs.Places.{all-weaker}
@@ -23,16 +22,19 @@ use Rattle.book.specs.Layout.{nOffset, lOffset, sOffset, jOffset, bOffset, uOff
 use Rattle.book.specs.Layout.{mapsFrom, cellOffset, slotsFrom, slotSize, recSize, slotOffset, recordsFrom, recOffset, bookSize, sizesOf}
 use Rattle.book.specs.Layout.{entryOf}
 use Rattle.book.specs.Layout.{cellOf, recOf, bookOf}
-use Rattle.book.specs.Form.{retentionOk, entryOk, pbnOk, recOk, enrolled, slotOk, daysOk, pairsOk, bookOk, stateOk, secondOk, rawOk}
+use Rattle.book.specs.Form.{retentionOk, entryOk, pbnOk, recOk, aftersOk, enrolled, slotOk, daysOk, pairsOk, bookOk, stateOk, secondOk, rawOk}
 use Rattle.book.specs.Form.{layoutAs, formAs}
 use Rattle.book.proofs.FormNumber.{number-0, number-2}
 use Rattle.book.specs.FormFacts.{BookParts}
+use Rattle.book.proofs.Conditions.{slot-facts}
 use Rattle.book.proofs.Clauses.{book-parts, parts-book, RawParts, raw-parts, parts-raw}
 use Rattle.slots.proofs.DayLaws.{volumeOk, days-pass}
-use Rattle.slots.specs.Days.{noLasts}
+use Rattle.slots.specs.Days.{daysFrom, noLasts, noneGone}
 use Rattle.slots.specs.Slots.{slotsLeft}
+use Rattle.slots.specs.Records.{recordsLeft}
+use Rattle.slots.proofs.RecordLaws.{records-by}
 use Rattle.slots.proofs.SlotLaws.{no-retention}
-use Rattle.sections.specs.Checks.{zerosIn, headOk, retentionsOk, entriesOk, mapsOk, recordsOk}
+use Rattle.sections.specs.Checks.{zerosIn, headOk, retentionsOk, entriesOk, mapsOk}
 use Rattle.sections.proofs.CheckLaws.{head-facts, facts-head}
 use Rattle.form.specs.Passes.{blocksOk, slotsOk, journalOk}
 
@@ -69,14 +71,9 @@ module _ (b : List ℕ) where
       offset : (v k : ℕ) → cellOffset (sizesOf b) v k ≡ mapsFrom (sizesOf b) + (v * num b lOffset + k) * 2
       offset v k = let e : v * (num b lOffset * 2) ≡ v * num b lOffset * 2 = sym (mul-assoc v (num b lOffset) 2) in omega arith
 
-  records-pass : all (recOk (bookOf b .sizes)) (bookOf b .records) ≡ recordsOk b (recordsFrom (sizesOf b)) (num b uOffset)
-  unfolding bookOf recordsOk
-  records-pass = tab-each (recOk (sizesOf b)) (num b uOffset) (λ q. recOf b (recOffset (sizesOf b) q))
-
   -- a slot in form names a volume below 8
   slot-volume : (t : Slot) → slotOk (bookOf b) t ≡ true → volumeOk t ≡ true
-  unfolding slotOk
-  slot-volume t e = go (decLt (t .volume) volumes) (and-true (enrolled (bookOf b) (t .volume)) (leb (t .day) (bookOf b .day)) e .0)
+  slot-volume t e = go (decLt (t .volume) volumes) (slot-facts (bookOf b) t e .0)
     where
       go : Dec (t .volume < volumes) → enrolled (bookOf b) (t .volume) ≡ true → volumeOk t ≡ true
       go (yes l) f = lt-ltb (t .volume) volumes l
@@ -87,7 +84,7 @@ module _ (b : List ℕ) where
   used = length-tab (num b uOffset) (λ q. recOf b (recOffset (sizesOf b) q))
 
   slots-pass : (all (secondOk b) (upFrom 0 (num b bOffset)) && all (slotOk (bookOf b)) (bookOf b .slots) && daysOk (bookOf b .slots)
-      && pairsOk 0 (bookOf b .slots) (length (bookOf b .records))) ≡ slotsLeft b 0 noLasts 0 0
+      && pairsOk 0 (bookOf b .slots) (length (bookOf b .records))) ≡ slotsLeft b 0 noLasts noneGone 0 0
   unfolding slotsLeft
   slots-pass =
       rw (all-each (secondOk b) (num b bOffset), used)
@@ -100,6 +97,22 @@ module _ (b : List ℕ) where
       go false s p h = refl
       go true true p h = rw (h refl)
       go true false p h = refl
+
+  -- the slots' test has that of their pairs, and with it the records are tested slot by slot
+  pub slots-pairs : slotsOk b ≡ true → pairsOk 0 (bookOf b .slots) (num b uOffset) ≡ true
+  unfolding slotsOk slotsLeft
+  slots-pairs e =
+      let ts = bookOf b .slots in
+      let first = each (secondOk b) 0 (num b bOffset) && all (slotOk (bookOf b)) ts && daysFrom noLasts noneGone 0 ts in
+      and-true first (pairsOk 0 ts (num b uOffset))
+      (and-true (slotsLeft b 0 noLasts noneGone 0 0) (zerosIn b (slotOffset (sizesOf b) (num b bOffset)) (recordsFrom (sizesOf b))) e .0) .1
+
+  records-pass : pairsOk 0 (bookOf b .slots) (length (bookOf b .records)) ≡ true
+      → (all (recOk (bookOf b .sizes)) (bookOf b .records) && aftersOk (bookOf b .slots) (bookOf b .records)) ≡ recordsLeft b 0 0
+  unfolding bookOf recordsLeft
+  records-pass p =
+      let x = bookOf b in
+      sym (records-by (sizesOf b) (x .slots) (x .records) 0 (length (x .records)) p (omega arith))
 
 -- ---- all together
 
@@ -136,7 +149,10 @@ module _ (b : List ℕ) (len : length b ≡ bookSize (sizesOf b)) where
       let entries =
       sym (entries-pass b) ∙ true-and (all (stateOk (num b 0) b) (upFrom 0 (num b nOffset))) (all entryOk (bookOf b .entries))
       (r .states) (p .entries) in
-      let slots : slotsLeft b 0 noLasts 0 0 ≡ true = sym (slots-pass b) ∙ rw (r .seconds, p .slots, p .days) (p .pairs) in
+      let slots : slotsLeft b 0 noLasts noneGone 0 0 ≡ true = sym (slots-pass b) ∙ rw (r .seconds, p .slots, p .days) (p .pairs) in
+      let records =
+      true-and (all (recOk (bookOf b .sizes)) (bookOf b .records)) (aftersOk (bookOf b .slots) (bookOf b .records))
+      (p .records) (p .afters) in
       rw (
         head,
         sym (retentions-pass b) ∙ p .retentions,
@@ -145,7 +161,7 @@ module _ (b : List ℕ) (len : length b ≡ bookSize (sizesOf b)) where
             ∙ p .maps,
         slots,
         sym (rest-slots (r .slots)) ∙ r .restSlots,
-        sym (records-pass b) ∙ p .records,
+        sym (records-pass b (p .pairs)) ∙ records,
       )
       (sym (rest-records (r .records)) ∙ r .restRecords)
 
@@ -162,9 +178,9 @@ module _ (b : List ℕ) (len : length b ≡ bookSize (sizesOf b)) where
       let n = and-true retentions entries (m .0) in
       let states =
       and-true (all (stateOk (num b 0) b) (upFrom 0 (num b nOffset))) (all entryOk (bookOf b .entries)) (entries-pass b ∙ n .1) in
-      let s = and-true (slotsLeft b 0 noLasts 0 0) (zerosIn b (slotOffset (sizesOf b) (num b bOffset)) (recordsFrom (sizesOf b))) (t₂ .1) in
+      let s = and-true (slotsLeft b 0 noLasts noneGone 0 0) (zerosIn b (slotOffset (sizesOf b) (num b bOffset)) (recordsFrom (sizesOf b))) (t₂ .1) in
       let j =
-      and-true (recordsOk b (recordsFrom (sizesOf b)) (num b uOffset))
+      and-true (recordsLeft b 0 0)
       (zerosIn b (recOffset (sizesOf b) (num b uOffset)) (bookSize (sizesOf b))) (t₃ .1) in
       let second = all (secondOk b) (upFrom 0 (num b bOffset)) in
       let used = all (slotOk (bookOf b)) (bookOf b .slots) in
@@ -172,7 +188,10 @@ module _ (b : List ℕ) (len : length b ≡ bookSize (sizesOf b)) where
       and-true (second && used && daysOk (bookOf b .slots))
       (pairsOk 0 (bookOf b .slots) (length (bookOf b .records))) (slots-pass b ∙ s .0) in
       let s₂ = and-true (second && used) (daysOk (bookOf b .slots)) (s₃ .0) in
-      let s₁ = and-true second used (s₂ .0) in (
+      let s₁ = and-true second used (s₂ .0) in
+      let r =
+      and-true (all (recOk (bookOf b .sizes)) (bookOf b .records)) (aftersOk (bookOf b .slots) (bookOf b .records))
+      (records-pass b (s₃ .1) ∙ j .0) in (
         record {
           slots = h .slots;
           records = h .records;
@@ -191,7 +210,8 @@ module _ (b : List ℕ) (len : length b ≡ bookSize (sizesOf b)) where
           slots = s₁ .1;
           days = s₂ .1;
           pairs = s₃ .1;
-          records = records-pass b ∙ j .0;
+          records = r .0;
+          afters = r .1;
         },
       )
 
@@ -219,13 +239,13 @@ module _ (b : List ℕ) where
       && mapsOk b (entriesFrom + num b nOffset * entrySize k) (volumes * num b lOffset) (num b nOffset)) (sym eg))
 
   pub slots-tests : {from used s : ℕ} {r z : Bool} → from ≡ slotsFrom (sizesOf b) → used ≡ num b bOffset → s ≡ num b sOffset
-      → r ≡ slotsLeft b 0 noLasts 0 0 → z ≡ zerosIn b (from + used * slotSize) (from + s * slotSize) → (r && z) ≡ slotsOk b
+      → r ≡ slotsLeft b 0 noLasts noneGone 0 0 → z ≡ zerosIn b (from + used * slotSize) (from + s * slotSize) → (r && z) ≡ slotsOk b
   unfolding slotsOk
   slots-tests ef eu es er ez = rw (er, ez, ef, eu, es)
 
   pub journal-tests : {from used s : ℕ} {r z : Bool} → length b ≡ bookSize (sizesOf b) → from ≡ slotsFrom (sizesOf b)
       → s ≡ num b sOffset → used ≡ num b uOffset
-      → r ≡ recordsOk b (from + s * slotSize) used → z ≡ zerosIn b (from + s * slotSize + used * recSize) (length b)
+      → r ≡ recordsLeft b 0 0 → z ≡ zerosIn b (from + s * slotSize + used * recSize) (length b)
       → (r && z) ≡ journalOk b
   unfolding journalOk
   journal-tests len ef es eu er ez = rw (er, ez, len, ef, es, eu)

@@ -1,6 +1,7 @@
 // Whether a book is in form (document 01, numbers 1 and 2), in one pass over each section.
 ghost use Prim.Native.Nat.{_+_, _*_, _≤_, _<_};
 ghost use mathlib.Core.Path.{_≡_};
+ghost use mathlib.Core.Bool.{true};
 ghost use lib.ListN.{length};
 ghost use Rattle.book.specs.Layout.{headerSize, entryOffset, slotsFrom, sizesOf};
 ghost use Rattle.book.specs.Form.{layoutAs, formAs, formNumber};
@@ -31,8 +32,8 @@ use sections::blocks::maps_ok;
 use sections::blocks::narrow_entries_ok;
 use sections::blocks::retentions_ok;
 use sections::zeros::zeros;
-use slots::journal::used_records_ok;
 use slots::journal::used_slots_ok;
+use slots::records::used_records_ok;
 use words::limits::MAX_DAY;
 use words::refusals;
 use words::u16_at;
@@ -102,18 +103,28 @@ fn slots_ok(b: &[u8], layout: u16) -> bool
     let used = u16_at(b, B_OFFSET) as usize;
     let records = u16_at(b, U_OFFSET) as usize;
     let end = from + u16_at(b, S_OFFSET) as usize * SLOT_SIZE;
-    used_slots_ok(b, from, used, records, u16_at(b, DAY_OFFSET))
+    used_slots_ok(b, layout, from, used, records, u16_at(b, DAY_OFFSET))
         & zeros(b, from + used * SLOT_SIZE, end)
 }
 
+// The slots come first, since the records are tested slot by slot.
 fn journal_ok(b: &[u8], layout: u16) -> bool
     requires { ⌜ Laid layout (now b) ⌝ }
-    requires { ⌜ HeadIn (now b) ⌝ }
+    requires { ⌜ (HeadIn (now b)) × (slotsOk (now b) ≡ true) ⌝ }
     ensures { λ r. ⌜ r ≡ journalOk (now (b .entry)) ⌝ }
 {
-    let from = slots_from(b, layout) + u16_at(b, S_OFFSET) as usize * SLOT_SIZE;
+    let slots = slots_from(b, layout);
+    let from = slots + u16_at(b, S_OFFSET) as usize * SLOT_SIZE;
+    let used_slots = u16_at(b, B_OFFSET) as usize;
     let used = u16_at(b, U_OFFSET) as usize;
-    used_records_ok(b, from, used, u16_at(b, N_OFFSET), u16_at(b, L_OFFSET))
+    used_records_ok(
+        b,
+        slots,
+        used_slots,
+        from,
+        u16_at(b, N_OFFSET),
+        u16_at(b, L_OFFSET),
+    )
         & zeros(b, from + used * REC_SIZE, b.len())
 }
 

@@ -20,6 +20,8 @@ pub const AUDIT: u8 = 4;
 
 pub const RESTORE: u8 = 5;
 
+pub const RETIRE: u8 = 6;
+
 // How many bytes of data the call at `at` has.
 pub fn data_size(calls: &[u8], at: usize) -> usize
     requires { ⌜ at + headSize ≤ length (now calls) ⌝ }
@@ -49,6 +51,9 @@ fn unused_zero(kind: u8, a: u16, b: u16, c: u16, d: u16, size: usize) -> bool
     }
     if kind == RESTORE {
         return size == 0;
+    }
+    if kind == RETIRE {
+        return (c == 0) & (d == 0) & (size == 0);
     }
     false
 }

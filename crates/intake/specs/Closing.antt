@@ -1,6 +1,7 @@
 -- What both passes of a backup leave, and the end of the call.
 use Prim.Native.Nat.{ℕ}
 use mathlib.Core.Path.{_≡_}
+use mathlib.Core.Bool.{false}
 use mathlib.Core.List.{List}
 use lib.ListN.{length}
 use denote.Ref.{now}
@@ -18,7 +19,7 @@ use Rattle.mover.specs.declared.moving.Step.the-variants.{Next, Stop}
 
 -- "Then a slot is added and day becomes T"
 abbrev pub closedBook : ℕ → ℕ → ℕ → ℕ → Book → Book
-closedBook v t first n y = withDay t (withSlot (record { volume = v; day = t; first = first; number = n }) y)
+closedBook v t first n y = withDay t (withSlot (record { volume = v; retire = false; day = t; first = first; number = n }) y)
 
 -- all changes were made: the pool has them, and the working copy is the book after the call
 pub record Worked (book pool work list : Lent (List ℕ)) (v t until : ℕ) (tally : Tally) : Type 0 where

@@ -37,7 +37,7 @@ fn close(work: &mut [u8], v: u16, day: u16, first: u16, number: u16)
     requires { ⌜ (length (told work .slots) < told work .sizes .s) × (v < volumes) ⌝ }
     ensures { λ _. ⌜ Is (now (work .exit)) (closedBook v day first number (told (work .entry))) ⌝ }
 {
-    slot::append_slot(work, v, day, first, number);
+    slot::append_slot(work, v, false, day, first, number);
     header::set_day(work, day);
 }
 

@@ -6,6 +6,7 @@ use Rattle.journal.specs.declared.record.Record.{Record}
 
 pub record SlotIs (t : book.Slot) (r : Slot) : Type 0 where
   pub volume : r .volume ≡ t .volume
+  pub retire : r .retire ≡ t .retire
   pub day : r .day ≡ t .day
   pub first : r .first ≡ t .first
   pub number : r .number ≡ t .number

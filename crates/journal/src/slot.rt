@@ -15,9 +15,10 @@ use words::put_u16;
 use words::u16_at;
 use words::wide;
 
-// A used slot: a backup of a volume on a day, and its records.
+// A used slot: a backup of a volume on a day, or the day on which the volume was retired, and its records.
 pub struct Slot {
     pub volume: u16,
+    pub retire: bool,
     pub day: u16,
     pub first: u16,
     pub number: u16,
@@ -31,6 +32,7 @@ pub fn slot_at(book: &[u8], q: u16) -> Slot
     let at = slot_offset(book, q);
     Slot {
         volume: wide(book[at]),
+        retire: book[at + 1] == 1,
         day: u16_at(book, at + 2),
         first: u16_at(book, at + 4),
         number: u16_at(book, at + 6),
@@ -38,26 +40,26 @@ pub fn slot_at(book: &[u8], q: u16) -> Slot
 }
 
 // The slot's bytes at an offset.
-fn put_slot(b: &mut [u8], at: usize, volume: u16, day: u16, first: u16, number: u16)
+fn put_slot(b: &mut [u8], at: usize, volume: u16, retire: bool, day: u16, first: u16, number: u16)
     requires { ⌜ at + slotSize ≤ length (now b) ⌝ }
     requires { ⌜ volume < 256 ⌝ }
     ensures { λ _. ⌜ now (b .exit) ≡ sets (now (b .entry)) at
-        (slotBytes (record { volume = volume; day = day; first = first; number = number })) ⌝ }
+        (slotBytes (record { volume = volume; retire = retire; day = day; first = first; number = number })) ⌝ }
 {
     b[at] = volume as u8;
-    b[at + 1] = 0;
+    b[at + 1] = retire as u8;
     put_three(b, at + 2, day, first, number);
 }
 
 // The next slot is used.
-pub fn append_slot(book: &mut [u8], volume: u16, day: u16, first: u16, number: u16)
+pub fn append_slot(book: &mut [u8], volume: u16, retire: bool, day: u16, first: u16, number: u16)
     requires { ⌜ Holds (now book) ⌝ }
     requires { ⌜ (length (told book .slots) < told book .sizes .s) × (volume < 256) ⌝ }
     ensures { λ _. ⌜ Is (now (book .exit))
-        (withSlot (record { volume = volume; day = day; first = first; number = number }) (told (book .entry))) ⌝ }
+        (withSlot (record { volume = volume; retire = retire; day = day; first = first; number = number }) (told (book .entry))) ⌝ }
 {
     let used = header::used_slots(book);
     let at = slot_offset(book, used);
-    put_slot(book, at, volume, day, first, number);
+    put_slot(book, at, volume, retire, day, first, number);
     put_u16(book, B_OFFSET, used + 1);
 }

@@ -10,7 +10,7 @@ use Rattle.words.specs.Lists.{joined}
 use Rattle.words.specs.Numbers.{two}
 use Rattle.words.specs.Outcome.{refused, accepted}
 use Rattle.book.specs.Book.{Entry, Book, noPrint, freeEntry, noSlot, noRec}
-use Rattle.book.specs.Form.{between, sizesAs, layoutAs, retentionOk, entryOk, pbnOk, recOk, slotOk, laterOk, bookOk, stateOk, secondOk}
+use Rattle.book.specs.Form.{between, sizesAs, layoutAs, retentionOk, entryOk, pbnOk, recOk, afterOk, slotOk, laterOk, bookOk, stateOk, secondOk}
 use Rattle.book.specs.Form.{rawOk, formAs}
 use Rattle.book.specs.Layout.{entrySize, bytes, bookOf}
 use Rattle.book.specs.Next.{withDay, withEntries, withLayout, expiryAs, madeFree, withEntry}
@@ -19,7 +19,7 @@ use Rattle.model.specs.Audit.{backupsSound, audit}
 use Rattle.model.specs.AuditTwo.{keptTwo, expiryTwo, backupTwo, backupsTwo, auditTwo}
 use Rattle.model.specs.Convert.{roomNumber, converted, narrowNumber, toTwo, toOne, refreshedEntry, refreshed, toThree}
 use Rattle.model.specs.Days.{kept}
-use Rattle.model.specs.Journal.{journal, backups, days}
+use Rattle.model.specs.Journal.{journal, slotsOf, backupCount, days}
 use Rattle.model.specs.Read.{image}
 
 -- a book whose layout number, count and state have these bytes: day 5, volume 0 keeps 9 days, the block expires on 258
@@ -68,7 +68,7 @@ pub record Converts : Type 0 where
 pub converts : Converts
 unfolding
     narrow wide damaged toTwo toOne converted roomNumber narrowNumber withLayout noPrint freeEntry noSlot noRec entrySize bytes bookOf
-    between sizesAs layoutAs retentionOk entryOk pbnOk recOk slotOk laterOk bookOk stateOk secondOk rawOk formAs
+    between sizesAs layoutAs retentionOk entryOk pbnOk recOk afterOk slotOk laterOk bookOk stateOk secondOk rawOk formAs
 converts = record {
   there = refl;
   back = refl;
@@ -138,10 +138,10 @@ pub record Renews : Type 0 where
 pub renews : Renews
 unfolding
     narrow replaced toTwo toOne toThree converted roomNumber narrowNumber refreshedEntry refreshed withLayout withEntries expiryAs journal
-    noPrint freeEntry noSlot noRec entrySize bytes bookOf between sizesAs layoutAs retentionOk entryOk pbnOk recOk slotOk laterOk bookOk
+    noPrint freeEntry noSlot noRec entrySize bytes bookOf between sizesAs layoutAs retentionOk entryOk pbnOk recOk afterOk slotOk laterOk bookOk
     stateOk secondOk rawOk formAs
     withDay madeFree auditTwo keptTwo expiryTwo backupTwo backupsTwo audit mapsSound noMaps countSound expirySound printsSound cellSound
-    currentSound backupSound backupsSound kept backups days image
+    currentSound backupSound backupsSound kept slotsOf backupCount days image
 renews = record {
   afresh = refl;
   none = refl;

@@ -2,7 +2,7 @@
 -- `cases`, so that a wrong definition is refused by what it gives.
 use Prim.Native.Nat.{ℕ}
 use mathlib.Core.Path.{_≡_, refl}
-use mathlib.Core.Bool.{true}
+use mathlib.Core.Bool.{true, false}
 use mathlib.Core.List.{List, [], _∷_, _++_, map}
 use lib.ListN.{getD, replicate}
 use Rattle.words.specs.Blocks.{blockSize, printSize, unmapped}
@@ -12,7 +12,7 @@ use Rattle.runs.specs.Changes
 use Rattle.book.specs.Book.{Sizes, Entry, Book, freeEntry, entryAt}
 use Rattle.book.specs.Next.{newSizes, withDay, withEntries, withMaps, withRecord, withSlot, countAs, expiryAs}
 use Rattle.model.specs.Days.{badDay, notAfter}
-use Rattle.model.specs.Journal.{journal, backups, days, noVolume}
+use Rattle.model.specs.Journal.{journal, slotsOf, backupCount, days, isRetired, noVolume, noLiving}
 use Rattle.model.specs.Backup
 use Rattle.model.specs.Backup.{lowered, lower, moveNumber}
 use Rattle.model.specs.OnBytes.{numberOf, after}
@@ -58,7 +58,7 @@ book = record {
   retentions = replicate 8 9;
   entries = counted 8191 ∷ [];
   maps = maps;
-  slots = map (λ v. record { volume = v; day = 0; first = 0; number = 0 }) (upFrom 0 8);
+  slots = map (λ v. record { volume = v; retire = false; day = 0; first = 0; number = 0 }) (upFrom 0 8);
   records = [];
 }
 
@@ -85,7 +85,7 @@ unfolding
     maps book store last freeEntry countAs expiryAs withDay withEntries withMaps withRecord withSlot
     Changes.pairCount Changes.pairAt Changes.pairs Changes.changeCount Changes.lbns Changes.printsFrom Changes.blocksFrom Changes.listSize
     Changes.changeAt Changes.changes Changes.listNumber
-    badDay notAfter journal backups days noVolume
+    badDay notAfter journal slotsOf backupCount days isRetired noVolume noLiving
     Backup.backupNumber Backup.findHeld Backup.placeHeld Backup.place lowered lower Backup.raised Backup.nameBlock moveNumber Backup.moved
     Backup.moveTo Backup.changeStep Backup.begun Backup.closed Backup.backup
     PlainBackup.backupNumber PlainBackup.findHeld PlainBackup.placeHeld PlainBackup.place

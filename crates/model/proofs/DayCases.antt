@@ -12,7 +12,7 @@ use Rattle.runs.specs.Changes
 use Rattle.book.specs.Book.{Entry, Book, noPrint, freeEntry}
 use Rattle.book.specs.Next.{newSizes, withDay, withEntries, withMaps, withRecord, withSlot, countAs, expiryAs}
 use Rattle.model.specs.Days.{kept, badDay, notAfter}
-use Rattle.model.specs.Journal.{journal, backups, days, noVolume}
+use Rattle.model.specs.Journal.{journal, slotsOf, backupCount, days, isRetired, noVolume, noLiving}
 use Rattle.model.specs.Audit.{untilIn}
 use Rattle.model.specs.Backup
 use Rattle.model.specs.Backup.{untilNext}
@@ -58,10 +58,10 @@ book = record {
   entries = replicate 4 (record { count = 0; held = false; expiry = 0; print = noPrint });
   maps = replicate 8 (replicate 4 unmapped);
   slots =
-      record { volume = 0; day = 5; first = 0; number = 1 }
-      ∷ record { volume = 0; day = 8; first = 1; number = 1 }
-      ∷ record { volume = 1; day = 9; first = 2; number = 1 }
-      ∷ record { volume = 0; day = 20; first = 3; number = 1 }
+      record { volume = 0; retire = false; day = 5; first = 0; number = 1 }
+      ∷ record { volume = 0; retire = false; day = 8; first = 1; number = 1 }
+      ∷ record { volume = 1; retire = false; day = 9; first = 2; number = 1 }
+      ∷ record { volume = 0; retire = false; day = 20; first = 3; number = 1 }
       ∷ [];
   -- block 0 is replaced in the second backup, block 1 in the third, block 2 in volume 1's only one, block 3 in the first
   records =
@@ -80,7 +80,7 @@ pub record Expiries : Type 0 where
   pub next : map (untilNext book) (0 ∷ 1 ∷ 2 ∷ []) ≡ 30 ∷ 12 ∷ 0 ∷ []
 
 pub expiries-tried : Expiries
-unfolding journal backups days book
+unfolding journal slotsOf days book
 expiries-tried = record { before = refl; audited = refl; next = refl }
 
 -- ---- step 3: volume 0 has block 0 since day 5, and on day 20 block 1 comes in its place
@@ -93,7 +93,7 @@ held = record {
   retentions = 10 ∷ replicate 7 0;
   entries = hold 1 0 0 ∷ hold 0 7 1 ∷ [];
   maps = (0 ∷ []) ∷ replicate 7 (unmapped ∷ []);
-  slots = record { volume = 0; day = 5; first = 0; number = 1 } ∷ [];
+  slots = record { volume = 0; retire = false; day = 5; first = 0; number = 1 } ∷ [];
   records = record { lbn = 0; before = unmapped; after = 0 } ∷ [];
 }
 
@@ -106,10 +106,10 @@ pub record Replaced : Type 0 where
 
 pub replaced-tried : Replaced
 unfolding
-    held sent journal backups days freeEntry countAs expiryAs withDay withEntries withMaps withRecord withSlot
+    held sent journal slotsOf backupCount days freeEntry countAs expiryAs withDay withEntries withMaps withRecord withSlot
     Changes.pairCount Changes.pairAt Changes.pairs Changes.changeCount Changes.lbns Changes.printsFrom Changes.blocksFrom Changes.listSize
     Changes.changeAt Changes.changes Changes.listNumber
-    badDay notAfter noVolume
+    badDay notAfter isRetired noVolume noLiving
     Backup.backupNumber Backup.findHeld Backup.placeHeld Backup.place Backup.lowered Backup.lower Backup.raised Backup.nameBlock
     Backup.moveNumber Backup.moved Backup.moveTo Backup.changeStep Backup.begun Backup.closed Backup.backup
 replaced-tried = record { expiries = refl }

@@ -2,6 +2,8 @@ pub mod CaseBlocks
 pub mod ConvertCases
 pub mod CountCases
 pub mod DayCases
+pub mod LeaveCases
 pub mod RestoreCases
+pub mod RetireCases
 pub mod StepCases
 pub mod SweepCases

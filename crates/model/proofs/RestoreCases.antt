@@ -1,13 +1,14 @@
 -- Restore on a book of three backups, each of LBN 0 of 2. Here, and not in `cases`, so that a wrong definition is refused by what it gives.
 use Prim.Native.Nat.{ℕ, _+_}
 use mathlib.Core.Path.{_≡_, refl}
+use mathlib.Core.Bool.{false}
 use mathlib.Core.List.{List, [], _∷_, _++_, map}
 use Rattle.words.specs.Blocks.{unmapped}
 use Rattle.words.specs.Outcome.{Outcome, refused, accepted}
 use Rattle.book.specs.Book.{Book}
 use Rattle.book.specs.Next.{newSizes}
 use Rattle.model.specs.Days.{kept}
-use Rattle.model.specs.Journal.{journal, backups, days, noVolume}
+use Rattle.model.specs.Journal.{journal, slotsOf, backupCount, days, isRetired, noVolume, noLiving}
 use Rattle.model.specs.Kept.{keptNumber}
 use Rattle.model.specs.Read.{image, readNumber, read}
 use Rattle.model.specs.Restore.{runNumber, restore}
@@ -22,7 +23,7 @@ thrice = record {
   retentions = 9 ∷ [];
   entries = [];
   maps = (0 ∷ unmapped ∷ []) ∷ [];
-  slots = map (λ q. record { volume = 0; day = q + 1; first = q; number = 1 }) (0 ∷ 1 ∷ 2 ∷ []);
+  slots = map (λ q. record { volume = 0; retire = false; day = q + 1; first = q; number = 1 }) (0 ∷ 1 ∷ 2 ∷ []);
   records =
       record { lbn = 0; before = unmapped; after = 0 }
       ∷ record { lbn = 0; before = 0; after = 1 }
@@ -49,7 +50,7 @@ pub record Tried : Type 0 where
   pub later : try 0 4 3 0 0 ≡ refused 15
 
 pub tried : Tried
-unfolding try thrice restore runNumber keptNumber read readNumber image kept journal backups days noVolume
+unfolding try thrice restore runNumber keptNumber read readNumber image kept journal slotsOf backupCount days isRetired noVolume noLiving
 tried = record {
   run = refl;
   unmapped-lbn = refl;

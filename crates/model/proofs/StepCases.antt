@@ -11,12 +11,12 @@ use Rattle.words.specs.Numbers.{two}
 use Rattle.runs.specs.Changes
 use Rattle.runs.specs.Changes.{Change}
 use Rattle.book.specs.Book.{Entry, Book, noPrint, freeEntry, noSlot, noRec}
-use Rattle.book.specs.Form.{between, sizesAs, layoutAs, retentionOk, entryOk, pbnOk, recOk, slotOk, laterOk, bookOk}
+use Rattle.book.specs.Form.{between, sizesAs, layoutAs, retentionOk, entryOk, pbnOk, recOk, afterOk, slotOk, laterOk, bookOk}
 use Rattle.book.specs.Form.{stateOk, secondOk, rawOk, formAs}
 use Rattle.book.specs.Layout.{entrySize, bytes, bookOf}
 use Rattle.book.specs.Next.{newSizes, withCursor, withEntries, withMaps, withRecord, countAs, expiryAs, heldAs}
 use Rattle.model.specs.Days.{badDay, notAfter}
-use Rattle.model.specs.Journal.{journal, backups, days, noVolume}
+use Rattle.model.specs.Journal.{journal, slotsOf, backupCount, days, isRetired, noVolume, noLiving}
 use Rattle.model.specs.Backup
 use Rattle.model.specs.Backup.{Work, Placed, findHeld, findFree, place, lowered, runChanges, begun}
 use Rattle.model.specs.OnBytes.{numberOf, after, poolNumber, spareNumber, backupBytes}
@@ -54,7 +54,7 @@ book = record {
   retentions = 10 ∷ replicate 7 0;
   entries = freeEntry ∷ hold 1 0 1 ∷ freeEntry ∷ [];
   maps = (1 ∷ unmapped ∷ []) ∷ replicate 7 (unmapped ∷ unmapped ∷ []);
-  slots = record { volume = 0; day = 5; first = 0; number = 1 } ∷ [];
+  slots = record { volume = 0; retire = false; day = 5; first = 0; number = 1 } ∷ [];
   records = record { lbn = 0; before = unmapped; after = 1 } ∷ [];
 }
 
@@ -130,11 +130,11 @@ pub record Refused : Type 0 where
 pub refused-tried : Refused
 unfolding
     box sent ours stepOf backupBytes poolNumber spareNumber noPrint freeEntry noSlot noRec entrySize bytes bookOf
-    between sizesAs layoutAs retentionOk entryOk pbnOk recOk slotOk laterOk bookOk stateOk secondOk rawOk formAs
+    between sizesAs layoutAs retentionOk entryOk pbnOk recOk afterOk slotOk laterOk bookOk stateOk secondOk rawOk formAs
     withCursor withEntries withMaps withRecord countAs expiryAs heldAs
     Changes.pairCount Changes.pairAt Changes.pairs Changes.changeCount Changes.lbns Changes.printsFrom Changes.blocksFrom
     Changes.listSize Changes.changeAt Changes.changes Changes.listNumber
-    badDay notAfter journal backups days noVolume
+    badDay notAfter journal slotsOf backupCount days isRetired noVolume noLiving
     findHeld findFree place lowered begun Backup.backupNumber Backup.takeBlock Backup.placeFree Backup.placeHeld Backup.lower
     Backup.raised Backup.nameBlock Backup.moveNumber Backup.moved Backup.moveTo Backup.changeStep Backup.closed Backup.backup
 refused-tried = record { answer = refl; left = refl; nothing = refl }

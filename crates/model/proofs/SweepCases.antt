@@ -9,7 +9,7 @@ use Rattle.words.specs.Blocks.{unmapped}
 use Rattle.book.specs.Book.{Entry, Book, noPrint, freeEntry}
 use Rattle.book.specs.Next.{newSizes, withDay, withEntries, madeFree}
 use Rattle.model.specs.Days.{kept, badDay}
-use Rattle.model.specs.Journal.{journal, backups, days}
+use Rattle.model.specs.Journal.{journal, slotsOf, backupCount, days}
 use Rattle.model.specs.Read.{image}
 use Rattle.model.specs.Audit.{noMaps, mapsSound, countSound, expirySound, printsSound, cellSound, currentSound, backupSound}
 use Rattle.model.specs.Audit.{backupsSound, audit}
@@ -121,7 +121,7 @@ counted c₀ c₁ = record {
   retentions = 10 ∷ replicate 7 0;
   entries = hold c₀ 15 1 ∷ hold c₁ 0 2 ∷ [];
   maps = (1 ∷ unmapped ∷ []) ∷ replicate 7 (unmapped ∷ unmapped ∷ []);
-  slots = record { volume = 0; day = 5; first = 0; number = 1 } ∷ record { volume = 0; day = 8; first = 1; number = 1 } ∷ [];
+  slots = record { volume = 0; retire = false; day = 5; first = 0; number = 1 } ∷ record { volume = 0; retire = false; day = 8; first = 1; number = 1 } ∷ [];
   records = record { lbn = 0; before = unmapped; after = 0 } ∷ record { lbn = 0; before = 0; after = 1 } ∷ [];
 }
 
@@ -131,6 +131,6 @@ pub record Audited : Type 0 where
 
 pub audited-tried : Audited
 unfolding
-    counted freeEntry noPrint kept journal backups days image noMaps mapsSound countSound expirySound printsSound cellSound
+    counted freeEntry noPrint kept journal slotsOf backupCount days image noMaps mapsSound countSound expirySound printsSound cellSound
     currentSound backupSound backupsSound audit
 audited-tried = record { first = refl; second = refl }

@@ -2,14 +2,14 @@
 use Prim.Native.Nat.{ℕ, _+_, max}
 use mathlib.Core.Bool.{Bool, true, not, _&&_, _||_}
 use mathlib.Core.List.{List, [], _∷_, map}
-use lib.ListN.{length, getD, set, replicate}
+use lib.ListN.{getD, set, replicate}
 use lib.Dec.{eqb}
 use Rattle.words.specs.Blocks.{unmapped}
 use Rattle.words.specs.Choice.{if_then_else_}
 use Rattle.words.specs.Lists.{all, someOf, those, countOf, joined, same, differ, upFrom}
 use Rattle.book.specs.Book.{volumes, Rec, Book, entryAt, retentionOf}
 use Rattle.model.specs.Days.{kept}
-use Rattle.model.specs.Journal.{Backup, sinceOf, journal, days}
+use Rattle.model.specs.Journal.{backupCount, Backup, sinceOf, journal, days}
 use Rattle.model.specs.Read.{image}
 
 -- ---- "the maps are the records replayed in order from all unmapped"
@@ -85,7 +85,7 @@ backupSound x v k =
     || all (λ lbn. cellSound x (image x v k lbn)) (upFrom 0 (x .sizes .l))
 
 unfoldable pub backupsSound : Book → Bool
-backupsSound x = all (λ v. all (backupSound x v) (upFrom 1 (length (days x v)))) (upFrom 0 volumes)
+backupsSound x = all (λ v. all (backupSound x v) (upFrom 1 (backupCount x v))) (upFrom 0 volumes)
 
 unfoldable pub audit : Book → Bool
 audit x =

@@ -1,6 +1,6 @@
 -- Backup (document 01, "The calls"), from number 5 on: the numbers, the steps of a change, and what it leaves.
 use Prim.Native.Nat.{ℕ, suc, _+_, _-_, _%_, max}
-use mathlib.Core.Bool.{not, _&&_, _||_}
+use mathlib.Core.Bool.{false, not, _&&_, _||_}
 use mathlib.Core.List.{List, [], _∷_}
 use mathlib.Core.Option.{Option, none, some}
 use lib.ListN.{length, take, drop, set}
@@ -13,13 +13,13 @@ use Rattle.runs.specs.Changes.{Change, changes, changeCount, listNumber}
 use Rattle.book.specs.Book.{Entry, Book, entryAt, isFree, cellAt, retentionOf}
 use Rattle.book.specs.Next.{withDay, withCursor, withEntries, withEntry, withCell, withRecord, withSlot, countAs, expiryAs, heldAs}
 use Rattle.model.specs.Days.{badDay, notAfter}
-use Rattle.model.specs.Journal.{days, noVolume}
+use Rattle.model.specs.Journal.{days, backupCount, noLiving}
 use Rattle.model.specs.Pool.{blockAt, withBlock}
 
 -- numbers 5 to 10
 unfoldable pub backupNumber : Book → ℕ → ℕ → List ℕ → ℕ
 backupNumber x v t list =
-    if noVolume x v then 5 else
+    if noLiving x v then 5 else
     if badDay (x .day) t || notAfter (days x v) t then 7 else
     if not (eqb (listNumber (x .sizes .l) list) 0) then 8 else
     if leb (x .sizes .s) (length (x .slots)) then 9 else
@@ -129,9 +129,9 @@ begun x pool = record { book = x; pool = pool; taken = 0; touched = 0 }
 -- "Then a slot is added and day becomes T. The answer is the backup's number, blocks taken, and touched"
 unfoldable pub closed : Book → ℕ → ℕ → ℕ → Work → Backed
 closed x v t n w = record {
-  book = withDay t (withSlot (record { volume = v; day = t; first = length (x .records); number = n }) (w .book));
+  book = withDay t (withSlot (record { volume = v; retire = false; day = t; first = length (x .records); number = n }) (w .book));
   pool = w .pool;
-  number = suc (length (days x v));
+  number = suc (backupCount x v);
   taken = w .taken;
   touched = w .touched;
 }

@@ -1,4 +1,5 @@
--- Calls and their answers, as lists of calls have them (document 01, "Lists hold enrol, backup, collect, read and audit").
+-- Calls and their answers, as lists of calls have them (document 01, "Lists hold enrol, backup, collect, read and audit"; document 02, K6,
+-- "Compared lists include retiring").
 use Prim.Native.Nat.{ℕ}
 use mathlib.Core.Bool.{Bool, true}
 use mathlib.Core.List.{List, [], _∷_}
@@ -8,11 +9,12 @@ pub data Call : Type 0 where
   enrol : ℕ → ℕ → Call  -- volume, retention
   backup : ℕ → ℕ → List ℕ → Call  -- volume, day, change list
   collect : ℕ → Call  -- day
+  retire : ℕ → ℕ → Call  -- volume, day
   read : ℕ → ℕ → ℕ → Call  -- volume, number, LBN
   audit : Call
 
 -- "the number of a refusal; an enrol's 0; a backup's number, taken and touched; a collect's freed; a read's bytes or its number; an
--- audit's yes or no"
+-- audit's yes or no"; a retire's number of cells (document 02, K6)
 pub data Answer : Type 0 where
   number : ℕ → Answer  -- of a refusal; 0 of an accepted call that answers nothing else
   gave : List ℕ → Answer  -- the numbers that an accepted call answers

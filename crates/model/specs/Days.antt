@@ -6,12 +6,13 @@ use lib.ListN.{length, getD, drop}
 use lib.Dec.{leb, ltb, eqb}
 use Rattle.words.specs.Lists.{lastOf}
 
--- "if it is the newest or its own day plus retention is ≥ D" (document 02, K4): by its own day and the days of the backups after it
+-- "if it is the newest or its own day plus retention is ≥ D" (document 02, K4): by its own day and the days of the volume's slots after it. A
+-- retire slot is one of these: once the volume is retired "the newest is no longer exempt" (document 02, K6)
 abbrev pub keptBy : ℕ → List ℕ → ℕ → ℕ → Bool
 keptBy t [] r d = true
 keptBy t (u ∷ us) r d = leb d (t + r)
 
--- "backup k is kept at day D", by the days of the volume's backups and its retention. Said of k from 1 to the newest: any other number is
+-- "backup k is kept at day D", by the days of the volume's slots and its retention. Said of k from 1 to the newest: any other number is
 -- refused by 15 first, so that what this says of it counts nowhere
 unfoldable pub kept : List ℕ → ℕ → ℕ → ℕ → Bool
 kept ds r d zero = true

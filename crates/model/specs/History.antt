@@ -12,7 +12,7 @@ use Rattle.words.specs.Outcome.{Outcome, accepted, unless}
 use Rattle.words.specs.Sections.{flat}
 use Rattle.runs.specs.Changes.{Change, changes}
 use Rattle.model.specs.Days.{kept}
-use Rattle.model.specs.Calls.{Call, enrol, backup, collect, read, audit, Answer, isAccepted}
+use Rattle.model.specs.Calls.{Call, enrol, backup, collect, retire, read, audit, Answer, isAccepted}
 use Rattle.model.specs.Sides.{readAnswer}
 
 -- an accepted backup as it was sent
@@ -20,26 +20,32 @@ pub record Sent : Type 0 where
   pub day : ℕ
   pub changes : List Change
 
--- a volume's accepted enrol and backups; retention 0 means that there was no enrol
+-- a volume's accepted enrol, its accepted backups, and the days on which it was retired, of which there is one at most; retention 0 means that
+-- there was no enrol
 pub record History : Type 0 where
   pub retention : ℕ
   pub sent : List Sent
+  pub left : List ℕ
 
 unfoldable pub noHistory : History
-noHistory = record { retention = 0; sent = [] }
+noHistory = record { retention = 0; sent = []; left = [] }
 
 -- ---- from calls and their answers
 
 unfoldable pub withEnrol : ℕ → History → History
-withEnrol r h = record { retention = r; sent = h .sent }
+withEnrol r h = record { retention = r; sent = h .sent; left = h .left }
 
 unfoldable pub withSent : Sent → History → History
-withSent s h = record { retention = h .retention; sent = h .sent ++ (s ∷ []) }
+withSent s h = record { retention = h .retention; sent = h .sent ++ (s ∷ []); left = h .left }
+
+unfoldable pub withLeft : ℕ → History → History
+withLeft t h = record { retention = h .retention; sent = h .sent; left = h .left ++ (t ∷ []) }
 
 abbrev pub noted : ℕ → History → Call → Answer → History
 noted v h (enrol u r) a = if eqb u v && isAccepted a then withEnrol r h else h
 noted v h (backup u t list) a = if eqb u v && isAccepted a then withSent (record { day = t; changes = changes list }) h else h
 noted v h (collect t) a = h
+noted v h (retire u t) a = if eqb u v && isAccepted a then withLeft t h else h
 noted v h (read u k lbn) a = h
 noted v h audit a = h
 
@@ -52,11 +58,12 @@ historyFrom v h (c ∷ cs) (a ∷ answers) = historyFrom v (noted v h c a) cs an
 unfoldable pub historyOf : ℕ → List Call → List Answer → History
 historyOf v cs answers = historyFrom v noHistory cs answers
 
--- the header's day: the T of the last accepted backup or collect
+-- the header's day: the T of the last accepted backup, collect or retire
 abbrev pub dayNoted : ℕ → Call → Answer → ℕ
 dayNoted d (enrol u r) a = d
 dayNoted d (backup u t list) a = if isAccepted a then t else d
 dayNoted d (collect t) a = if isAccepted a then t else d
+dayNoted d (retire u t) a = if isAccepted a then t else d
 dayNoted d (read u k lbn) a = d
 dayNoted d audit a = d
 
@@ -69,6 +76,10 @@ unfoldable pub dayOf : List Call → List Answer → ℕ
 dayOf cs answers = dayFrom 0 cs answers
 
 -- ---- the read
+
+-- the days of its backups, and behind them its retirement's: "the newest is no longer exempt" then (document 02, K6)
+abbrev pub daysNoted : History → List ℕ
+daysNoted h = map (λ (s : Sent). s .day) (h .sent) ++ h .left
 
 -- the block of the last change at that LBN
 abbrev pub lastBlock : ℕ → List Change → Option (List ℕ)
@@ -92,7 +103,7 @@ unfoldable pub historyNumber : ℕ → History → ℕ → ℕ → ℕ → ℕ
 historyNumber l h d k lbn =
     if eqb (h .retention) 0 then 5 else
     if eqb k 0 || ltb (length (h .sent)) k then 15 else
-    if not (kept (map (λ (s : Sent). s .day) (h .sent)) (h .retention) d k) then 16 else
+    if not (kept (daysNoted h) (h .retention) d k) then 16 else
     if leb l lbn then 17 else
     if isNone (sentBlock h k lbn) then 18 else
     0
@@ -107,7 +118,7 @@ unfoldable pub historyRunNumber : ℕ → History → ℕ → ℕ → ℕ → �
 historyRunNumber l h d k first many room =
     if eqb (h .retention) 0 then 5 else
     if eqb k 0 || ltb (length (h .sent)) k then 15 else
-    if not (kept (map (λ (s : Sent). s .day) (h .sent)) (h .retention) d k) then 16 else
+    if not (kept (daysNoted h) (h .retention) d k) then 16 else
     if ltb l (first + many) || ltb room (many * blockSize) then 21 else
     if someOf (λ lbn. isNone (sentBlock h k lbn)) (upFrom first many) then 18 else
     0

@@ -3,6 +3,7 @@ pub mod Journal
 pub mod Pool
 pub mod Enrol
 pub mod Backup
+pub mod Retire
 pub mod Collect
 pub mod Read
 pub mod Kept
@@ -15,6 +16,7 @@ pub mod Views
 pub mod Written
 pub mod Plain
 pub mod PlainBackup
+pub mod PlainRetire
 pub mod Calls
 pub mod Sides
 pub mod History

@@ -14,6 +14,7 @@ use Rattle.book.specs.Next.{fresh}
 use Rattle.model.specs.Pool.{poolSize}
 use Rattle.model.specs.Enrol.{enrol}
 use Rattle.model.specs.Backup.{Backed, backup}
+use Rattle.model.specs.Retire.{Retired, retire}
 use Rattle.model.specs.Collect.{Collected, collect}
 use Rattle.model.specs.Read.{image, read}
 use Rattle.model.specs.Restore.{restore}
@@ -78,6 +79,22 @@ backupBytes b pool spare v t list =
     (unless (poolNumber b pool)
     (unless (spareNumber b spare)
     (andThen (backup (bookOf b) pool v t list) (λ d. accepted (backedBytes d)))))
+
+-- ---- retire (document 02, K6): "retiring takes book and spare"
+
+pub record RetiredBytes : Type 0 where
+  pub book : List ℕ
+  pub cells : ℕ
+
+unfoldable pub retiredBytes : Retired → RetiredBytes
+retiredBytes d = record { book = bytes (d .book); cells = d .cells }
+
+-- book, length of the spare, volume, day
+unfoldable pub retireBytes : List ℕ → ℕ → ℕ → ℕ → Outcome RetiredBytes
+retireBytes b spare v t =
+    unless (formNumber b)
+    (unless (spareNumber b spare)
+    (andThen (retire (bookOf b) v t) (λ d. accepted (retiredBytes d))))
 
 -- ---- collect
 

@@ -17,7 +17,7 @@ pub data Block : Type 0 where
   free : Block
   held : List ℕ → List ℕ → Block
 
--- what was taken of a volume: its "whole map", by a backup; or the volume itself, by a retirement (document 02, K6; no call makes one yet)
+-- what was taken of a volume: its "whole map", by a backup; or the volume itself, by a retirement (document 02, K6)
 pub data What : Type 0 where
   image : List ℕ → What
   retirement : What
@@ -93,6 +93,17 @@ mapWith retirement ms = ms
 abbrev pub mapsOf : List Taken → List (List ℕ)
 mapsOf [] = []
 mapsOf (i ∷ is) = mapWith (i .what) (mapsOf is)
+
+abbrev pub isRetirement : What → Bool
+isRetirement (image m) = false
+isRetirement retirement = true
+
+abbrev pub isRetired : List Taken → Bool
+isRetired is = someOf (λ (i : Taken). isRetirement (i .what)) is
+
+-- 5 for a volume that has to be enrolled and not retired
+abbrev pub noLiving : Plain → ℕ → Bool
+noLiving q v = ltb 7 v || not (isEnrolled q v) || isRetired (takenOf v (q .taken))
 
 abbrev pub noMap : Sizes → List ℕ
 noMap z = replicate (z .l) unmapped

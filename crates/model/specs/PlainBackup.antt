@@ -11,17 +11,17 @@ use Rattle.words.specs.Lists.{placeFrom, orElse, same, sum}
 use Rattle.words.specs.Outcome.{Outcome, refused, accepted, andThen, unless}
 use Rattle.runs.specs.Changes.{Change, changes, changeCount, listNumber}
 use Rattle.model.specs.Days.{badDay, notAfter}
-use Rattle.model.specs.Plain.{Block, free, held, image, Taken, Plain, atDay, withBlocks, withTaken, isEnrolled, takenOf, daysOf}
-use Rattle.model.specs.Plain.{mapsOf, currentOf, isFree, bytesOf}
+use Rattle.model.specs.Plain.{Block, free, held, image, Taken, Plain, atDay, withBlocks, withTaken, takenOf, daysOf}
+use Rattle.model.specs.Plain.{mapsOf, noLiving, currentOf, isFree, bytesOf}
 
--- "9 and 10 count all backups and changes so far"
+-- "9 and 10 count all backups and changes so far", and retirements and their cells (document 02, K6)
 abbrev pub changesIn : List Taken → ℕ
 changesIn is = sum (map (λ (i : Taken). i .changes) is)
 
 -- numbers 5 to 10
 unfoldable pub backupNumber : Plain → ℕ → ℕ → List ℕ → ℕ
 backupNumber q v t list =
-    if ltb 7 v || not (isEnrolled q v) then 5 else
+    if noLiving q v then 5 else
     if badDay (q .day) t || notAfter (daysOf (takenOf v (q .taken))) t then 7 else
     if not (eqb (listNumber (q .sizes .l) list) 0) then 8 else
     if leb (q .sizes .s) (length (q .taken)) then 9 else

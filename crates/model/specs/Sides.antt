@@ -8,12 +8,14 @@ use Rattle.words.specs.Choice.{if_then_else_}
 use Rattle.words.specs.Outcome.{Outcome, refused, accepted, andThen}
 use Rattle.book.specs.Book.{Entry}
 use Rattle.book.specs.Layout.{bookOf}
-use Rattle.model.specs.OnBytes.{BackedBytes, CollectedBytes, enrolBytes, backupBytes, collectBytes, readBytes, auditBytes}
+use Rattle.model.specs.OnBytes.{BackedBytes, CollectedBytes, RetiredBytes, enrolBytes, backupBytes, collectBytes, retireBytes, readBytes, auditBytes}
 use Rattle.model.specs.Plain
 use Rattle.model.specs.Plain.{Block, free, held, Plain, currentMaps, PlainCollected}
 use Rattle.model.specs.PlainBackup
 use Rattle.model.specs.PlainBackup.{PlainBacked}
-use Rattle.model.specs.Calls.{Call, enrol, backup, collect, read, audit, Answer, number, gave, block, sound}
+use Rattle.model.specs.PlainRetire
+use Rattle.model.specs.PlainRetire.{PlainRetired}
+use Rattle.model.specs.Calls.{Call, enrol, backup, collect, retire, read, audit, Answer, number, gave, block, sound}
 
 -- what a call answers and where it leaves a side
 pub record Step (S : Type 0) : Type 0 where
@@ -77,11 +79,15 @@ backedTo d = became (record { book = d .book; pool = d .pool }) (d .number ∷ d
 abbrev pub collectedTo : Ours → CollectedBytes → Outcome (Changed Ours)
 collectedTo o d = became (withBook (d .book) o) (d .freed ∷ [])
 
+abbrev pub retiredTo : Ours → RetiredBytes → Outcome (Changed Ours)
+retiredTo o d = became (withBook (d .book) o) (d .cells ∷ [])
+
 -- spare is the spare's length
 unfoldable pub ours : ℕ → Ours → Call → Step Ours
 ours spare o (enrol v r) = stepOf o (andThen (enrolBytes (o .book) v r) (enrolledTo o))
 ours spare o (backup v t list) = stepOf o (andThen (backupBytes (o .book) (o .pool) spare v t list) backedTo)
 ours spare o (collect t) = stepOf o (andThen (collectBytes (o .book) t) (collectedTo o))
+ours spare o (retire v t) = stepOf o (andThen (retireBytes (o .book) spare v t) (retiredTo o))
 ours spare o (read v k lbn) = record { answer = readAnswer (readBytes (o .book) (o .pool) v k lbn); next = o }
 ours spare o audit = record { answer = auditAnswer (auditBytes (o .book)); next = o }
 
@@ -96,10 +102,14 @@ storeBacked d = became (d .store) (d .number ∷ d .taken ∷ d .touched ∷ [])
 abbrev pub storeCollected : PlainCollected → Outcome (Changed Plain)
 storeCollected d = became (d .store) (d .freed ∷ [])
 
+abbrev pub storeRetired : PlainRetired → Outcome (Changed Plain)
+storeRetired d = became (d .store) (d .cells ∷ [])
+
 unfoldable pub plain : Plain → Call → Step Plain
 plain q (enrol v r) = stepOf q (andThen (Plain.enrol q v r) storeEnrolled)
 plain q (backup v t list) = stepOf q (andThen (PlainBackup.backup q v t list) storeBacked)
 plain q (collect t) = stepOf q (andThen (Plain.collect q t) storeCollected)
+plain q (retire v t) = stepOf q (andThen (PlainRetire.retire q v t) storeRetired)
 plain q (read v k lbn) = record { answer = readAnswer (Plain.read q v k lbn); next = q }
 plain q audit = record { answer = sound true; next = q }
 

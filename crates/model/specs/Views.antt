@@ -13,7 +13,7 @@ use Rattle.book.specs.Book.{Sizes, Entry, Book, retentionOf}
 use Rattle.book.specs.Layout.{bookOf}
 use Rattle.book.specs.Form.{formNumber}
 use Rattle.model.specs.Days.{keptBy}
-use Rattle.model.specs.Journal.{Backup, backups, noVolume}
+use Rattle.model.specs.Journal.{Backup, slotsOf, backupCount, noVolume}
 use Rattle.model.specs.OnBytes.{after}
 
 -- ---- their numbers
@@ -37,16 +37,22 @@ pub record Used : Type 0 where
 unfoldable pub usedOf : Book → Used
 usedOf x = record { slots = length (x .slots); records = length (x .records); day = x .day }
 
--- a volume's retention, and how many backups it has
+-- the day on which a volume was retired. No day is 65,535, which stands for none
+abbrev pub retiredOn : List Backup → ℕ
+retiredOn [] = 65535
+retiredOn (b ∷ bs) = if b .retire then b .day else retiredOn bs
+
+-- a volume's retention, how many backups it has, and the day on which it was retired
 pub record VolumeFacts : Type 0 where
   pub retention : ℕ
   pub backups : ℕ
+  pub retired : ℕ
 
 unfoldable pub volumeOf : Book → ℕ → VolumeFacts
-volumeOf x v = record { retention = retentionOf x v; backups = length (backups x v) }
+volumeOf x v = record { retention = retentionOf x v; backups = backupCount x v; retired = retiredOn (slotsOf x v) }
 
--- the last day on which a backup is kept, by its own day and those of the volume's backups after it. The newest is always kept: no day is above
--- 65,535
+-- the last day on which a backup is kept, by its own day and those of the volume's slots after it. The newest of a volume that isn't retired is always
+-- kept: no day is above 65,535
 abbrev pub keptUntil : ℕ → List ℕ → ℕ → ℕ
 keptUntil t [] r = 65535
 keptUntil t (u ∷ us) r = t + r
@@ -56,13 +62,14 @@ abbrev pub backupRow : Backup → List ℕ → ℕ → ℕ → List ℕ
 backupRow b later r d =
     flat two (b .day ∷ length (b .records) ∷ keptUntil (b .day) later r ∷ bit (keptBy (b .day) later r d) ∷ [])
 
+-- of a volume's slots: a retire slot has no row
 abbrev pub backupRows : ℕ → ℕ → List Backup → List ℕ
 backupRows r d [] = []
-backupRows r d (b ∷ bs) = backupRow b (map (λ (b : Backup). b .day) bs) r d ++ backupRows r d bs
+backupRows r d (b ∷ bs) = (if b .retire then [] else backupRow b (map (λ (b : Backup). b .day) bs) r d) ++ backupRows r d bs
 
 -- the volume's backups by their numbers
 unfoldable pub backupsOf : Book → ℕ → List ℕ
-backupsOf x v = backupRows (retentionOf x v) (x .day) (backups x v)
+backupsOf x v = backupRows (retentionOf x v) (x .day) (slotsOf x v)
 
 -- the volume's current map, a PBN for each LBN
 unfoldable pub cellsOf : Book → ℕ → List ℕ

@@ -37,7 +37,7 @@ fn touches(before: PBN) -> u16
 }
 
 // The before's count falls by 1, and it is kept until this day at least. Not where its count is 0.
-fn lower(work: &mut [u8], before: PBN, until: u16) -> bool
+pub fn lower(work: &mut [u8], before: PBN, until: u16) -> bool
     requires { ⌜ Holds (now work) ⌝ }
     requires { ⌜ (before .0 < told work .sizes .n) ⊎ (before .0 ≡ unmapped) ⌝ }
     ensures { λ r. ⌜ LoweredBy work (before .0) until r ⌝ }

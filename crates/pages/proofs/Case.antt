@@ -7,7 +7,7 @@ use lib.ListN.{length}
 use Rattle.words.specs.Lists.{joined}
 use Rattle.book.specs.Book.{noPrint, freeEntry, noSlot, noRec}
 use Rattle.book.specs.Layout.{entrySize, bookSize, bytes, bookOf}
-use Rattle.book.specs.Form.{between, sizesAs, layoutAs, retentionOk, entryOk, pbnOk, recOk, slotOk, laterOk, bookOk, stateOk, secondOk}
+use Rattle.book.specs.Form.{between, sizesAs, layoutAs, retentionOk, entryOk, pbnOk, recOk, afterOk, slotOk, laterOk, bookOk, stateOk, secondOk}
 use Rattle.book.specs.Form.{rawOk, formAs}
 use Rattle.book.specs.Next.{newSizes, withDay}
 use Rattle.book.proofs.AfterD.{afterD}
@@ -34,7 +34,7 @@ pageAfterD =
 -- opens all that the cases compute with
 unfoldable opened : ℕ
 unfolding
-    noPrint freeEntry noSlot noRec entrySize bytes bookOf between sizesAs layoutAs retentionOk entryOk pbnOk recOk slotOk laterOk
+    noPrint freeEntry noSlot noRec entrySize bytes bookOf between sizesAs layoutAs retentionOk entryOk pbnOk recOk afterOk slotOk laterOk
     bookOk stateOk secondOk rawOk
     formAs withDay tallyNumber blocks held free waiting references decimal line bookPage tallyPage afterD pageAfterD
 opened = 0

@@ -17,7 +17,7 @@ use Rattle.book.specs.Book.{Book, retentionOf}
 use Rattle.book.specs.Layout.{bookOf}
 use Rattle.book.specs.Form.{formNumber}
 use Rattle.model.specs.Days.{badDay, notAfter}
-use Rattle.model.specs.Journal.{Backup, journal, backups, days, noVolume}
+use Rattle.model.specs.Journal.{Backup, journal, slotsOf, days, isRetired, noVolume, noLiving}
 use Rattle.model.specs.Backup.{untilNext, Work, Backed, runChanges, begun, closed, backupNumber, backup}
 use Rattle.claims.proofs.kept.JournalAtLaws.{length-journal}
 use Rattle.model.specs.OnBytes.{spareNumber, BackedBytes, backedBytes, backupBytes}
@@ -52,27 +52,36 @@ module _ (b pool : List ℕ) (spare : ℕ) where
 
 module _ (x : Book) (v t : ℕ) (list : List ℕ) where
   pub five-above : 7 < v → backupNumber x v t list ≡ 5
-  unfolding backupNumber noVolume
+  unfolding backupNumber noLiving noVolume
   five-above h = rw (lt-ltb 7 v h)
 
   module _ (high : v ≤ 7) where
     pub five-none : retentionOf x v ≡ 0 → backupNumber x v t list ≡ 5
-    unfolding backupNumber noVolume
+    unfolding backupNumber noLiving noVolume
     five-none e = rw (le-ltb 7 v high, eq-eqb (retentionOf x v) 0 e)
 
     module _ (own : retentionOf x v ≡ 0 → ⊥) where
-      pub seven : dayRefused x v t ≡ true → backupNumber x v t list ≡ 7
-      unfolding backupNumber noVolume dayRefused
-      seven e = rw (le-ltb 7 v high, ne-eqb (retentionOf x v) 0 own, e)
+      pub five-retired : isRetired x v ≡ true → backupNumber x v t list ≡ 5
+      unfolding backupNumber noLiving noVolume
+      five-retired e = rw (le-ltb 7 v high, ne-eqb (retentionOf x v) 0 own, e)
 
-      module _ (day : dayRefused x v t ≡ false) where
-        pub eight : listNumber (x .sizes .l) list ≡ 8 → backupNumber x v t list ≡ 8
-        unfolding backupNumber noVolume dayRefused
-        eight e = rw (le-ltb 7 v high, ne-eqb (retentionOf x v) 0 own, day, e)
+      module _ (living : isRetired x v ≡ false) where
+        there : noLiving x v ≡ false
+        unfolding noLiving noVolume
+        there = rw (le-ltb 7 v high, ne-eqb (retentionOf x v) 0 own, living)
 
-        pub by-room : listNumber (x .sizes .l) list ≡ 0 → backupNumber x v t list ≡ roomNumber x (changeCount list)
-        unfolding backupNumber noVolume dayRefused roomNumber
-        by-room e = rw (le-ltb 7 v high, ne-eqb (retentionOf x v) 0 own, day, e)
+        pub seven : dayRefused x v t ≡ true → backupNumber x v t list ≡ 7
+        unfolding backupNumber dayRefused
+        seven e = rw (there, e)
+
+        module _ (day : dayRefused x v t ≡ false) where
+          pub eight : listNumber (x .sizes .l) list ≡ 8 → backupNumber x v t list ≡ 8
+          unfolding backupNumber dayRefused
+          eight e = rw (there, day, e)
+
+          pub by-room : listNumber (x .sizes .l) list ≡ 0 → backupNumber x v t list ≡ roomNumber x (changeCount list)
+          unfolding backupNumber dayRefused roomNumber
+          by-room e = rw (there, day, e)
 
 -- ---- number 7, with the volume's backups
 
@@ -146,7 +155,7 @@ module _ (b pool : List ℕ) (spare v t : ℕ) (list : List ℕ) where
         (then-then (runChanges v (untilNext (bookOf b) v) (changes list) (begun (bookOf b) pool))
         (closed (bookOf b) v t (changeCount list)) backedBytes)
 
--- ---- a volume has no more backups than slots are used
+-- ---- a volume has no more slots than are used
 
 length-those : {A : Type 0} (f : A → Bool) (xs : List A) → length (those f xs) ≤ length xs
 length-those f [] = omega arith
@@ -157,6 +166,6 @@ length-those f (x ∷ xs) = go (f x) (length-those f xs)
     go false h = omega arith
 
 pub days-bound : (x : Book) (v : ℕ) → length (days x v) ≤ length (x .slots)
-unfolding days backups
+unfolding days slotsOf
 days-bound x v =
-    omega (arith, length-map (backups x v) (λ b. b .day), length-those (λ (b : Backup). eqb (b .volume) v) (journal x), length-journal x)
+    omega (arith, length-map (slotsOf x v) (λ b. b .day), length-those (λ (b : Backup). eqb (b .volume) v) (journal x), length-journal x)

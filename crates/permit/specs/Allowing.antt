@@ -14,7 +14,7 @@ use Rattle.book.specs.Book.{volumes, Book}
 use Rattle.book.specs.Layout.{bookOf}
 use Rattle.book.specs.FormFacts.{FormFacts}
 use Rattle.model.specs.Days.{badDay, notAfter}
-use Rattle.model.specs.Journal.{days}
+use Rattle.model.specs.Journal.{days, backupCount}
 use Rattle.model.specs.Backup.{Work, untilNext, runChanges, begun, closed}
 use Rattle.model.specs.OnBytes.{spareNumber, BackedBytes, backedBytes, backupBytes}
 use Rattle.buffers.specs.Buffers.{orNumber, buffersNumber}
@@ -51,7 +51,7 @@ pub record Ready (b pool : List ℕ) (spare v t : ℕ) (list : List ℕ) (plan :
   pub job : Job (bookOf b) pool list (plan .shape)
   pub room : length (bookOf b .slots) < bookOf b .sizes .s
   pub until : plan .until ≡ untilNext (bookOf b) v
-  pub number : plan .number ≡ suc (length (days (bookOf b) v))
+  pub number : plan .number ≡ suc (backupCount (bookOf b) v)
   pub goes : backupBytes b pool spare v t list ≡ goesOn (bookOf b) pool v t list
 
 unfoldable pub AllowedBy : (book pool : Lent (List ℕ)) → (spare v t : ℕ) → Lent (List ℕ) → Allowed → Type 0

@@ -40,8 +40,8 @@ fn lent_number(book: &[u8], pool: &[u8], spare: usize) -> u16
     0
 }
 
-// Number 7: whether the day can't be a backup's.
-fn bad_day(book: &[u8], v: u16, day: u16, backups: Backups) -> bool
+// Number 7: whether the day can't be that of the volume's next slot.
+pub fn bad_day(book: &[u8], v: u16, day: u16, backups: Backups) -> bool
     requires { ⌜ Holds (now book) ⌝ }
     requires { ⌜ BackupsAre (told book) v backups ⌝ }
     ensures { λ r. ⌜ r ≡ dayRefused (told (book .entry)) v day ⌝ }
@@ -59,7 +59,7 @@ fn bad_day(book: &[u8], v: u16, day: u16, backups: Backups) -> bool
 }
 
 // Numbers 9 and 10 for so many changes, or 0.
-fn room(book: &[u8], changes: u16) -> u16
+pub fn room(book: &[u8], changes: u16) -> u16
     requires { ⌜ Holds (now book) ⌝ }
     ensures { λ r. ⌜ r ≡ roomNumber (told (book .entry)) changes ⌝ }
 {
@@ -87,6 +87,9 @@ pub fn allow(book: &[u8], pool: &[u8], spare: usize, v: u16, day: u16, list: &[u
         return Allowed::Refused(refusals::BAD_VOLUME);
     }
     let backups = backups_of(book, v);
+    if backups.retired {
+        return Allowed::Refused(refusals::BAD_VOLUME);
+    }
     if bad_day(book, v, day, backups) {
         return Allowed::Refused(refusals::BAD_DAY);
     }

@@ -4,10 +4,12 @@ ghost use Rattle.permit.specs.Backups.{BackupsAre};
 use fields::header;
 use journal::slot;
 
-// How many backups a volume has, and the day of the last one, 0 where there is none.
+// How many slots a volume has, the day of the last one, 0 where there is none, and whether one retires the volume. The
+// others are its backups.
 pub struct Backups {
     pub count: u16,
     pub last: u16,
+    pub retired: bool,
 }
 
 pub fn backups_of(book: &[u8], v: u16) -> Backups
@@ -17,14 +19,20 @@ pub fn backups_of(book: &[u8], v: u16) -> Backups
     let used = header::used_slots(book);
     let mut count = 0;
     let mut last = 0;
+    let mut retired = false;
     let mut q = 0;
     while q < used {
         let slot = slot::slot_at(book, q);
         if slot.volume == v {
             count += 1;
             last = slot.day;
+            retired = retired | slot.retire;
         }
         q += 1;
     }
-    Backups { count, last }
+    Backups {
+        count,
+        last,
+        retired,
+    }
 }

@@ -14,6 +14,7 @@ use answers::answer_collect;
 use answers::answer_enrol;
 use answers::answer_read;
 use answers::answer_restore;
+use answers::answer_retire;
 use heads::checking::check;
 use heads::checking::room_of;
 use heads::head::BACKUP;
@@ -22,6 +23,7 @@ use heads::head::ENROL;
 use heads::head::HEAD_SIZE;
 use heads::head::READ;
 use heads::head::RESTORE;
+use heads::head::RETIRE;
 use heads::head::call_end;
 use heads::head::data_size;
 use words::u16_at;
@@ -87,6 +89,9 @@ fn play_call(
     if kind == RESTORE {
         let d = u16_at(calls, at + 8);
         return answer_restore(book, pool, a, b, c, d, answers, to);
+    }
+    if kind == RETIRE {
+        return answer_retire(book, spare, a, b, answers, to);
     }
     answer_audit(book, answers, to)
 }

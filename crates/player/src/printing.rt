@@ -32,8 +32,9 @@ fn backed(k: u16, taken: u16, touched: u16) {
 }
 
 fn numbered(tag: u8, k: u16) {
+    // a collect's freed, or a retire's cells
     if tag == 2 {
-        number(b"freed ", k);
+        number(b"gave ", k);
         return;
     }
     if tag == 4 {

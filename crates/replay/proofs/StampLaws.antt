@@ -84,7 +84,7 @@ module _ (x : Book) (k : ℕ) where
       let lbn = ltb (r .lbn) (z .l) in
       let l =
       ltb-true (r .lbn) (z .l) (and-true lbn (pbnOk (z .n) (r .before))
-      (and-true (lbn && pbnOk (z .n) (r .before)) (ltb (r .after) (z .n)) (w .0) .0) .0) in
+      (and-true (lbn && pbnOk (z .n) (r .before)) (pbnOk (z .n) (r .after)) (w .0) .0) .0) in
       ap (λ (t : Bool). (eqb (getD a (r .lbn) 0) k || cellSound x (r .before)) && t)
       (firsts-each rs z (set a (r .lbn) k) (rw (length-set a (r .lbn) k) h) (w .1))
       ∙ one-more r rs a (omega arith) (z .l) l

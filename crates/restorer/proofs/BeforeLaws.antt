@@ -18,7 +18,7 @@ use Rattle.book.specs.Form.{pairsOk}
 use Rattle.journal.specs.Struct.{SlotIs}
 use Rattle.journal.specs.declared.slot.Slot.{Slot}
 use Rattle.model.specs.Read.{recordsOf, beforeOr}
-use Rattle.model.specs.JournalAt.{backupAt, backupsFrom, ownAt, imageFrom}
+use Rattle.model.specs.JournalAt.{backupAt, ownFrom, ownAt, imageFrom}
 use Rattle.claims.proofs.kept.JournalAtLaws.{volume-at, records-at, from-split, from-end, recordsOf-append}
 use Rattle.restorer.specs.declared.image.Before.{Before}
 use Rattle.restorer.specs.declared.image.Before.the-variants.{At, Nothing}
@@ -92,15 +92,15 @@ module _ (x : Book) (v q lbn : ℕ) where
   pub later-here : (p : PBN) → q < length (x .slots) → beforeIn lbn (recordsOf (ownAt x v q)) ≡ At p → beforeFrom x v q lbn ≡ At p
   unfolding beforeFrom
   later-here p h e =
-      rw (from-split x v q h, recordsOf-append (ownAt x v q) (backupsFrom x v (q + 1)))
-      (append-before lbn p (recordsOf (ownAt x v q)) (recordsOf (backupsFrom x v (q + 1))) e)
+      rw (from-split x v q h, recordsOf-append (ownAt x v q) (ownFrom x v (q + 1)))
+      (append-before lbn p (recordsOf (ownAt x v q)) (recordsOf (ownFrom x v (q + 1))) e)
 
   pub later-next : q < length (x .slots) → beforeIn lbn (recordsOf (ownAt x v q)) ≡ Nothing
       → beforeFrom x v q lbn ≡ beforeFrom x v (q + 1) lbn
   unfolding beforeFrom
   later-next h e =
-      rw (from-split x v q h, recordsOf-append (ownAt x v q) (backupsFrom x v (q + 1)))
-      (before-append lbn (recordsOf (ownAt x v q)) (recordsOf (backupsFrom x v (q + 1))) e)
+      rw (from-split x v q h, recordsOf-append (ownAt x v q) (ownFrom x v (q + 1)))
+      (before-append lbn (recordsOf (ownAt x v q)) (recordsOf (ownFrom x v (q + 1))) e)
 
   pub later-none : length (x .slots) ≤ q → beforeFrom x v q lbn ≡ Nothing
   unfolding beforeFrom beforeIn
@@ -111,7 +111,7 @@ module _ (x : Book) (v q lbn : ℕ) where
 module _ (x : Book) (v q lbn : ℕ) where
   pub image-before : (p : PBN) → beforeFrom x v q lbn ≡ At p → imageFrom x v q lbn ≡ p .0
   unfolding imageFrom beforeFrom beforeIn
-  image-before p e = go (firstOf lbn (recordsOf (backupsFrom x v q))) e
+  image-before p e = go (firstOf lbn (recordsOf (ownFrom x v q))) e
     where
       go : (o : Option Rec) → beforeOf o ≡ At p → beforeOr (cellAt (x .maps) v lbn) o ≡ p .0
       go none f = absurd (let z : _≡_ {A = ℕ} 0 1 = cc in omega arith)
@@ -119,7 +119,7 @@ module _ (x : Book) (v q lbn : ℕ) where
 
   pub image-current : beforeFrom x v q lbn ≡ Nothing → imageFrom x v q lbn ≡ cellAt (x .maps) v lbn
   unfolding imageFrom beforeFrom beforeIn
-  image-current e = go (firstOf lbn (recordsOf (backupsFrom x v q))) e
+  image-current e = go (firstOf lbn (recordsOf (ownFrom x v q))) e
     where
       go : (o : Option Rec) → beforeOf o ≡ Nothing → beforeOr (cellAt (x .maps) v lbn) o ≡ cellAt (x .maps) v lbn
       go none f = refl

@@ -6,7 +6,7 @@ use lib.Dec.{eqb}
 use Rattle.words.specs.Lists.{firstThat}
 use Rattle.book.specs.Book.{Rec, Book}
 use Rattle.model.specs.Read.{recordsOf}
-use Rattle.model.specs.JournalAt.{backupsFrom}
+use Rattle.model.specs.JournalAt.{ownFrom}
 use Rattle.restorer.specs.declared.image.Before.{Before}
 use Rattle.restorer.specs.declared.image.Before.the-variants.{At, Nothing}
 
@@ -26,4 +26,4 @@ beforeIn lbn rs = beforeOf (firstOf lbn rs)
 
 -- the first before among the volume's backups in the slots from q on
 unfoldable pub beforeFrom : Book → ℕ → ℕ → ℕ → Before
-beforeFrom x v q lbn = beforeIn lbn (recordsOf (backupsFrom x v q))
+beforeFrom x v q lbn = beforeIn lbn (recordsOf (ownFrom x v q))

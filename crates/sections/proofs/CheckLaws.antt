@@ -16,8 +16,8 @@ use Rattle.words.specs.Numbers.{num}
 use Rattle.words.specs.Sections.{tab}
 use Rattle.words.proofs.SectionLaws.{part-tab}
 use Rattle.book.specs.Layout.{headerSize, countSize, bookSize, entryOffset, nOffset, lOffset, sOffset, jOffset, bOffset}
-use Rattle.book.specs.Layout.{uOffset, dayOffset, cursorOffset, zeroOffset, sizesOf, countIn, entryIn, recOf}
-use Rattle.book.specs.Form.{between, sizesAs, layoutAs, sizesOk, stateOk, entryOk, pbnOk, recOk}
+use Rattle.book.specs.Layout.{uOffset, dayOffset, cursorOffset, zeroOffset, countIn, entryIn}
+use Rattle.book.specs.Form.{between, sizesAs, layoutAs, sizesOk, stateOk, entryOk}
 use Rattle.book.specs.Next.{newSizes}
 use Rattle.book.proofs.Widths.{offset-same, entry-same}
 use Rattle.sections.specs.Checks.{zerosIn, headOk, restOk, entriesOk, HeadIn}
@@ -151,8 +151,3 @@ entries-same g h e b n =
     λ p. ap (λ (at : ℕ). entryIn g b at) (offset-same g h e p) ∙ entry-same g h e b (entryOffset h p)
     in
     λ i. each (λ p. leb (getD b (offset-same g h e p i + e i) 0) 1 && entryOk (entry p i)) 0 n
-
-pub rec-tests : (b : List ℕ) (at : ℕ) {n l x y z : ℕ} {p : Bool} → n ≡ num b nOffset → l ≡ num b lOffset
-    → x ≡ num b at → y ≡ num b (at + 2) → z ≡ num b (at + 4) → p ≡ pbnOk n y → (ltb x l && p && ltb z n) ≡ recOk (sizesOf b) (recOf b at)
-unfolding recOk
-rec-tests b at en el ex ey ez ep = rw (ep, en, el, ex, ey, ez)

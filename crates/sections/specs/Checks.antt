@@ -11,8 +11,8 @@ use Rattle.words.specs.Numbers.{num}
 use Rattle.words.specs.Sections.{tab}
 use Rattle.book.specs.Book.{volumes}
 use Rattle.book.specs.Layout.{nOffset, sOffset, jOffset, bOffset, uOffset, dayOffset, cursorOffset, zeroOffset, retentionOffset}
-use Rattle.book.specs.Layout.{entryOffset, recSize, sizesOf, entryIn, recOf}
-use Rattle.book.specs.Form.{retentionOk, stateOk, entryOk, pbnOk, recOk}
+use Rattle.book.specs.Layout.{entryOffset, entryIn}
+use Rattle.book.specs.Form.{retentionOk, stateOk, entryOk, pbnOk}
 
 -- the bytes from o up to e are zero
 abbrev pub zerosIn : List ℕ → ℕ → ℕ → Bool
@@ -49,10 +49,6 @@ entriesOk g b n = each (λ p. stateOk g b p && entryOk (entryIn g b (entryOffset
 -- the cells of all maps, one after the other
 unfoldable pub mapsOk : List ℕ → ℕ → ℕ → ℕ → Bool
 mapsOk b from cells n = each (λ c. pbnOk n (num b (from + c * 2))) 0 cells
-
--- the used records
-unfoldable pub recordsOk : List ℕ → ℕ → ℕ → Bool
-recordsOk b from used = each (λ q. recOk (sizesOf b) (recOf b (from + q * recSize))) 0 used
 
 -- the header's test as facts
 pub record HeadIn (b : List ℕ) : Type 0 where

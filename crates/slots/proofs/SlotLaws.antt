@@ -2,7 +2,7 @@
 -- The used slots in one pass: what is tested of each, and of what is left.
 use Prim.Native.Nat.{ℕ, suc, _+_, _≤_, _<_}
 use mathlib.Core.Path.{_≡_, refl, ap, _∙_}
-use mathlib.Core.Bool.{Bool, true, false, not, _&&_}
+use mathlib.Core.Bool.{Bool, true, false, not, _&&_, _||_}
 use mathlib.Core.List.{List, [], _∷_}
 use native.Mathlib.Decide.{decLt}
 use native.Mathlib.Numerals.{add-one}
@@ -20,7 +20,8 @@ use Rattle.words.specs.Sections.{tab}
 use Rattle.words.proofs.SectionLaws.{length-tab, getD-tab}
 use Rattle.book.specs.Book.{volumes, Slot, noSlot}
 use Rattle.book.specs.Layout.{bOffset, uOffset, dayOffset, retentionOffset, slotOffset, sizesOf, slotOf, bookOf}
-use Rattle.book.specs.Form.{secondOk, enrolled, slotOk, pairsOk}
+use Rattle.book.specs.Form.{secondOk, slotOk, pairsOk}
+use Rattle.book.proofs.Conditions.{slot-facts}
 use Rattle.slots.specs.Days.{dayOk, daysFrom}
 use Rattle.slots.specs.Slots.{slotHere, slotsLeft}
 
@@ -31,10 +32,10 @@ shuffle : (a b c d s t u v : Bool) → ((a && s) && (b && t) && (c && u) && (d &
 shuffle a b c d s t u v = rw (and-swap a s b t, and-swap (a && b) (s && t) c u, and-swap (a && b && c) (s && t && u) d v)
 
 module _ (b : List ℕ) (q : ℕ) where
-  abbrev this : Slot
+  abbrev pub this : Slot
   this = slotOf b (slotOffset (sizesOf b) q)
 
-  slots-drop : q < num b bOffset → drop q (bookOf b .slots) ≡ this ∷ drop (q + 1) (bookOf b .slots)
+  pub slots-drop : q < num b bOffset → drop q (bookOf b .slots) ≡ this ∷ drop (q + 1) (bookOf b .slots)
   unfolding bookOf
   slots-drop h =
       let slot : ℕ → Slot = λ k. slotOf b (slotOffset (sizesOf b) k) in
@@ -42,33 +43,36 @@ module _ (b : List ℕ) (q : ℕ) where
       rw (add-one q) (drop-cons (tab (num b bOffset) slot) q noSlot (omega arith)
       ∙ ap (λ (t : Slot). t ∷ drop (suc q) (tab (num b bOffset) slot)) (getD-tab (num b bOffset) slot q noSlot h))
 
-  slots-none : num b bOffset ≤ q → drop q (bookOf b .slots) ≡ []
+  pub slots-none : num b bOffset ≤ q → drop q (bookOf b .slots) ≡ []
   unfolding bookOf
   slots-none h =
       let slot : ℕ → Slot = λ k. slotOf b (slotOffset (sizesOf b) k) in
       drop-of-length-le (tab (num b bOffset) slot) {i = q} (omega (arith, length-tab (num b bOffset) slot))
 
-  module _ (lasts : List ℕ) (prev next : ℕ) where
-    slots-first : q < num b bOffset → slotsLeft b q lasts prev next
-        ≡ (slotHere b (slotOffset (sizesOf b) q) lasts prev next
-        && slotsLeft b (q + 1) (set lasts (this .volume) (this .day + 1)) (this .day) (next + this .number))
+  module _ (lasts : List ℕ) (gone : List Bool) (prev next : ℕ) where
+    slots-first : q < num b bOffset → slotsLeft b q lasts gone prev next
+        ≡ (slotHere b (slotOffset (sizesOf b) q) lasts gone prev next
+        && slotsLeft b (q + 1) (set lasts (this .volume) (this .day + 1)) (set gone (this .volume) (this .retire)) (this .day)
+        (next + this .number))
     unfolding slotsLeft slotHere secondOk
     slots-first h =
         let rest = drop (q + 1) (bookOf b .slots) in
         rw (each-first (secondOk b) q (num b bOffset) h, slots-drop h)
-        (shuffle (secondOk b q) (slotOk (bookOf b) this) (dayOk lasts prev this) (eqb (this .first) next)
+        (shuffle (secondOk b q) (slotOk (bookOf b) this) (dayOk lasts gone prev this) (eqb (this .first) next)
         (each (secondOk b) (q + 1) (num b bOffset)) (all (slotOk (bookOf b)) rest)
-        (daysFrom (set lasts (this .volume) (this .day + 1)) (this .day) rest) (pairsOk (next + this .number) rest (num b uOffset)))
+        (daysFrom (set lasts (this .volume) (this .day + 1)) (set gone (this .volume) (this .retire)) (this .day) rest)
+        (pairsOk (next + this .number) rest (num b uOffset)))
 
     module _ {at : ℕ} (h : q < num b bOffset) (offset : at ≡ slotOffset (sizesOf b) q) where
-      pub slots-more : {v d k : ℕ} → slotHere b at lasts prev next ≡ true → v ≡ getD b at 0 → d ≡ num b (at + 2) → k ≡ num b (at + 6)
-          → slotsLeft b q lasts prev next ≡ slotsLeft b (q + 1) (set lasts v (d + 1)) d (next + k)
-      slots-more e ev ed ek = slots-first h ∙ rw (ev, ed, ek, ← offset, e)
+      pub slots-more : {v d k : ℕ} {r : Bool} → slotHere b at lasts gone prev next ≡ true → v ≡ getD b at 0 → r ≡ slotOf b at .retire
+          → d ≡ num b (at + 2) → k ≡ num b (at + 6)
+          → slotsLeft b q lasts gone prev next ≡ slotsLeft b (q + 1) (set lasts v (d + 1)) (set gone v r) d (next + k)
+      slots-more e ev er ed ek = slots-first h ∙ rw (ev, er, ed, ek, ← offset, e)
 
-      pub slots-stop : slotHere b at lasts prev next ≡ false → slotsLeft b q lasts prev next ≡ false
+      pub slots-stop : slotHere b at lasts gone prev next ≡ false → slotsLeft b q lasts gone prev next ≡ false
       slots-stop e = slots-first h ∙ rw (← offset, e)
 
-    pub slots-end : num b bOffset ≤ q → slotsLeft b q lasts prev next ≡ eqb next (num b uOffset)
+    pub slots-end : num b bOffset ≤ q → slotsLeft b q lasts gone prev next ≡ eqb next (num b uOffset)
     unfolding slotsLeft
     slots-end h = rw (each-none (secondOk b) q (num b bOffset) h, slots-none h)
 
@@ -89,35 +93,41 @@ day-of : (b : List ℕ) → bookOf b .day ≡ num b dayOffset
 unfolding bookOf
 day-of b = refl
 
-module _ (b : List ℕ) (at : ℕ) (lasts : List ℕ) (prev next : ℕ) where
-  -- a volume above 7 fails
-  pub slot-above : volumes ≤ getD b at 0 → slotHere b at lasts prev next ≡ false
-  unfolding slotHere slotOk
-  slot-above h = rw (no-retention b (getD b at 0) h, and-false (eqb (getD b (at + 1) 0) 0))
+layout-of : (b : List ℕ) → bookOf b .sizes .layout ≡ num b 0
+unfolding bookOf
+layout-of b = refl
 
-  -- any other passes by these tests
-  pub slot-tests : {v d r f today : ℕ} → v < volumes → v ≡ getD b at 0 → d ≡ num b (at + 2)
+module _ (b : List ℕ) (at : ℕ) (lasts : List ℕ) (gone : List Bool) (prev next : ℕ) where
+  -- a volume above 7 fails
+  pub slot-above : volumes ≤ getD b at 0 → slotHere b at lasts gone prev next ≡ false
+  unfolding slotHere slotOk
+  slot-above h = rw (no-retention b (getD b at 0) h, and-false (leb (getD b (at + 1) 0) 1))
+
+  -- any other passes by these tests: a second byte is at most 1, and a slot retires from layout 3 on
+  pub slot-tests : (g : ℕ) {v d r f today most young : ℕ} → v < volumes → v ≡ getD b at 0 → d ≡ num b (at + 2)
       → r ≡ num b (retentionOffset v) → f ≡ num b (at + 4)
-      → today ≡ num b dayOffset
-      → (eqb (getD b (at + 1) 0) 0 && (not (eqb r 0) && leb d today) && (leb prev d && leb (getD lasts v 0) d)
-      && eqb f next) ≡ slotHere b at lasts prev next
+      → g ≡ num b 0 → today ≡ num b dayOffset → most ≡ 1 → young ≡ 3
+      → (leb (getD b (at + 1) 0) most && (not (eqb r 0) && leb d today && (leb young g || not (eqb (getD b (at + 1) 0) 1)))
+      && (leb prev d && (leb (getD lasts v 0) d && not (getD gone v false)))
+      && eqb f next) ≡ slotHere b at lasts gone prev next
   unfolding slotHere slotOk dayOk
-  slot-tests {v = v} h ev ed er ef et = rw (er, ← retention-of b v h, ed, ef, et, ← day-of b, ev)
+  slot-tests g {v = v} h ev ed er ef eg et em ey =
+      rw (em, ey, er, ← retention-of b v h, ed, ef, eg, et, ← day-of b, ← layout-of b, ev)
 
   -- a slot that passed: its volume is below 8, and its day not past the header's
-  pub slot-bounds : slotHere b at lasts prev next ≡ true → (getD b at 0 < volumes) × (num b (at + 2) ≤ num b dayOffset)
-  unfolding slotHere slotOk
+  pub slot-bounds : slotHere b at lasts gone prev next ≡ true → (getD b at 0 < volumes) × (num b (at + 2) ≤ num b dayOffset)
+  unfolding slotHere
   slot-bounds e = (volume (decLt (getD b at 0) volumes), day e)
     where
       volume : Dec (getD b at 0 < volumes) → getD b at 0 < volumes
       volume (yes l) = l
-      volume (no l) = absurd (not-both (slotHere b at lasts prev next) e (slot-above (omega arith)))
+      volume (no l) = absurd (not-both (slotHere b at lasts gone prev next) e (slot-above (omega arith)))
 
-      day : slotHere b at lasts prev next ≡ true → num b (at + 2) ≤ num b dayOffset
+      day : slotHere b at lasts gone prev next ≡ true → num b (at + 2) ≤ num b dayOffset
       day e =
           let t = slotOf b at in
-          let first = eqb (getD b (at + 1) 0) 0 && slotOk (bookOf b) t in
-          let p = and-true (first && dayOk lasts prev t) (eqb (t .first) next) e .0 in
-          let k = and-true (eqb (getD b (at + 1) 0) 0) (slotOk (bookOf b) t) (and-true first (dayOk lasts prev t) p .0) .1 in
-          rw (day-of b) at (leb-true (t .day) (bookOf b .day)
-          (and-true (enrolled (bookOf b) (t .volume)) (leb (t .day) (bookOf b .day)) k .1))
+          let second = leb (getD b (at + 1) 0) 1 in
+          let first = second && slotOk (bookOf b) t in
+          let p = and-true (first && dayOk lasts gone prev t) (eqb (t .first) next) e .0 in
+          let k = and-true second (slotOk (bookOf b) t) (and-true first (dayOk lasts gone prev t) p .0) .1 in
+          rw (day-of b) at (leb-true (t .day) (bookOf b .day) (slot-facts (bookOf b) t k .1))

@@ -3,7 +3,7 @@ use Prim.Native.Nat.{ℕ, _+_, _*_, _≤_}
 use mathlib.Core.Path.{_≡_}
 use mathlib.Core.Bool.{Bool, _&&_}
 use mathlib.Core.List.{List}
-use lib.Dec.{eqb}
+use lib.Dec.{leb, eqb}
 use lib.ListN.{length, getD, drop}
 use Rattle.words.specs.Lists.{each}
 use Rattle.words.specs.Lists.{all}
@@ -14,24 +14,25 @@ use Rattle.slots.specs.Days.{dayOk, daysFrom}
 
 -- the slot at an offset, after those passed: its second byte, its volume and day, its day after theirs, its first
 -- record
-unfoldable pub slotHere : List ℕ → ℕ → List ℕ → ℕ → ℕ → Bool
-slotHere b at lasts prev next =
-    eqb (getD b (at + 1) 0) 0
+unfoldable pub slotHere : List ℕ → ℕ → List ℕ → List Bool → ℕ → ℕ → Bool
+slotHere b at lasts gone prev next =
+    leb (getD b (at + 1) 0) 1
     && slotOk (bookOf b) (slotOf b at)
-    && dayOk lasts prev (slotOf b at)
+    && dayOk lasts gone prev (slotOf b at)
     && eqb (slotOf b at .first) next
 
 -- the used slots from q on, after those passed
-unfoldable pub slotsLeft : List ℕ → ℕ → List ℕ → ℕ → ℕ → Bool
-slotsLeft b q lasts prev next =
+unfoldable pub slotsLeft : List ℕ → ℕ → List ℕ → List Bool → ℕ → ℕ → Bool
+slotsLeft b q lasts gone prev next =
     each (secondOk b) q (num b bOffset)
     && all (slotOk (bookOf b)) (drop q (bookOf b .slots))
-    && daysFrom lasts prev (drop q (bookOf b .slots))
+    && daysFrom lasts gone prev (drop q (bookOf b .slots))
     && pairsOk next (drop q (bookOf b .slots)) (num b uOffset)
 
--- the numbers that the pass over the slots is handed: where they start, how many are used, the records used, the
--- header's day
-pub record SlotsAt (b : List ℕ) (from used end today : ℕ) : Type 0 where
+-- the numbers that the pass over the slots is handed: the layout, where they start, how many are used, the records used,
+-- the header's day
+pub record SlotsAt (b : List ℕ) (layout from used end today : ℕ) : Type 0 where
+  pub kind : layout ≡ num b 0
   pub start : from ≡ slotsFrom (sizesOf b)
   pub slots : used ≡ num b bOffset
   pub records : end ≡ num b uOffset

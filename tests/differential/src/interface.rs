@@ -4,8 +4,8 @@ use reference_c::{
     reference_audit, reference_backup, reference_backups, reference_blocks, reference_cells,
     reference_collect, reference_convert_1_2, reference_convert_2_1, reference_convert_2_3,
     reference_count, reference_enrol, reference_form, reference_format, reference_play,
-    reference_read, reference_restore, reference_sizes, reference_used, reference_volume,
-    reference_write_list,
+    reference_read, reference_restore, reference_retire, reference_sizes, reference_used,
+    reference_volume, reference_write_list,
 };
 
 type Format = unsafe extern "C" fn(*mut u8, usize, u16, u16, u16, u16) -> u16;
@@ -25,6 +25,7 @@ type Backup = unsafe extern "C" fn(
     taken: *mut u16,
     touched: *mut u16,
 ) -> u16;
+type Retire = unsafe extern "C" fn(*mut u8, usize, *mut u8, usize, u16, u16, *mut u16) -> u16;
 type Collect = unsafe extern "C" fn(*mut u8, usize, u16, *mut u16) -> u16;
 type Read =
     unsafe extern "C" fn(*const u8, usize, *const u8, usize, u16, u16, u16, *mut u32) -> u16;
@@ -45,7 +46,7 @@ type Form = unsafe extern "C" fn(*const u8, usize) -> u16;
 type Count = unsafe extern "C" fn(*const u8, usize, *mut u16, *mut u16, *mut u16, *mut u32) -> u16;
 type Sizes = unsafe extern "C" fn(*const u8, usize, *mut u16, *mut u16, *mut u16, *mut u16) -> u16;
 type Used = unsafe extern "C" fn(*const u8, usize, *mut u16, *mut u16, *mut u16) -> u16;
-type Volume = unsafe extern "C" fn(*const u8, usize, u16, *mut u16, *mut u16) -> u16;
+type Volume = unsafe extern "C" fn(*const u8, usize, u16, *mut u16, *mut u16, *mut u16) -> u16;
 type Backups = unsafe extern "C" fn(*const u8, usize, u16, *mut u8, usize, *mut u16) -> u16;
 type Cells = unsafe extern "C" fn(*const u8, usize, u16, *mut u8, usize) -> u16;
 type Blocks = unsafe extern "C" fn(*const u8, usize, *mut u8, usize) -> u16;
@@ -80,6 +81,7 @@ pub struct Interface {
     pub format: Format,
     pub enrol: Enrol,
     pub backup: Backup,
+    pub retire: Retire,
     pub collect: Collect,
     pub read: Read,
     pub restore: Restore,
@@ -117,6 +119,15 @@ mod archive {
             number: *mut u16,
             taken: *mut u16,
             touched: *mut u16,
+        ) -> u16;
+        pub fn aspen_retire(
+            book: *mut u8,
+            book_len: usize,
+            spare: *mut u8,
+            spare_len: usize,
+            volume: u16,
+            day: u16,
+            cells: *mut u16,
         ) -> u16;
         pub fn aspen_collect(book: *mut u8, len: usize, day: u16, freed: *mut u16) -> u16;
         pub fn aspen_read(
@@ -172,6 +183,7 @@ mod archive {
             volume: u16,
             retention: *mut u16,
             backups: *mut u16,
+            retired: *mut u16,
         ) -> u16;
         pub fn aspen_backups(
             book: *const u8,
@@ -224,6 +236,7 @@ pub const ARCHIVE: Interface = Interface {
     format: archive::aspen_format,
     enrol: archive::aspen_enrol,
     backup: archive::aspen_backup,
+    retire: archive::aspen_retire,
     collect: archive::aspen_collect,
     read: archive::aspen_read,
     restore: archive::aspen_restore,
@@ -247,6 +260,7 @@ pub const REFERENCE: Interface = Interface {
     format: reference_format,
     enrol: reference_enrol,
     backup: reference_backup,
+    retire: reference_retire,
     collect: reference_collect,
     read: reference_read,
     restore: reference_restore,

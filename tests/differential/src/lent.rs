@@ -75,7 +75,7 @@ impl Lent {
             match view {
                 View::Sizes => (side.sizes)(book, length, a, b, c, d),
                 View::Used => (side.used)(book, length, a, b, c),
-                View::Volume { volume } => (side.volume)(book, length, volume, a, b),
+                View::Volume { volume } => (side.volume)(book, length, volume, a, b, c),
                 _ => unreachable!("the others have outputs"),
             }
         }
@@ -104,6 +104,7 @@ impl Lent {
             match *call {
                 Call::Enrol { volume, retention } => (side.enrol)(book, length, volume, retention),
                 Call::Backup { volume, day, .. } => self.backup(side, volume, day),
+                Call::Retire { volume, day } => self.retire(side, volume, day),
                 Call::Collect { day } => (side.collect)(book, length, day, self.answer(0)),
                 Call::Read {
                     volume,
@@ -126,6 +127,13 @@ impl Lent {
                 number, taken, touched,
             )
         }
+    }
+
+    fn retire(&mut self, side: &Interface, volume: u16, day: u16) -> u16 {
+        let [book, spare] = std::array::from_fn(|index| self.part(index));
+        let cells = self.answer(0);
+        // SAFETY: the buffers are apart and as long as said, and `cells` is a lent number.
+        unsafe { (side.retire)(book.0, book.1, spare.0, spare.1, volume, day, cells) }
     }
 
     fn read(&mut self, side: &Interface, volume: u16, number: u16, lbn: u16) -> u16 {

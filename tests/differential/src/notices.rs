@@ -146,6 +146,33 @@ fn an_answer_of_a_refused_call_is_noticed() {
     assert!(compared(&archive, &REFUSED).is_err());
 }
 
+/// Unmaps nothing, whatever it answers.
+unsafe extern "C" fn retires_nothing(
+    _: *mut u8,
+    _: usize,
+    _: *mut u8,
+    _: usize,
+    _: u16,
+    _: u16,
+    cells: *mut u16,
+) -> u16 {
+    *cells = 2;
+    0
+}
+
+#[test]
+fn a_retirement_that_leaves_the_book_is_noticed() {
+    let retire = |volume| Call::Retire { volume, day: 10 };
+    let archive = Interface {
+        retire: retires_nothing,
+        ..REFERENCE
+    };
+    for volume in [0, 8] {
+        assert_eq!(compared(&REFERENCE, &retire(volume)), Ok(()));
+        assert!(compared(&archive, &retire(volume)).is_err());
+    }
+}
+
 /// Even if the reference did the same: a refused call changes nothing.
 #[test]
 fn a_refused_call_that_changes_the_book_is_noticed() {
@@ -416,6 +443,8 @@ fn what_never_came_is_missing() {
     assert!(missing.contains(&"audit 2".into()));
     assert!(missing.contains(&"audit 2 in a list".into()));
     assert!(missing.contains(&"restore 21 in a list".into()));
+    assert!(missing.contains(&"retire 13".into()));
+    assert!(missing.contains(&"retire 10 in a list".into()));
     assert!(missing.contains(&"convert_2_1 22".into()));
     assert!(missing.contains(&"convert_2_3 4".into()));
 }

@@ -10,6 +10,7 @@ mod formats;
 mod lengths;
 mod play;
 mod restores;
+mod retires;
 mod runs;
 mod tested;
 mod upgrades;
@@ -76,7 +77,7 @@ pub fn check() -> Vec<Job> {
         lengths::jobs(),
         faults::jobs(),
     ];
-    let soon = [counts::jobs(), days::jobs(), alike::jobs()];
+    let soon = [counts::jobs(), days::jobs(), alike::jobs(), retires::jobs()];
     mixed(parts.into(), soon.into_iter().flatten().collect())
 }
 

@@ -8,7 +8,7 @@ use reference::view::View;
 
 use crate::interface::Interface;
 use crate::lent::{Lent, LENGTH, PLACE, REFERENCES, WRITTEN};
-use crate::seen::{Seen, SPARE};
+use crate::seen::{Seen, BOOK, POOL, SPARE};
 
 /// The inputs of the aid's writer.
 pub struct WriteList {
@@ -62,10 +62,11 @@ pub enum Request<'a> {
 }
 
 /// The names of the calls, in the order of the coverage table.
-pub const NAMES: [&str; 20] = [
+pub const NAMES: [&str; 21] = [
     "format",
     "enrol",
     "backup",
+    "retire",
     "collect",
     "read",
     "restore",
@@ -89,6 +90,7 @@ pub fn call_name(call: &Call) -> &'static str {
     match call {
         Call::Enrol { .. } => "enrol",
         Call::Backup { .. } => "backup",
+        Call::Retire { .. } => "retire",
         Call::Collect { .. } => "collect",
         Call::Read { .. } => "read",
         Call::Restore(_) => "restore",
@@ -100,12 +102,14 @@ type Sent<'a> = Vec<(&'static str, &'a [u8])>;
 
 /// The buffers of such a call.
 fn call_buffers<'a>(stored: &'a Stored, call: &'a Call) -> Sent<'a> {
-    let mut buffers: Sent = vec![("the book", &stored.book)];
+    let mut buffers: Sent = vec![(BOOK, &stored.book)];
     if matches!(call, Call::Read { .. } | Call::Backup { .. }) {
-        buffers.push(("the pool", &stored.pool));
+        buffers.push((POOL, &stored.pool));
+    }
+    if matches!(call, Call::Backup { .. } | Call::Retire { .. }) {
+        buffers.push((SPARE, &stored.spare));
     }
     if let Call::Backup { list, .. } = call {
-        buffers.push((SPARE, &stored.spare));
         buffers.push(("the list", list));
     }
     buffers
@@ -141,10 +145,10 @@ impl<'a> Request<'a> {
     pub fn buffers(&self) -> Sent<'a> {
         match *self {
             Request::Format { book, .. } | Request::Form { book } | Request::Count { book } => {
-                vec![("the book", book)]
+                vec![(BOOK, book)]
             }
             Request::View(viewed) => {
-                let mut buffers: Sent = vec![("the book", viewed.book)];
+                let mut buffers: Sent = vec![(BOOK, viewed.book)];
                 if viewed.view.has_output() {
                     buffers.push(("the output", &viewed.output));
                 }
@@ -152,13 +156,13 @@ impl<'a> Request<'a> {
             }
             Request::Call { stored, call } => call_buffers(stored, call),
             Request::Restore(restoring) => vec![
-                ("the book", &restoring.stored.book),
-                ("the pool", &restoring.stored.pool),
+                (BOOK, &restoring.stored.book),
+                (POOL, &restoring.stored.pool),
                 ("the output", &restoring.output),
             ],
             Request::Play(playing) => vec![
-                ("the book", &playing.stored.book),
-                ("the pool", &playing.stored.pool),
+                (BOOK, &playing.stored.book),
+                (POOL, &playing.stored.pool),
                 (SPARE, &playing.stored.spare),
                 ("the calls", playing.calls),
                 ("the answers", &playing.answers),
@@ -169,10 +173,9 @@ impl<'a> Request<'a> {
                 ("the image", &input.image),
                 ("the output", &input.output),
             ],
-            Request::Convert(converting) => vec![
-                ("the book", converting.book),
-                ("the output", &converting.output),
-            ],
+            Request::Convert(converting) => {
+                vec![(BOOK, converting.book), ("the output", &converting.output)]
+            }
         }
     }
 
@@ -197,13 +200,14 @@ impl<'a> Request<'a> {
     fn answers(&self) -> &'static [&'static str] {
         match self.name() {
             "backup" => &["the backup's number", "taken", "touched"],
+            "retire" => &["cells"],
             "collect" => &["freed"],
             "audit" => &["the audit's answer"],
             "read" => &[PLACE],
             "count" => &["blocks", "held", "waiting", REFERENCES],
             "sizes" => &["blocks", "cells", "slots", "records"],
             "used" => &["slots used", "records used", "the day"],
-            "volume" => &["the retention", "the backups"],
+            "volume" => &["the retention", "the backups", "the day retired"],
             "backups" => &["the count"],
             "play" => &[WRITTEN],
             "write_list" => &[LENGTH],

@@ -2,6 +2,8 @@
 
 use crate::guarded::Guarded;
 
+pub const BOOK: &str = "the book";
+pub const POOL: &str = "the pool";
 /// The one buffer whose bytes a call may leave as it likes.
 pub const SPARE: &str = "the spare";
 

@@ -13,6 +13,7 @@ mod others;
 mod play;
 mod replaced;
 mod restore;
+mod retire;
 mod views;
 mod writer;
 
@@ -25,7 +26,7 @@ use reference::change_list::RUN_MAX;
 use reference::store::Way;
 use reference::view::View;
 
-use crate::request::{Playing, Request, Restoring, Viewed};
+use crate::request::{call_name, Converting, Playing, Request, Restoring, Viewed};
 use crate::seen::Seen;
 
 /// The most blocks of a run.
@@ -74,13 +75,7 @@ impl Shapes {
             Request::Play(playing) => self.note_play(playing, seen),
             Request::View(viewed) => self.note_view(request.name(), viewed, seen),
             Request::Convert(converting) => {
-                let converted = convert::Converted::new(converting, seen.number);
-                self.count(request.name(), converted.shapes());
-                match converting.way {
-                    Way::OneToTwo => self.count("convert_1_2", converted.longer_shapes()),
-                    Way::TwoToOne => self.count("convert_2_1", converted.shorter_shapes()),
-                    Way::TwoToThree => self.note_afresh(&converted, seen),
-                }
+                self.note_convert(request.name(), converting, seen);
             }
             Request::WriteList(input) => {
                 let written = writer::Written::new(input, seen);
@@ -93,7 +88,9 @@ impl Shapes {
                 // Past these numbers book, buffers and volume are as the call asks.
                 match seen.number {
                     1..=4 => {}
-                    5 if !matches!(call, Call::Enrol { .. }) => {}
+                    5 if !matches!(call, Call::Enrol { .. }) => {
+                        self.note_volume(&stored.book, call);
+                    }
                     _ => self.note_call(&stored.book, &stored.pool, call, seen),
                 }
             }
@@ -101,8 +98,22 @@ impl Shapes {
         }
     }
 
+    fn note_convert(&mut self, name: &'static str, converting: &Converting, seen: &Seen) {
+        let converted = convert::Converted::new(converting, seen.number);
+        self.count(name, converted.shapes());
+        match converting.way {
+            Way::OneToTwo => self.count(name, converted.longer_shapes()),
+            Way::TwoToOne => {
+                self.count(name, converted.shorter_shapes());
+                self.count(name, converted.retired_shapes());
+            }
+            Way::TwoToThree => self.note_afresh(&converted, seen),
+        }
+    }
+
     fn note_afresh(&mut self, converted: &convert::Converted, seen: &Seen) {
         self.count("convert_2_3", converted.other_layout_shapes());
+        self.count("convert_2_3", converted.retired_shapes());
         if seen.number == 0 {
             let afresh = afresh::Afresh::new(converted.book, seen.content(1));
             self.count("convert_2_3", afresh.expiry_shapes());
@@ -118,6 +129,7 @@ impl Shapes {
             self.count("restore", restored.run_shapes());
             self.count("restore", restored.found_shapes());
             self.count("restore", restored.day_shapes());
+            self.count("restore", restored.retired_shapes());
             self.count("restore", restored.refused_shapes());
             self.count("restore", restored.room_shapes());
             self.count("restore", restored.unmapped_shapes());
@@ -135,16 +147,27 @@ impl Shapes {
         }
         if seen.number == 0 {
             self.count(name, views::shown(viewed, seen));
+            self.count(name, views::retired(viewed, seen));
         }
     }
 
     fn note_play(&mut self, playing: &Playing, seen: &Seen) {
         match seen.number {
             19 => return self.count("play", play::refused(playing)),
-            0 => self.count("play", play::played(playing, seen)),
+            0 => {
+                self.count("play", play::played(playing, seen));
+                self.count("play", play::told(playing, seen));
+            }
             _ => {}
         }
         self.count("play", play::room(playing, seen.number));
+    }
+
+    /// Of a call that was refused by 5.
+    fn note_volume(&mut self, book: &[u8], call: &Call) {
+        if let Call::Backup { volume, .. } | Call::Retire { volume, .. } = call {
+            self.count(call_name(call), retire::refused_volume(book, *volume));
+        }
     }
 
     fn note_call(&mut self, book: &[u8], pool: &[u8], call: &Call, seen: &Seen) {
@@ -160,6 +183,9 @@ impl Shapes {
                 self.count("backup", backup.refused_shapes(pool));
                 self.note_alike(&backup.alike());
             }
+            Call::Retire { volume, day } => {
+                self.note_retire(&retire::Retired::new(book, (*volume, *day), seen));
+            }
             Call::Collect { day } => {
                 self.count("collect", others::Collect::new(book, *day, seen).shapes());
             }
@@ -171,13 +197,31 @@ impl Shapes {
                 let read = others::Read::new(book, *volume, *number, *lbn);
                 self.count("read", read.shapes(seen.number));
                 self.count("read", read.day_shapes(seen.number));
+                self.count("read", read.retired_shapes(seen.number));
             }
             Call::Enrol { volume, retention } => {
-                self.count("enrol", others::enrol(*volume, *retention, seen.number));
+                let shapes = others::enrol(book, *volume, *retention, seen.number);
+                self.count("enrol", shapes);
             }
-            Call::Audit => self.count("audit", audit::shapes(book)),
+            Call::Audit => self.note_audit(book),
             Call::Restore(_) => unreachable!("a restore is sent with its output"),
         }
+    }
+
+    fn note_audit(&mut self, book: &[u8]) {
+        self.count("audit", audit::shapes(book));
+        let retired = audit::Retired::new(book);
+        self.count("audit", retired.yes_shapes());
+        self.count("audit", retired.no_shapes());
+    }
+
+    fn note_retire(&mut self, retired: &retire::Retired) {
+        self.count("retire", retired.cell_shapes());
+        self.count("retire", retired.replaced().expiry_shapes());
+        self.count("retire", retired.replaced().previous_shapes());
+        self.count("retire", retired.newest_shapes());
+        self.count("retire", retired.accepted_shapes());
+        self.count("retire", retired.refused_shapes());
     }
 
     fn note_alike(&mut self, alike: &alike::Alike) {

@@ -160,10 +160,14 @@ impl<'a> Bench<'a> {
         }
     }
 
-    /// The aid takes one more backup, of an image with one new block, and it reads back.
+    /// The aid takes one more backup, of an image with one new block, and it reads back. One that
+    /// has left takes none.
     pub fn next_backup(&self, upto: usize, volume: u16) -> Result<(), String> {
         let story = self.judge.story();
         let store = story.standing(upto + 1).store;
+        if story.is_retired(store, volume) {
+            return Ok(());
+        }
         let day = 200 + volume;
         let mut image = letters(story.taken(store), volume);
         image.replace_range(..image.len().min(1), "Z");

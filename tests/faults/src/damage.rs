@@ -61,10 +61,11 @@ struct Line {
 }
 
 const UPGRADE: Line = line("upgrade box --force", true, false);
-const WRITERS: [Line; 5] = [
+const WRITERS: [Line; 6] = [
     line("enrol box 2 --keep 3", true, false),
     line("collect box --day-number 300 --ahead", true, false),
     line("backup box 0 aid0 --day-number 300 --ahead", true, true),
+    line("retire box 0 --day-number 300 --ahead --yes", true, false),
     line("scrub box --heal aid0", true, true),
     UPGRADE,
 ];
@@ -82,10 +83,12 @@ const READERS: [Line; 8] = [
     line("scrub box", false, true),
 ];
 /// Lines that a whole store refuses.
-const REFUSED: [&str; 3] = [
+const REFUSED: [&str; 5] = [
     "enrol box 0 --keep 5",
     "collect box --day-number 1",
     "backup box 0 aid0 --day-number 1",
+    "retire box 0 --day-number 300 --ahead",
+    "retire box 1 --day-number 300 --ahead --yes",
 ];
 
 const fn line(line: &'static str, writes: bool, takes_pool: bool) -> Line {
@@ -101,8 +104,9 @@ fn lines() -> impl Iterator<Item = Line> {
 }
 
 /// Damages of a whole store. Each changed byte is shown to a command that writes and to one that
-/// reads, others at each byte; where `all` are wanted, it is changed in every bit.
-pub fn cases(whole: &Tree, all: bool) -> Vec<Case> {
+/// reads, others at each byte; where `all` are wanted, it is changed in every bit. Older layouts have
+/// no retired volume, and neither has the second store.
+pub fn cases(whole: &Tree, unretired: &Tree, all: bool) -> Vec<Case> {
     let mut cases = Cases(Vec::new());
     cases.add_changed_books(whole, all, |_| true);
     cases.add_changed_books(&made_first(whole), all, |verdict| {
@@ -110,7 +114,7 @@ pub fn cases(whole: &Tree, all: bool) -> Vec<Case> {
     });
     cases.add_books_of_other_lengths(whole);
     cases.add_books_of_others(whole);
-    cases.add_other_layouts(whole, all);
+    cases.add_other_layouts(unretired, all);
     cases.add_changed_locks(whole, all);
     cases.add_missing(whole);
     cases.add_pools(whole);
@@ -152,7 +156,8 @@ fn verdict(tree: &Tree) -> Verdict {
     if let Err(refusal) = form::check(parts.book) {
         return match form::check_in(LAYOUT - 1, parts.book) {
             Ok(_) => Verdict::Older,
-            Err(_) => Verdict::Refused(refusal.number()),
+            // One bit makes a book of that layout of it, which has no retired volume: refused by 2.
+            Err(older) => Verdict::Refused(refusal.number().max(older.number())),
         };
     }
     let sealed = match &parts.seal {

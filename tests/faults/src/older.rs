@@ -53,10 +53,9 @@ pub fn ends_one(book: &[u8]) -> bool {
     let book = Book::over(book);
     let day = book.header(Header::Day);
     (0..VOLUMES).any(|volume| {
-        let (days, retention) = (book.days_of(volume), book.retention(volume));
-        (1..=days.len()).any(|number| {
-            layout_2::is_kept(&days, number, retention, day)
-                && !keeping::is_kept(&days, number, retention, day)
+        let backups = book.backups_of(volume);
+        (1..=backups.days.len()).any(|number| {
+            layout_2::is_kept(&backups, number, day) && !keeping::is_kept(&backups, number, day)
         })
     })
 }

@@ -12,7 +12,7 @@ use crate::damage;
 use crate::first;
 use crate::heal;
 use crate::level::Level;
-use crate::played::{learn, play, Scene};
+use crate::played::{before_retirements, learn, play, Scene};
 use crate::power;
 use crate::program::Program;
 use crate::report::Report;
@@ -377,8 +377,9 @@ impl Stage {
     }
 
     fn damage(&self, hunt: Option<&Hunt>) -> Outcome {
-        let whole = &self.scenes.last().expect("a story has commands").after;
-        let cases = damage::cases(whole, self.level.all);
+        let last = |scenes: &[Scene]| scenes.last().expect("a story has commands").after.clone();
+        let unretired = last(before_retirements(&self.scenes));
+        let cases = damage::cases(&last(&self.scenes), &unretired, self.level.all);
         let outcome = self.share(
             "damaged stores",
             hunt,

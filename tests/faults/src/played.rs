@@ -66,3 +66,10 @@ pub fn learn(bench: &mut Bench, scenes: &[Scene]) {
         bench.judge.learn(&scene.after, store);
     }
 }
+
+/// The scenes whose stores have no retired volume: older layouts have none.
+pub fn before_retirements(scenes: &[Scene]) -> &[Scene] {
+    let retires = |scene: &Scene| matches!(scene.command, Command::Retire { .. });
+    let first = scenes.iter().position(retires);
+    &scenes[..first.unwrap_or(scenes.len())]
+}

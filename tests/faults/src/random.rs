@@ -13,7 +13,8 @@ const COMMANDS: usize = 12;
 const LETTERS: &[u8] = b"ABCDEFGHIJ";
 
 impl Story {
-    /// Two volumes with backups, collections and restores that the box takes.
+    /// Two volumes with backups, collections and restores that the box takes; the second may be
+    /// retired.
     pub fn random(seed: u64) -> Self {
         let mut prng = Prng::seeded(seed);
         let mut plain = Plain::new(SIZES);
@@ -38,12 +39,13 @@ impl Story {
 
 fn draw(prng: &mut Prng, commands: &[Command], day: u16) -> Command {
     let volume = prng.between(0, 1);
-    match prng.below(8) {
-        0 | 1 => Command::Collect { day },
-        2 => Command::Restore {
+    match prng.below(16) {
+        0..=3 => Command::Collect { day },
+        4 | 5 => Command::Restore {
             volume,
             number: prng.between(1, 4),
         },
+        6 => Command::Retire { volume: 1, day },
         _ => Command::Backup {
             volume,
             day,

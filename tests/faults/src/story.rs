@@ -19,6 +19,8 @@ pub const SIZES: Sizes = Sizes {
 pub const STORE: &str = "box";
 /// Where volumes are restored to.
 pub const OUT: &str = "out";
+/// What a retirement needs where nobody can be asked.
+pub const YES: &str = "--yes";
 /// Zeros at the end of every block of an image. A file is cut off among them, so that its last
 /// block is the same as elsewhere and its length is no multiple of a block's.
 const ZEROS: usize = 100;
@@ -37,6 +39,10 @@ pub enum Command {
         image: String,
     },
     Collect {
+        day: u16,
+    },
+    Retire {
+        volume: u16,
         day: u16,
     },
     Restore {
@@ -58,6 +64,9 @@ impl Command {
                 format!("backup {STORE} {volume} {} {}", aid(*volume), on_day(*day))
             }
             Command::Collect { day } => format!("collect {STORE} {}", on_day(*day)),
+            Command::Retire { volume, day } => {
+                format!("retire {STORE} {volume} {} {YES}", on_day(*day))
+            }
             Command::Restore { volume, number } => {
                 format!("restore {STORE} {volume} {number} {OUT} --force")
             }
@@ -89,6 +98,10 @@ impl Command {
                 list: list_of(image),
             }),
             Command::Collect { day } => Some(Call::Collect { day: *day }),
+            Command::Retire { volume, day } => Some(Call::Retire {
+                volume: *volume,
+                day: *day,
+            }),
             Command::Format | Command::Restore { .. } => None,
         }
     }
@@ -107,6 +120,9 @@ impl fmt::Display for Command {
                 write!(to, "backup of {image} to volume {volume} on day {day}")
             }
             Command::Collect { day } => write!(to, "collect on day {day}"),
+            Command::Retire { volume, day } => {
+                write!(to, "retirement of volume {volume} on day {day}")
+            }
             Command::Restore { volume, number } => {
                 write!(to, "restore of volume {volume} number {number}")
             }
@@ -215,6 +231,7 @@ pub fn letters<'a>(commands: impl Iterator<Item = &'a Command>, of: u16) -> Stri
                 let kept = letters.get(image.len()..).unwrap_or("");
                 letters = format!("{image}{kept}");
             }
+            Command::Retire { volume, .. } if *volume == of => letters.clear(),
             _ => {}
         }
     }
@@ -225,7 +242,8 @@ pub struct Story(pub Vec<Command>);
 
 impl Story {
     /// Shared and replaced blocks, blocks that a collection frees and the next backup takes
-    /// again, an image that changes in its length alone, and volumes brought back.
+    /// again, an image that changes in its length alone, a volume that is retired and whose last
+    /// backup stays for some days, and volumes brought back.
     pub fn fixed() -> Self {
         let backup = |volume, day, image: &str| Command::Backup {
             volume,
@@ -247,12 +265,17 @@ impl Story {
                 number: 2,
             },
             backup(1, 11, "EEC"),
-            Command::Collect { day: 16 }, // frees A and F
-            backup(0, 17, "HIC"),         // takes both blocks
-            backup(0, 18, "HIC"),
+            Command::Retire { volume: 1, day: 12 },
             Command::Restore {
                 volume: 1,
                 number: 3,
+            },
+            Command::Collect { day: 16 }, // frees A, F and, of the retired volume, D
+            backup(0, 17, "HIC"),         // takes two of their blocks
+            backup(0, 18, "HIC"),
+            Command::Restore {
+                volume: 0,
+                number: 4,
             },
         ])
     }
@@ -288,10 +311,18 @@ impl Story {
     /// The store's day there.
     pub fn day(&self, store: usize) -> u16 {
         let days = self.taken(store).map(|command| match command {
-            Command::Backup { day, .. } | Command::Collect { day } => *day,
+            Command::Backup { day, .. }
+            | Command::Collect { day }
+            | Command::Retire { day, .. } => *day,
             _ => 0,
         });
         days.max().unwrap_or(0)
+    }
+
+    /// Whether a volume is retired there.
+    pub fn is_retired(&self, store: usize, of: u16) -> bool {
+        self.taken(store)
+            .any(|command| matches!(command, Command::Retire { volume, .. } if *volume == of))
     }
 
     /// The commands that brought the store there.

@@ -5,7 +5,7 @@ use crate::bench::Bench;
 use crate::fault::{Fault, How};
 use crate::played::Scene;
 use crate::program::{status, Ended};
-use crate::story::{Command, Standing};
+use crate::story::{Command, Standing, YES};
 
 /// A fault in the command of this number.
 pub struct Case {
@@ -56,6 +56,9 @@ pub fn try_case(bench: &mut Bench, scenes: &[Scene], case: &Case) -> Result<(), 
     let scene = &scenes[case.at];
     let story = bench.judge.story();
     bench.store(&scene.tree)?;
+    if matches!(scene.command, Command::Retire { .. }) {
+        needs_a_yes(bench, scene)?;
+    }
     let ended = if case.unheard {
         bench.bring(&scene.command)?;
         bench.ask_without(UNHEARD, &scene.command.words().join(" "), Some(case.fault))?
@@ -89,6 +92,17 @@ pub fn try_case(bench: &mut Bench, scenes: &[Scene], case: &Case) -> Result<(), 
     bench.nothing_left()
 }
 
+/// Nobody can be asked, so nothing is written before the command line agrees to it.
+fn needs_a_yes(bench: &Bench, scene: &Scene) -> Result<(), String> {
+    let words = scene.command.words();
+    let others: Vec<_> = words.into_iter().filter(|word| word != YES).collect();
+    let ended = bench.ask(&others.join(" "))?;
+    if ended.status != Some(status::USAGE) || bench.load()? != scene.tree {
+        return Err(format!("without {YES} it ends with {}", ended.words()));
+    }
+    Ok(())
+}
+
 /// The process was killed if the fault does that, went on if it is harmless, and else ended well
 /// or with a message about files.
 pub fn ended_as_planned(ended: &Ended, how: How) -> Result<(), String> {
@@ -114,7 +128,7 @@ fn again(bench: &mut Bench, command: &Command, standing: Standing) -> Result<(),
         Command::Format => {
             ended.status == Some(status::USAGE) && ended.errors.contains("has a book already")
         }
-        Command::Enrol { .. } => refused(&ended, 5),
+        Command::Enrol { .. } | Command::Retire { .. } => refused(&ended, 5),
         Command::Backup { .. } => refused(&ended, 7),
         Command::Collect { .. } | Command::Restore { .. } => ended.status == Some(status::DONE),
     };

@@ -10,7 +10,7 @@ use crate::fault::{Fault, How};
 use crate::first::made_first;
 use crate::judge::{BOOK, LOCK, POOL};
 use crate::older::{ends_one, store_in, LAYOUTS};
-use crate::played::Scene;
+use crate::played::{before_retirements, Scene};
 use crate::program::{status, Ended};
 use crate::sealed;
 use crate::story::{Standing, STORE};
@@ -45,9 +45,10 @@ enum Book {
     New,
 }
 
-/// The store after the story's last command in each older layout, and in layout 1 also as the first
-/// version had it, without a seal; where `all` are wanted, the stores after every command.
+/// The last store of the story that older layouts can have, in each of these, and in layout 1 also as
+/// the first version had it, without a seal; where `all` are wanted, every store up to that one.
 pub fn upgrades(bench: &Bench, scenes: &[Scene], all: bool) -> Result<Vec<Upgrade>, String> {
+    let scenes = before_retirements(scenes);
     let mut upgrades = Vec::new();
     for (at, scene) in scenes.iter().enumerate() {
         if !all && at + 1 < scenes.len() {

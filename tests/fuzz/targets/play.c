@@ -58,8 +58,8 @@ static size_t data_length(const uint8_t *head)
  * has fewer than 256 blocks. */
 static size_t mend_head(uint8_t *head, size_t most)
 {
-    static const size_t used[] = { 4, 4, 2, 6, 0, 7 };
-    uint8_t kind = head[0] % 6;
+    static const size_t used[] = { 4, 4, 2, 6, 0, 7, 4 };
+    uint8_t kind = head[0] % (ASPEN_CALL_RETIRE + 1);
     size_t data = kind == ASPEN_CALL_BACKUP ? data_length(head) % (most + 1) : 0;
     size_t unused = 2 + used[kind];
 

@@ -37,7 +37,7 @@ static uint16_t call(const struct calls *calls, enum view view, struct side *sid
     case USED:
         return calls->used(book->bytes, book->length, &a[0], &a[1], &a[2]);
     case VOLUME:
-        return calls->volume(book->bytes, book->length, volume, &a[0], &a[1]);
+        return calls->volume(book->bytes, book->length, volume, &a[0], &a[1], &a[2]);
     case BACKUPS:
         return calls->backups(book->bytes, book->length, volume, out->bytes, out->length, &a[0]);
     case CELLS:
@@ -50,10 +50,10 @@ static uint16_t call(const struct calls *calls, enum view view, struct side *sid
 /* How many bytes the rows have; 0 where the call has none or is refused. */
 static size_t rows_length(enum view view, const struct buffer *book, uint16_t volume)
 {
-    uint16_t blocks = 0, cells = 0, slots, records, retention, backups = 0;
+    uint16_t blocks = 0, cells = 0, slots, records, retention, backups = 0, retired;
 
     reference_sizes(book->bytes, book->length, &blocks, &cells, &slots, &records);
-    reference_volume(book->bytes, book->length, volume, &retention, &backups);
+    reference_volume(book->bytes, book->length, volume, &retention, &backups, &retired);
     return view == BACKUPS  ? aspen_backups_size(backups)
            : view == CELLS  ? aspen_cells_size(cells)
            : view == BLOCKS ? aspen_blocks_size(blocks)

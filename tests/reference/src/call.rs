@@ -19,6 +19,10 @@ pub enum Call {
     Collect {
         day: u16,
     },
+    Retire {
+        volume: u16,
+        day: u16,
+    },
     Read {
         volume: u16,
         number: u16,
@@ -34,6 +38,8 @@ pub enum Answer {
     Enrolled,
     BackedUp(BackedUp),
     Freed(u16),
+    /// How many cells the volume's map had.
+    Retired(u16),
     Block(Box<Block>),
     /// The bytes of a restored run.
     Run(Vec<u8>),
@@ -80,6 +86,9 @@ pub fn call_on(book: &mut [u8], pool: &mut [u8], spare: &mut [u8], call: &Call) 
             answer(result, Answer::BackedUp)
         }
         Call::Collect { day } => answer(store::collect(book, *day), Answer::Freed),
+        Call::Retire { volume, day } => {
+            answer(store::retire(book, spare, *volume, *day), Answer::Retired)
+        }
         Call::Read {
             volume,
             number,
@@ -106,6 +115,7 @@ impl Plain {
                 answer(self.backup(*volume, *day, list), Answer::BackedUp)
             }
             Call::Collect { day } => answer(self.collect(*day), Answer::Freed),
+            Call::Retire { volume, day } => answer(self.retire(*volume, *day), Answer::Retired),
             Call::Read {
                 volume,
                 number,

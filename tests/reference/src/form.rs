@@ -1,8 +1,8 @@
 //! When a byte string is a book in form: the numbers of refusal 1 and 2.
 
 use crate::layout::{
-    Book, Entry, Header, Pbn, Slot, DAY_MAX, EXPIRY_MAX, FREE, HEADER_BYTES, HELD, LAYOUT,
-    RETENTION_RANGE, UNMAPPED, UNUSED_RECORD, UNUSED_SLOT, VOLUMES,
+    Book, Entry, Header, Pbn, Slot, BACKUP, DAY_MAX, EXPIRY_MAX, FREE, HEADER_BYTES, HELD, LAYOUT,
+    RETENTION_RANGE, RETIREMENT, UNMAPPED, UNUSED_RECORD, UNUSED_SLOT, VOLUMES,
 };
 use crate::refusal::{require, Refusal};
 
@@ -39,6 +39,8 @@ fn in_form(book: &Book<&[u8]>) -> bool {
         && slots_in_form(book)
         && slot_days_in_form(book)
         && slot_pairs_in_form(book)
+        && afters_in_form(book)
+        && retirements_end_volumes(book)
 }
 
 fn header_in_form(book: &Book<&[u8]>) -> bool {
@@ -87,7 +89,7 @@ fn records_in_form(book: &Book<&[u8]>) -> bool {
         }
         record.lbn.0 < book.sizes().lbns
             && (record.before == UNMAPPED || names_block(book, record.before))
-            && names_block(book, record.after)
+            && (record.after == UNMAPPED || names_block(book, record.after))
     })
 }
 
@@ -98,8 +100,18 @@ fn slots_in_form(book: &Book<&[u8]>) -> bool {
         if index >= used {
             return slot == UNUSED_SLOT;
         }
-        slot.volume < VOLUMES && book.retention(slot.volume) != 0 && slot.zero == 0
+        slot.volume < VOLUMES
+            && book.retention(slot.volume) != 0
+            && slot.kind <= last_kind(book.header(Header::Layout))
     })
+}
+
+/// There are retirements from layout 3 on.
+fn last_kind(layout: u16) -> u8 {
+    match layout {
+        1 | 2 => BACKUP,
+        _ => RETIREMENT,
+    }
 }
 
 /// Used slots' days never fall, rise strictly within a volume, don't pass the header's.
@@ -126,4 +138,20 @@ fn slot_pairs_in_form(book: &Book<&[u8]>) -> bool {
         end = slot.records().end;
     }
     end == usize::from(book.header(Header::RecordsUsed))
+}
+
+/// A record's after is unmapped exactly when its slot is a retirement. The pairs are in form.
+fn afters_in_form(book: &Book<&[u8]>) -> bool {
+    book.used_slots().all(|slot| {
+        let mut records = slot.records().map(|index| book.record(index));
+        records.all(|record| (record.after == UNMAPPED) == slot.is_retirement())
+    })
+}
+
+/// No slot of a volume follows its retirement.
+fn retirements_end_volumes(book: &Book<&[u8]>) -> bool {
+    (0..VOLUMES).all(|volume| {
+        let slots = book.used_slots_of(volume);
+        slots.windows(2).all(|pair| !pair[0].is_retirement())
+    })
 }

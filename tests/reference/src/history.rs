@@ -1,10 +1,11 @@
-//! What each volume held at each accepted backup, worked out from the calls as sent.
+//! What each volume held at each accepted backup, worked out from the calls as sent. A retirement ends
+//! the exemption of the newest.
 
 use std::rc::Rc;
 
 use crate::call::{Answer, Call};
 use crate::change_list;
-use crate::keeping::is_kept;
+use crate::keeping::{is_kept, Backups};
 use crate::layout::{Block, Lbn, BLOCK_BYTES, VOLUMES};
 use crate::refusal::{require, Refusal};
 use crate::store::Run;
@@ -17,6 +18,8 @@ struct Volume {
     retention: u16,
     /// The day and the whole image of each backup.
     backups: Vec<(u16, Image)>,
+    /// The day on which it was retired.
+    retired: Option<u16>,
 }
 
 pub struct History {
@@ -44,11 +47,16 @@ impl History {
             Call::Enrol { volume, retention } => {
                 self.volumes[usize::from(*volume)] = Some(Volume {
                     retention: *retention,
-                    backups: Vec::new(),
+                    ..Volume::default()
                 });
             }
             Call::Backup { volume, day, list } => self.note_backup(*volume, *day, list),
             Call::Collect { day } => self.day = *day,
+            Call::Retire { volume, day } => {
+                let volume = self.volumes[usize::from(*volume)].as_mut();
+                volume.expect("an enrolled volume").retired = Some(*day);
+                self.day = *day;
+            }
             Call::Read { .. } | Call::Restore(_) | Call::Audit => {}
         }
     }
@@ -71,6 +79,11 @@ impl History {
     /// How many backups a volume has.
     pub fn backups(&self, volume: u16) -> usize {
         self.enrolled(volume).map_or(0, |v| v.backups.len())
+    }
+
+    /// Whether a volume is retired.
+    pub fn is_retired(&self, volume: u16) -> bool {
+        self.enrolled(volume).is_some_and(|v| v.retired.is_some())
     }
 
     /// The answer of a read or of a restore; none of other calls.
@@ -118,8 +131,12 @@ impl History {
             .checked_sub(1)
             .and_then(|index| volume.backups.get(index))
             .ok_or(Refusal::Number)?;
-        let days: Vec<u16> = volume.backups.iter().map(|(day, _)| *day).collect();
-        let kept = is_kept(&days, number, volume.retention, self.day);
+        let backups = Backups {
+            days: volume.backups.iter().map(|(day, _)| *day).collect(),
+            retention: volume.retention,
+            retired: volume.retired,
+        };
+        let kept = is_kept(&backups, number, self.day);
         require(kept, Refusal::NotKept)?;
         Ok(image)
     }

@@ -93,10 +93,14 @@ impl Entry {
     }
 }
 
+/// The kinds of slots; a retirement is no backup and has no number.
+pub const BACKUP: u8 = 0;
+pub const RETIREMENT: u8 = 1;
+
 #[derive(Clone, Copy, Debug, PartialEq, Eq)]
 pub struct Slot {
     pub volume: u8,
-    pub zero: u8,
+    pub kind: u8,
     pub day: u16,
     pub first: u16,
     pub number: u16,
@@ -104,13 +108,17 @@ pub struct Slot {
 
 pub const UNUSED_SLOT: Slot = Slot {
     volume: 0,
-    zero: 0,
+    kind: 0,
     day: 0,
     first: 0,
     number: 0,
 };
 
 impl Slot {
+    pub fn is_retirement(&self) -> bool {
+        self.kind == RETIREMENT
+    }
+
     /// The indexes of this slot's records.
     pub fn records(&self) -> Range<usize> {
         let first = usize::from(self.first);

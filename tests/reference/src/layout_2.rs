@@ -5,7 +5,7 @@
 use crate::call::{Answer, Call, Stored};
 use crate::cases::{calls_to_d, SIZES};
 use crate::form;
-use crate::keeping;
+use crate::keeping::{self, Backups};
 use crate::layout::{Book, Header, Sizes, LAYOUT};
 use crate::random_calls::RandomCalls;
 use crate::refusal::Refusal;
@@ -17,10 +17,10 @@ pub const FROM_REPLACING: Days = Days {
     is_kept,
 };
 
-/// Whether backup `number`, from 1, of a volume's backups of these days was kept on a day.
-pub fn is_kept(days: &[u16], number: usize, retention: u16, day: u16) -> bool {
-    let replaced = days.get(number);
-    replaced.is_none_or(|&replaced| keeping::last_day(replaced, retention) >= day)
+/// Whether backup `number`, from 1, of a volume was kept on a day. There were no retirements.
+pub fn is_kept(backups: &Backups, number: usize, day: u16) -> bool {
+    let replaced = backups.days.get(number);
+    replaced.is_none_or(|&replaced| keeping::last_day(replaced, backups.retention) >= day)
 }
 
 /// The rule of days of a layout.

@@ -5,6 +5,7 @@ pub mod agreement;
 pub mod call;
 pub mod cases;
 pub mod change_list;
+pub mod clinic;
 pub mod far_end;
 pub mod form;
 pub mod history;

@@ -5,7 +5,7 @@ mod backup;
 use std::rc::Rc;
 
 use crate::change_list;
-use crate::keeping::{self, IsKept};
+use crate::keeping::{self, Backups, IsKept};
 use crate::layout::{
     Block, Fingerprint, Lbn, Pbn, Sizes, DAY_MAX, RETENTION_RANGE, UNMAPPED, VOLUMES,
 };
@@ -29,24 +29,19 @@ fn held_in(blocks: &Blocks) -> impl Iterator<Item = (Pbn, &Content)> {
     numbered.filter_map(|(pbn, block)| Some((pbn, block.as_deref()?)))
 }
 
-struct Volume {
-    retention: u16,
-    backups: Vec<(u16, Map)>,
+enum What {
+    /// A backup's whole map.
+    Map(Map),
+    Retirement,
 }
 
-impl Volume {
-    fn days(&self) -> Vec<u16> {
-        self.backups.iter().map(|(day, _)| *day).collect()
-    }
-
-    /// The maps of the backups kept at `day`; the newest one is the current map.
-    fn kept_maps(&self, is_kept: IsKept, day: u16) -> impl Iterator<Item = &Map> {
-        let days = self.days();
-        let kept = move |number: &usize| is_kept(&days, *number, self.retention, day);
-        (1..=self.backups.len())
-            .filter(kept)
-            .map(|number| &self.backups[number - 1].1)
-    }
+/// A map or a retirement, as it was taken.
+struct Taken {
+    volume: u16,
+    day: u16,
+    what: What,
+    /// How many changes it had; a retirement has one for each cell that was mapped.
+    changes: usize,
 }
 
 pub struct Plain {
@@ -54,9 +49,10 @@ pub struct Plain {
     day: u16,
     cursor: u16,
     blocks: Blocks,
-    volumes: [Option<Volume>; VOLUMES as usize],
-    /// Changes of all accepted backups so far.
-    changes: usize,
+    /// The retention of each enrolled volume.
+    retentions: [Option<u16>; VOLUMES as usize],
+    /// The maps and retirements of all volumes, in the order taken.
+    taken: Vec<Taken>,
     is_kept: IsKept,
 }
 
@@ -68,8 +64,8 @@ impl Plain {
             day: 0,
             cursor: 0,
             blocks: vec![None; usize::from(sizes.blocks)],
-            volumes: Default::default(),
-            changes: 0,
+            retentions: Default::default(),
+            taken: Vec::new(),
             is_kept: keeping::is_kept,
         }
     }
@@ -87,23 +83,24 @@ impl Plain {
         self.day
     }
 
-    /// All backups, and all their changes.
+    /// All backups and retirements, and all their changes.
     pub fn used(&self) -> (usize, usize) {
-        let volumes = self.volumes.iter().flatten();
-        let backups = volumes.map(|volume| volume.backups.len()).sum();
-        (backups, self.changes)
+        let changes = self.taken.iter().map(|taken| taken.changes).sum();
+        (self.taken.len(), changes)
     }
 
-    /// A volume's retention, and the days of its backups.
-    pub fn volume(&self, volume: u16) -> Result<(u16, Vec<u16>), Refusal> {
-        let volume = self.enrolled(volume)?;
-        Ok((volume.retention, volume.days()))
+    /// A volume's retention, the days of its backups, and that of its retirement.
+    pub fn volume(&self, volume: u16) -> Result<Backups, Refusal> {
+        Ok(Backups {
+            retention: self.retention(volume)?,
+            days: self.maps(volume).map(|(day, _)| day).collect(),
+            retired: self.retired_on(volume),
+        })
     }
 
     /// Whether backup `number`, from 1, is kept at `day`.
     pub fn is_kept(&self, volume: u16, number: usize, day: u16) -> Result<bool, Refusal> {
-        let (retention, days) = self.volume(volume)?;
-        Ok((self.is_kept)(&days, number, retention, day))
+        Ok((self.is_kept)(&self.volume(volume)?, number, day))
     }
 
     /// The held blocks in order.
@@ -111,56 +108,83 @@ impl Plain {
         held_in(&self.blocks)
     }
 
-    /// A volume's newest map, all unmapped if there is none.
+    /// The day and map of each backup of a volume.
+    fn maps(&self, volume: u16) -> impl DoubleEndedIterator<Item = (u16, &Map)> {
+        let taken = self.taken.iter().filter(move |t| t.volume == volume);
+        taken.filter_map(|taken| match &taken.what {
+            What::Map(map) => Some((taken.day, map)),
+            What::Retirement => None,
+        })
+    }
+
+    fn retired_on(&self, volume: u16) -> Option<u16> {
+        let mut taken = self.taken.iter().filter(|t| t.volume == volume);
+        let retirement = taken.find(|taken| matches!(taken.what, What::Retirement));
+        retirement.map(|taken| taken.day)
+    }
+
+    fn is_retired(&self, volume: u16) -> bool {
+        self.retired_on(volume).is_some()
+    }
+
+    /// A volume's newest map, all unmapped if there is none or if it was retired since.
     pub fn current_map(&self, volume: u8) -> Map {
-        let newest = self.volumes[usize::from(volume)]
-            .as_ref()
-            .and_then(|volume| volume.backups.last());
-        match newest {
+        let volume = u16::from(volume);
+        let newest = self.maps(volume).next_back();
+        match newest.filter(|_| !self.is_retired(volume)) {
             Some((_, map)) => map.clone(),
             None => vec![UNMAPPED; usize::from(self.sizes.lbns)],
         }
     }
 
     pub fn enrol(&mut self, volume: u16, retention: u16) -> Result<(), Refusal> {
-        let place = self.volumes.get_mut(usize::from(volume));
+        let place = self.retentions.get_mut(usize::from(volume));
         let place = place.ok_or(Refusal::Volume)?;
         require(place.is_none(), Refusal::Volume)?;
         require(RETENTION_RANGE.contains(&retention), Refusal::Retention)?;
-        *place = Some(Volume {
-            retention,
-            backups: Vec::new(),
-        });
+        *place = Some(retention);
         Ok(())
     }
 
     pub fn backup(&mut self, volume: u16, day: u16, list: &[u8]) -> Result<BackedUp, Refusal> {
-        let enrolled = self.enrolled(volume)?;
-        self.check_day(day)?;
-        let last = enrolled.backups.last();
-        require(last.is_none_or(|(last, _)| day > *last), Refusal::Day)?;
+        self.check_taking(volume, day)?;
         let list = change_list::read(list, self.sizes.lbns)?;
         self.check_room(list.number())?;
         let made = backup::make(self, volume, &list)?;
-        let backups = &mut self.volumes[usize::from(volume)].as_mut().unwrap().backups;
-        backups.push((day, made.map));
-        let number = backups.len() as u16;
+        self.take(volume, day, What::Map(made.map), list.number());
         self.blocks = made.blocks;
         self.cursor = made.cursor;
-        self.day = day;
-        self.changes += list.number();
         Ok(BackedUp {
-            number,
+            number: self.maps(volume).count() as u16,
             taken: made.taken,
             touched: list.number() as u16 + made.befores,
         })
     }
 
+    /// The newest map stops being current and stays in the list. Answers how many cells it had.
+    pub fn retire(&mut self, volume: u16, day: u16) -> Result<u16, Refusal> {
+        self.check_taking(volume, day)?;
+        let map = self.current_map(volume as u8);
+        let cells = map.iter().filter(|&&cell| cell != UNMAPPED).count();
+        self.check_room(cells)?;
+        self.take(volume, day, What::Retirement, cells);
+        Ok(cells as u16)
+    }
+
+    fn take(&mut self, volume: u16, day: u16, what: What, changes: usize) {
+        self.taken.push(Taken {
+            volume,
+            day,
+            what,
+            changes,
+        });
+        self.day = day;
+    }
+
     pub fn collect(&mut self, day: u16) -> Result<u16, Refusal> {
         self.check_day(day)?;
         let mut marked = vec![false; self.blocks.len()];
-        let volumes = self.volumes.iter().flatten();
-        for map in volumes.flat_map(|volume| volume.kept_maps(self.is_kept, day)) {
+        for map in self.kept_maps(day) {
             for cell in map.iter().filter(|&&cell| cell != UNMAPPED) {
                 marked[cell.index()] = true;
             }
@@ -174,6 +198,18 @@ impl Plain {
         }
         self.day = day;
         Ok(freed)
+    }
+
+    /// The maps of the backups kept at `day`. The current maps are among them: each is the newest of a
+    /// volume that isn't retired.
+    fn kept_maps(&self, day: u16) -> impl Iterator<Item = &Map> {
+        let volumes = 0..u16::from(VOLUMES);
+        let enrolled = volumes.filter_map(|v| Some((v, self.volume(v).ok()?)));
+        enrolled.flat_map(move |(volume, backups)| {
+            let kept = move |number: usize| (self.is_kept)(&backups, number, day);
+            let maps = (1..).zip(self.maps(volume));
+            maps.filter_map(move |(number, (_, map))| kept(number).then_some(map))
+        })
     }
 
     pub fn read(&self, volume: u16, number: u16, lbn: u16) -> Result<&Block, Refusal> {
@@ -196,13 +232,13 @@ impl Plain {
 
     /// The map of a backup that is kept.
     fn kept_map(&self, volume: u16, number: u16) -> Result<&Map, Refusal> {
-        let backups = &self.enrolled(volume)?.backups;
-        let number = usize::from(number);
-        let taken = 1..=backups.len();
-        require(taken.contains(&number), Refusal::Number)?;
-        let kept = self.is_kept(volume, number, self.day)?;
+        self.retention(volume)?;
+        let index = usize::from(number).checked_sub(1);
+        let taken = index.and_then(|index| self.maps(volume).nth(index));
+        let (_, map) = taken.ok_or(Refusal::Number)?;
+        let kept = self.is_kept(volume, usize::from(number), self.day)?;
         require(kept, Refusal::NotKept)?;
-        Ok(&backups[number - 1].1)
+        Ok(map)
     }
 
     fn bytes_of(&self, pbn: Pbn) -> Result<&Block, Refusal> {
@@ -211,18 +247,28 @@ impl Plain {
         Ok(&content.expect("a kept backup's block is held").bytes)
     }
 
-    fn enrolled(&self, volume: u16) -> Result<&Volume, Refusal> {
-        let place = self.volumes.get(usize::from(volume));
-        place.and_then(Option::as_ref).ok_or(Refusal::Volume)
+    /// That of an enrolled volume.
+    fn retention(&self, volume: u16) -> Result<u16, Refusal> {
+        let retention = self.retentions.get(usize::from(volume));
+        retention.copied().flatten().ok_or(Refusal::Volume)
     }
 
     fn check_day(&self, day: u16) -> Result<(), Refusal> {
         require(day <= DAY_MAX && day >= self.day, Refusal::Day)
     }
 
+    /// Whether the volume may be backed up or retired on this day.
+    fn check_taking(&self, volume: u16, day: u16) -> Result<(), Refusal> {
+        self.retention(volume)?;
+        require(!self.is_retired(volume), Refusal::Volume)?;
+        self.check_day(day)?;
+        let last = self.maps(volume).next_back();
+        require(last.is_none_or(|(last, _)| day > last), Refusal::Day)
+    }
+
     fn check_room(&self, changes: usize) -> Result<(), Refusal> {
-        let (backups, before) = self.used();
-        require(backups < usize::from(self.sizes.slots), Refusal::SlotsFull)?;
+        let (taken, before) = self.used();
+        require(taken < usize::from(self.sizes.slots), Refusal::SlotsFull)?;
         let records = before + changes;
         let fits = records <= usize::from(self.sizes.records);
         require(fits, Refusal::JournalFull)

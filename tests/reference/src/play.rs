@@ -14,6 +14,7 @@ const COLLECT: u8 = 2;
 const READ: u8 = 3;
 const AUDIT: u8 = 4;
 const RESTORE: u8 = 5;
+const RETIRE: u8 = 6;
 
 /// The calls that the bytes are; refusal 19 if they are no list.
 pub fn decode(bytes: &[u8]) -> Result<Vec<Call>, Refusal> {
@@ -76,9 +77,10 @@ fn call_of(kind: u8, [a, b, c, d]: [u16; 4], data: &[u8]) -> Option<(Call, usize
             first: c,
             length: d,
         }),
+        RETIRE => Call::Retire { volume, day: b },
         _ => return None,
     };
-    let used = [2, 2, 1, 3, 0, 4][usize::from(kind)];
+    let used = [2, 2, 1, 3, 0, 4, 2][usize::from(kind)];
     Some((call, used))
 }
 
@@ -103,6 +105,7 @@ fn call_bytes(call: &Call) -> Vec<u8> {
             [run.volume, run.number, run.first, run.length],
             &[],
         ),
+        Call::Retire { volume, day } => (RETIRE, [*volume, *day, 0, 0], &[]),
     };
     let mut bytes = vec![kind, 0];
     bytes.extend(fields.iter().flat_map(|field| field.to_le_bytes()));
@@ -118,7 +121,7 @@ pub fn longest_answers(calls: &[Call]) -> usize {
 
 fn longest_answer(call: &Call) -> usize {
     match call {
-        Call::Enrol { .. } | Call::Collect { .. } | Call::Audit => 3,
+        Call::Enrol { .. } | Call::Collect { .. } | Call::Retire { .. } | Call::Audit => 3,
         Call::Backup { .. } => 7,
         Call::Read { .. } => 1 + BLOCK_BYTES,
         Call::Restore(run) => 3 + run.bytes(),
@@ -135,7 +138,7 @@ pub fn answer_bytes(answer: &Answer) -> Vec<u8> {
         Answer::Enrolled => tagged(0, &[0]),
         Answer::Refused(refusal) => tagged(0, &[refusal.number()]),
         Answer::BackedUp(b) => tagged(1, &[b.number, b.taken, b.touched]),
-        Answer::Freed(freed) => tagged(2, &[*freed]),
+        Answer::Freed(number) | Answer::Retired(number) => tagged(2, &[*number]),
         Answer::Block(block) => [&[3], &block[..]].concat(),
         Answer::Sound(sound) => tagged(4, &[u16::from(*sound)]),
         Answer::Run(blocks) => {

@@ -50,7 +50,7 @@ pub fn narrowed(bytes: &[u8]) -> Option<Vec<u8>> {
 }
 
 fn disturb_field(prng: &mut Prng, book: &mut Book<&mut [u8]>) {
-    match prng.below(11) {
+    match prng.below(12) {
         0 => disturb_header(prng, book),
         1 => {
             let days = prng.pick(&[0, 1, 3, 5_000, 5_001]);
@@ -61,6 +61,7 @@ fn disturb_field(prng: &mut Prng, book: &mut Book<&mut [u8]>) {
         4 => disturb_record(prng, book),
         5 | 6 => free_waiting(prng, book),
         7 => disturb_mapped(prng, book),
+        8 if book.header(Header::Layout) > 2 => disturb_kind(prng, book),
         _ => disturb_entry(prng, book),
     }
 }
@@ -104,11 +105,33 @@ fn disturb_cell(prng: &mut Prng, book: &mut Book<&mut [u8]>) {
 fn disturb_slot(prng: &mut Prng, book: &mut Book<&mut [u8]>) {
     let index = prng.index(usize::from(book.sizes().slots));
     let step = prng.pick(&[1, 65_535]);
-    book.edit_slot(index, |slot| match prng.below(3) {
+    book.edit_slot(index, |slot| match prng.below(4) {
         0 => slot.day = slot.day.wrapping_add(step),
         1 => slot.volume = prng.between(0, 8) as u8,
+        2 => slot.kind = prng.pick(&[slot.kind ^ 1, 2, 255]),
         _ => slot.number = slot.number.wrapping_add(step),
     });
+}
+
+/// Makes a retirement of a slot or a backup of a retirement, and its records fit.
+fn disturb_kind(prng: &mut Prng, book: &mut Book<&mut [u8]>) {
+    let used = book.header(Header::SlotsUsed).min(book.sizes().slots);
+    if used == 0 {
+        return;
+    }
+    let any = prng.index(usize::from(used));
+    let index = prng.pick(&[any, usize::from(used) - 1]);
+    book.edit_slot(index, |slot| slot.kind ^= 1);
+    let slot = book.slot(index);
+    // An earlier change may have put the pair past the journal.
+    let records = usize::from(book.sizes().records);
+    for record in slot.records().filter(|&record| record < records) {
+        let after = match slot.is_retirement() {
+            true => UNMAPPED,
+            false => any_block(prng, book),
+        };
+        book.edit_record(record, |record| record.after = after);
+    }
 }
 
 fn disturb_record(prng: &mut Prng, book: &mut Book<&mut [u8]>) {
@@ -135,7 +158,7 @@ fn free_waiting(prng: &mut Prng, book: &mut Book<&mut [u8]>) {
     }
 }
 
-/// Gives a block that a map names a count at one end.
+/// Gives a block that a map names a count at one end, or one that a single cell of it takes.
 fn disturb_mapped(prng: &mut Prng, book: &mut Book<&mut [u8]>) {
     let maps = (0..VOLUMES).flat_map(|volume| book.map(volume));
     let named: Vec<Pbn> = maps.filter(|&cell| cell != UNMAPPED).collect();
@@ -145,7 +168,7 @@ fn disturb_mapped(prng: &mut Prng, book: &mut Book<&mut [u8]>) {
     let pbn = prng.pick(&named);
     // An earlier change may have put a cell past the pool.
     if pbn.0 < book.sizes().blocks {
-        let count = prng.pick(&[0, u16::MAX]);
+        let count = prng.pick(&[0, 0, 1, u16::MAX, u16::MAX]);
         book.edit_entry(pbn, |entry| entry.count = count);
     }
 }
@@ -164,11 +187,14 @@ fn disturb_entry(prng: &mut Prng, book: &mut Book<&mut [u8]>) {
     });
 }
 
-/// Makes one slot of two that follow each other in a volume, so that an LBN may have more
+/// Makes one slot of two backups that follow each other in a volume, so that an LBN may have more
 /// than one record in it, and gives each block the expiry that audit asks for.
 fn merge_slots(prng: &mut Prng, book: &mut Book<&mut [u8]>) {
     let mut slots: Vec<Slot> = book.used_slots().collect();
-    let alike = |&index: &usize| slots[index].volume == slots[index + 1].volume;
+    let alike = |&index: &usize| {
+        let (slot, next) = (slots[index], slots[index + 1]);
+        (slot.volume, slot.kind) == (next.volume, next.kind)
+    };
     let first: Vec<usize> = (0..slots.len().saturating_sub(1)).filter(alike).collect();
     if first.is_empty() {
         return;

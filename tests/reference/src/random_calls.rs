@@ -24,6 +24,7 @@ pub struct RandomCalls {
     day: u16,
     /// Each volume's backups so far.
     backups: [u16; 8],
+    retired: [bool; 8],
 }
 
 impl RandomCalls {
@@ -45,6 +46,7 @@ impl RandomCalls {
             enrolled: 0,
             day: if late { DAY_MAX - 100 } else { 0 },
             backups: [0; 8],
+            retired: [false; 8],
             prng,
         }
     }
@@ -77,14 +79,15 @@ impl RandomCalls {
             self.enrolled += 1;
             return self.enrol(self.enrolled - 1);
         }
-        match self.prng.below(20) {
-            0 => {
+        match self.prng.below(60) {
+            0..=2 => {
                 let volume = self.any_volume();
                 self.enrol(volume)
             }
-            1 => Call::Audit,
-            2..=4 => Call::Collect { day: self.day() },
-            5..=10 => self.read(),
+            3..=5 => Call::Audit,
+            6..=14 => Call::Collect { day: self.day() },
+            15..=32 => self.read(),
+            33 | 34 => self.retire(),
             _ => self.backup(),
         }
     }
@@ -119,6 +122,13 @@ impl RandomCalls {
         }
     }
 
+    /// A retirement of one of the run's volumes, soon; as for a view, another generator draws it.
+    pub fn retirement(&self, prng: &mut Prng) -> Call {
+        let volume = prng.between(0, self.volumes - 1);
+        let day = self.day.saturating_add(prng.between(0, 3));
+        Call::Retire { volume, day }
+    }
+
     /// Mostly a short run in the volume; now and then all of it, none of it, or one past its end.
     fn any_run(&self, prng: &mut Prng) -> (u16, u16) {
         let lbns = self.sizes.lbns;
@@ -144,11 +154,33 @@ impl RandomCalls {
         newest.copied().unwrap_or(0)
     }
 
-    /// Learns from an answer how many backups a volume has.
+    /// Learns from an answer how many backups a volume has, and whether it is retired.
     pub fn learn(&mut self, call: &Call, answer: &Answer) {
-        if let (Call::Backup { volume, .. }, Answer::BackedUp(backed_up)) = (call, answer) {
-            self.backups[usize::from(*volume)] = backed_up.number;
+        match (call, answer) {
+            (Call::Backup { volume, .. }, Answer::BackedUp(backed_up)) => {
+                self.backups[usize::from(*volume)] = backed_up.number;
+            }
+            (Call::Retire { volume, .. }, Answer::Retired(_)) => {
+                self.retired[usize::from(*volume)] = true;
+            }
+            _ => {}
         }
+    }
+
+    /// The run's volumes that aren't retired.
+    fn living(&self) -> Vec<u16> {
+        let mut volumes: Vec<u16> = (0..self.volumes).collect();
+        volumes.retain(|&volume| !self.retired[usize::from(volume)]);
+        volumes
+    }
+
+    /// Mostly a volume that isn't retired.
+    fn living_volume(&mut self) -> u16 {
+        let living = self.living();
+        if living.is_empty() || self.prng.once_in(12) {
+            return self.volume();
+        }
+        self.prng.pick(&living)
     }
 
     fn enrol(&mut self, volume: u16) -> Call {
@@ -204,8 +236,18 @@ impl RandomCalls {
         }
     }
 
+    /// The last volume that isn't retired stays, but for one time in six.
+    fn retire(&mut self) -> Call {
+        if self.living().len() == 1 && !self.prng.once_in(6) {
+            return self.backup();
+        }
+        let volume = self.living_volume();
+        let day = self.day();
+        Call::Retire { volume, day }
+    }
+
     fn backup(&mut self) -> Call {
-        let volume = self.volume();
+        let volume = self.living_volume();
         let day = self.day();
         let list = self.lists.next_list(&mut self.prng);
         Call::Backup { volume, day, list }

@@ -5,12 +5,15 @@ mod audit;
 mod backup;
 mod convert;
 mod restore;
+mod retire;
+mod taking;
 mod views;
 
 pub use audit::{expiries, settle_expiries, Days, Fault, FROM_TAKING};
 pub use backup::backup;
 pub use convert::{convert, Way};
 pub use restore::{restore, Run};
+pub use retire::retire;
 pub use views::{backups, blocks, cells, sizes, used, volume, Used, VolumeFacts, NO_END};
 
 use crate::form;
@@ -87,7 +90,7 @@ pub fn locate(
     backup.locate(Lbn(lbn))
 }
 
-/// A kept backup of a volume, with the volume's slots after it.
+/// A kept backup of a volume, with the volume's slots after it, its retirement too.
 struct KeptBackup<'a> {
     book: Book<&'a [u8]>,
     volume: u8,
@@ -104,13 +107,13 @@ fn kept_backup<'a>(
     let book = form::check(book)?;
     require(pool.len() == book.sizes().pool_bytes(), Refusal::Pool)?;
     let volume = enrolled(&book, volume)?;
-    let slots = book.used_slots_of(volume);
+    let backups = book.backups_of(volume);
     let number = usize::from(number);
-    require((1..=slots.len()).contains(&number), Refusal::Number)?;
-    let (days, day) = (book.days_of(volume), book.header(Header::Day));
-    let kept = is_kept(&days, number, book.retention(volume), day);
+    let taken = 1..=backups.days.len();
+    require(taken.contains(&number), Refusal::Number)?;
+    let kept = is_kept(&backups, number, book.header(Header::Day));
     require(kept, Refusal::NotKept)?;
-    let later = slots[number..].to_vec();
+    let later = book.used_slots_of(volume).split_off(number);
     Ok(KeptBackup {
         book,
         volume,
@@ -152,6 +155,13 @@ fn volume_number(volume: u16) -> Result<u8, Refusal> {
 fn enrolled(book: &Book<&[u8]>, volume: u16) -> Result<u8, Refusal> {
     let volume = volume_number(volume)?;
     require(book.retention(volume) != 0, Refusal::Volume)?;
+    Ok(volume)
+}
+
+/// Refusal 5 of the calls that add a slot: the volume is enrolled, and not retired.
+fn living(book: &Book<&[u8]>, volume: u16) -> Result<u8, Refusal> {
+    let volume = enrolled(book, volume)?;
+    require(book.retired_on(volume).is_none(), Refusal::Volume)?;
     Ok(volume)
 }
 

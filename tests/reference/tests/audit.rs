@@ -76,11 +76,13 @@ fn kept_blocks_held(book: &View) -> bool {
     let held = |pbn: Pbn| pbn == UNMAPPED || book.entry(pbn).state == HELD;
     cells(book).all(|(volume, lbn)| {
         let slots = book.used_slots_of(volume);
+        // From number 1 on; a retirement at the end has none, and with it the newest isn't exempt.
+        let backups = slots.iter().filter(|slot| slot.kind == 0).count();
         let kept = |number: &usize| {
             let own = slots[*number - 1].day + book.retention(volume);
             *number == slots.len() || own >= book.header(Header::Day)
         };
-        let mut kept_numbers = (1..=slots.len()).filter(kept);
+        let mut kept_numbers = (1..=backups).filter(kept);
         held(book.cell(volume, lbn))
             && kept_numbers.all(|number| held(by_read(book, volume, number, lbn)))
     })

@@ -5,7 +5,7 @@ use reference::cases::{after_d, backup, block, fingerprint, list_of, SIZES};
 use reference::change_list;
 use reference::form;
 use reference::history::History;
-use reference::layout::{Book, Entry, Header, Lbn, Pbn, Record, Slot, UNMAPPED};
+use reference::layout::{Book, Entry, Header, Lbn, Pbn, Record, Slot, BACKUP, UNMAPPED};
 use reference::plain::Plain;
 use reference::refusal::Refusal;
 use reference::store::BackedUp;
@@ -178,7 +178,7 @@ fn header_and_records_after_d() {
     for (slot, (volume, day, first, number)) in slots.into_iter().enumerate() {
         let expected = Slot {
             volume,
-            zero: 0,
+            kind: BACKUP,
             day,
             first,
             number,

@@ -134,13 +134,13 @@ fn some_backups_go() {
         let view = Book::over(&new[..]);
         let day = view.header(Header::Day);
         for volume in (0..VOLUMES).filter(|&volume| view.retention(volume) != 0) {
-            let (days, retention) = (view.days_of(volume), view.retention(volume));
-            for number in 1..=days.len() {
-                let old = layout_2::is_kept(&days, number, retention, day);
-                let new = keeping::is_kept(&days, number, retention, day);
+            let backups = view.backups_of(volume);
+            for number in 1..=backups.days.len() {
+                let old = layout_2::is_kept(&backups, number, day);
+                let new = keeping::is_kept(&backups, number, day);
                 assert!(old || !new);
                 gone += u32::from(old && !new);
-                stayed += u32::from(new && number < days.len());
+                stayed += u32::from(new && number < backups.days.len());
             }
         }
     });
@@ -148,7 +148,8 @@ fn some_backups_go() {
     // After case d with the header's day 16.
     let mut stored = after_d();
     Book::over(&mut stored.book[..]).set_header(Header::Day, 16);
-    assert!(layout_2::is_kept(&[5, 8], 1, 10, 16));
+    let backups = Book::over(&stored.book[..]).backups_of(0);
+    assert!(layout_2::is_kept(&backups, 1, 16));
     stored.book = to_3(&stored.book).unwrap();
     let (volume, number, lbn) = (0, 1, 0);
     let read = stored.call(&Call::Read {

@@ -1,79 +1,35 @@
 //! Days from the taking: until when a backup and its blocks are kept, where that surprises, and where
 //! another reading of the rule would show.
 
-use reference::agreement;
 use reference::call::{Answer, Call, Stored};
 use reference::cases::{after_d, backup, block, SIZES};
-use reference::history::History;
-use reference::keeping::{is_kept, kept_until};
-use reference::layout::{Book, Header, Lbn, Pbn, Record, Slot};
-use reference::plain::Plain;
+use reference::clinic::Clinic;
+use reference::keeping::{is_kept, kept_until, Backups};
+use reference::layout::{Book, Header, Lbn, Pbn, Record, Slot, BACKUP};
 use reference::refusal::Refusal;
 use reference::store;
 
-/// The box, the plain store and the history, fed the same calls.
-struct Clinic {
-    stored: Stored,
-    plain: Plain,
-    history: History,
+/// With volume 0 enrolled.
+fn keeping(retention: u16) -> Clinic {
+    let mut clinic = Clinic::of(SIZES);
+    clinic.enrols(0, retention);
+    clinic
 }
 
-impl Clinic {
-    /// With volume 0 enrolled.
-    fn keeping(retention: u16) -> Self {
-        let mut clinic = Clinic {
-            stored: Stored::new(SIZES, vec![0; SIZES.pool_bytes()]).unwrap(),
-            plain: Plain::new(SIZES),
-            history: History::new(SIZES.lbns),
-        };
-        let volume = 0;
-        clinic.call(Call::Enrol { volume, retention });
-        clinic
-    }
-
-    fn call(&mut self, call: Call) -> Answer {
-        let answer = self.stored.call(&call);
-        assert_eq!(self.plain.call(&call), answer, "{call:?}");
-        if let Some(past) = self.history.answer(&call) {
-            assert_eq!(past, answer, "{call:?}");
-        }
-        self.history.note(&call, &answer);
-        let Stored { book, pool, .. } = &self.stored;
-        assert_eq!(agreement::check(book, pool, &self.plain), Ok(()));
-        assert_eq!(store::audit(book), Ok(true));
-        answer
-    }
-
-    fn backs_up(&mut self, day: u16, runs: &[(u16, &str)]) {
-        let answer = self.call(backup(0, day, runs));
-        assert!(matches!(answer, Answer::BackedUp(_)), "{answer:?}");
-    }
-
-    /// LBN 0 in a backup.
-    fn reads(&mut self, number: u16) -> Result<u8, Refusal> {
-        let (volume, lbn) = (0, 0);
-        match self.call(Call::Read {
-            volume,
-            number,
-            lbn,
-        }) {
-            Answer::Block(block) => Ok(block[0]),
-            Answer::Refused(refusal) => Err(refusal),
-            answer => panic!("{answer:?}"),
-        }
-    }
-
-    fn expiry(&self, pbn: u16) -> u16 {
-        Book::over(&self.stored.book[..]).entry(Pbn(pbn)).expiry
+fn backups(days: &[u16], retention: u16) -> Backups {
+    Backups {
+        days: days.to_vec(),
+        retention,
+        retired: None,
     }
 }
 
 #[test]
 fn own_day_plus_retention_is_the_last_day() {
-    let days = [5, 8, 20];
-    assert_eq!(kept_until(&days, 1, 10), Some(15));
-    assert_eq!(kept_until(&days, 2, 10), Some(18));
-    assert_eq!(kept_until(&days, 3, 10), None);
+    let three = backups(&[5, 8, 20], 10);
+    assert_eq!(kept_until(&three, 1), Some(15));
+    assert_eq!(kept_until(&three, 2), Some(18));
+    assert_eq!(kept_until(&three, 3), None);
     for (number, day, kept) in [
         (1, 15, true),
         (1, 16, false),
@@ -81,44 +37,47 @@ fn own_day_plus_retention_is_the_last_day() {
         (2, 19, false),
         (3, 60_000, true),
     ] {
-        assert_eq!(is_kept(&days, number, 10, day), kept, "{number} on {day}");
+        assert_eq!(is_kept(&three, number, day), kept, "{number} on {day}");
     }
     // At the ends of days and retentions.
-    assert_eq!(kept_until(&[60_000, 60_000], 1, 5_000), Some(65_000));
-    assert_eq!(kept_until(&[0, 1], 1, 1), Some(1));
+    assert_eq!(
+        kept_until(&backups(&[60_000, 60_000], 5_000), 1),
+        Some(65_000)
+    );
+    assert_eq!(kept_until(&backups(&[0, 1], 1), 1), Some(1));
 }
 
 /// A backup without changes names what the one before it brought, and is the one that counts: not the
 /// backup that brought A (day 1 would come to 4), nor the one that replaces it (day 6 to 9).
 #[test]
 fn a_block_waits_for_the_last_backup_that_names_it() {
-    let mut clinic = Clinic::keeping(3);
-    clinic.backs_up(1, &[(0, "A")]);
-    clinic.backs_up(5, &[]);
+    let mut clinic = keeping(3);
+    clinic.backs_up(0, 1, &[(0, "A")]);
+    clinic.backs_up(0, 5, &[]);
     assert_eq!(clinic.expiry(0), 0);
-    clinic.backs_up(6, &[(0, "B")]);
+    clinic.backs_up(0, 6, &[(0, "B")]);
     assert_eq!(clinic.expiry(0), 8);
-    assert_eq!(clinic.reads(1), Err(Refusal::NotKept));
-    assert_eq!(clinic.reads(2), Ok(b'A'));
+    assert_eq!(clinic.reads(0, 1, 0), Err(Refusal::NotKept));
+    assert_eq!(clinic.reads(0, 2, 0), Ok('A'));
     assert_eq!(clinic.call(Call::Collect { day: 8 }), Answer::Freed(0));
-    assert_eq!(clinic.reads(2), Ok(b'A'));
+    assert_eq!(clinic.reads(0, 2, 0), Ok('A'));
     assert_eq!(clinic.call(Call::Collect { day: 9 }), Answer::Freed(1));
-    assert_eq!(clinic.reads(2), Err(Refusal::NotKept));
-    assert_eq!(clinic.reads(3), Ok(b'B'));
+    assert_eq!(clinic.reads(0, 2, 0), Err(Refusal::NotKept));
+    assert_eq!(clinic.reads(0, 3, 0), Ok('B'));
 }
 
 /// The newest backup has no end. After a pause longer than the retention it is gone the moment that
 /// the next one is taken.
 #[test]
 fn after_a_long_pause() {
-    let mut clinic = Clinic::keeping(3);
-    clinic.backs_up(1, &[(0, "A")]);
+    let mut clinic = keeping(3);
+    clinic.backs_up(0, 1, &[(0, "A")]);
     assert_eq!(clinic.call(Call::Collect { day: 20 }), Answer::Freed(0));
-    assert_eq!(clinic.reads(1), Ok(b'A'));
-    clinic.backs_up(21, &[(0, "B")]);
+    assert_eq!(clinic.reads(0, 1, 0), Ok('A'));
+    clinic.backs_up(0, 21, &[(0, "B")]);
     assert_eq!(clinic.expiry(0), 4);
-    assert_eq!(clinic.reads(1), Err(Refusal::NotKept));
-    assert_eq!(clinic.reads(2), Ok(b'B'));
+    assert_eq!(clinic.reads(0, 1, 0), Err(Refusal::NotKept));
+    assert_eq!(clinic.reads(0, 2, 0), Ok('B'));
     // On the very same day.
     assert_eq!(clinic.call(Call::Collect { day: 21 }), Answer::Freed(1));
 }
@@ -126,25 +85,25 @@ fn after_a_long_pause() {
 /// A pause of just the retention: the one before is kept for that one day more.
 #[test]
 fn after_a_pause_of_the_retention() {
-    let mut clinic = Clinic::keeping(3);
-    clinic.backs_up(1, &[(0, "A")]);
-    clinic.backs_up(4, &[(0, "B")]);
-    assert_eq!(clinic.reads(1), Ok(b'A'));
+    let mut clinic = keeping(3);
+    clinic.backs_up(0, 1, &[(0, "A")]);
+    clinic.backs_up(0, 4, &[(0, "B")]);
+    assert_eq!(clinic.reads(0, 1, 0), Ok('A'));
     assert_eq!(clinic.call(Call::Collect { day: 4 }), Answer::Freed(0));
     assert_eq!(clinic.call(Call::Collect { day: 5 }), Answer::Freed(1));
-    assert_eq!(clinic.reads(1), Err(Refusal::NotKept));
+    assert_eq!(clinic.reads(0, 1, 0), Err(Refusal::NotKept));
 }
 
 /// What another volume backed up in between makes no difference.
 #[test]
 fn the_previous_backup_is_the_same_volumes() {
-    let mut clinic = Clinic::keeping(3);
+    let mut clinic = keeping(3);
     let (volume, retention) = (1, 1);
     clinic.call(Call::Enrol { volume, retention });
-    clinic.backs_up(1, &[(0, "A")]);
+    clinic.backs_up(0, 1, &[(0, "A")]);
     let other = clinic.call(backup(1, 2, &[(0, "C")]));
     assert!(matches!(other, Answer::BackedUp(_)));
-    clinic.backs_up(3, &[(0, "B")]);
+    clinic.backs_up(0, 3, &[(0, "B")]);
     assert_eq!(clinic.expiry(0), 4);
 }
 
@@ -180,7 +139,7 @@ fn audit_counts_from_day_0_without_a_previous_backup() {
     };
     let slot = Slot {
         volume: 2,
-        zero: 0,
+        kind: BACKUP,
         day: 9,
         first: 5,
         number: 1,

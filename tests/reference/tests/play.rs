@@ -42,6 +42,7 @@ fn one_of_each() -> Vec<Call> {
         read(0, 1, 0),
         Call::Audit,
         restore(0, 1, 0, 2),
+        Call::Retire { volume: 0, day: 13 },
     ]
 }
 
@@ -132,12 +133,17 @@ fn a_head_byte_for_byte() {
         backup(0x0102, 0x0304, &[]),
         read(5, 6, 0x0708),
         restore(9, 10, 0x0B0C, 0x0D0E),
+        Call::Retire {
+            volume: 0x0F10,
+            day: 0x1112,
+        },
     ]);
     let heads = [
         [1, 0, 2, 1, 4, 3, 0, 0, 0, 0, 2, 0, 0, 0].to_vec(),
         vec![0, 0],
         [3, 0, 5, 0, 6, 0, 8, 7, 0, 0, 0, 0, 0, 0].to_vec(),
         [5, 0, 9, 0, 10, 0, 12, 11, 14, 13, 0, 0, 0, 0].to_vec(),
+        [6, 0, 16, 15, 18, 17, 0, 0, 0, 0, 0, 0, 0, 0].to_vec(),
     ];
     assert_eq!(bytes, heads.concat());
 }
@@ -188,6 +194,33 @@ fn restores_in_a_list() {
     assert_eq!(played(&mut stored, &bytes, longest), Ok(expected));
     assert_eq!((stored.book, stored.pool), (before.book, before.pool));
     let short = played(&mut after_d(), &bytes, longest - 1);
+    assert_eq!(short, Err(Refusal::ShortOutput));
+}
+
+#[test]
+fn retirements_in_a_list() {
+    let retire = |volume, day| Call::Retire { volume, day };
+    let calls = [
+        retire(0, 8),
+        retire(0, 10),
+        retire(0, 11),
+        retire(1, 11),
+        retire(8, 11),
+        Call::Audit,
+    ];
+    assert_eq!(longest_answers(&calls), 3 * calls.len());
+    let expected = [
+        [0, 7, 0],
+        [2, 2, 0],
+        [0, 5, 0],
+        [2, 1, 0],
+        [0, 5, 0],
+        [4, 1, 0],
+    ];
+    let bytes = encode(&calls);
+    let mut stored = after_d();
+    assert_eq!(played(&mut stored, &bytes, 18), Ok(expected.concat()));
+    let short = played(&mut after_d(), &bytes, 17);
     assert_eq!(short, Err(Refusal::ShortOutput));
 }
 
@@ -242,6 +275,7 @@ fn unused_fields() -> Vec<(usize, Vec<usize>)> {
         vec![8],
         vec![2, 4, 6, 8],
         vec![],
+        vec![6, 8],
     ];
     let places = (0..calls.len()).map(|number| encode(&calls[..number]).len());
     places.zip(unused).collect()
@@ -264,7 +298,7 @@ fn what_a_kind_does_not_use_is_zero() {
 
 #[test]
 fn unknown_kinds_are_none() {
-    for kind in 6..=255 {
+    for kind in 7..=255 {
         let mut bytes = encode(&[Call::Audit]);
         bytes[0] = kind;
         is_no_list(&bytes);

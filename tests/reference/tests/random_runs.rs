@@ -31,13 +31,28 @@ struct Seen {
     in_pieces: u64,
     /// Runs that end with a count above 255.
     wide_counts: u64,
+    /// Retirements of volumes with mapped cells, and without backups.
+    retired: [u64; 2],
+    /// Reads of a retired volume's backups, and those refused by 16.
+    retired_read: [u64; 2],
 }
 
 impl Seen {
     fn note(&mut self, call: &Call, answer: &Answer, history: &History) {
+        if let Call::Read { volume, .. } = call {
+            let of_retired = history.is_retired(*volume);
+            let gone = *answer == Answer::Refused(Refusal::NotKept);
+            let block = matches!(answer, Answer::Block(_));
+            self.retired_read[0] += u64::from(of_retired && block);
+            self.retired_read[1] += u64::from(of_retired && gone);
+        }
         match (call, answer) {
             (_, Answer::Refused(refusal)) => {
                 self.refusals.insert(refusal.number());
+            }
+            (Call::Retire { volume, .. }, Answer::Retired(cells)) => {
+                self.retired[0] += u64::from(*cells > 0);
+                self.retired[1] += u64::from(history.backups(*volume) == 0);
             }
             (_, Answer::Freed(freed)) => self.freed += u64::from(*freed),
             (Call::Backup { list, .. }, Answer::BackedUp(backed_up)) => {
@@ -126,7 +141,9 @@ fn box_plain_store_and_history_agree() {
     // 13 and 14 come of damage alone.
     let reachable: BTreeSet<u16> = (5..=12).chain(15..=18).chain([21]).collect();
     assert_eq!(seen.refusals, reachable);
-    assert!(seen.wide_counts > 10, "{}", seen.wide_counts);
+    assert!(seen.wide_counts > 5, "{}", seen.wide_counts);
+    let retired = [seen.retired, seen.retired_read].concat();
+    assert!(retired.iter().all(|&times| times > 40), "{retired:?}");
     let counts = [
         seen.freed,
         seen.taken,

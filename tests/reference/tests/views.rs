@@ -8,7 +8,7 @@ use reference::layout::{Book, Fingerprint, Header, Sizes};
 use reference::plain::Plain;
 use reference::random_calls::RandomCalls;
 use reference::refusal::Refusal;
-use reference::store::{self, Used, VolumeFacts};
+use reference::store::{self, Used, VolumeFacts, NO_END};
 use reference::view::View;
 
 /// The answers of a view that is accepted, and its rows in an output of the right length.
@@ -30,7 +30,8 @@ fn show(book: &[u8], view: View, output: &mut [u8]) -> Result<Vec<u16>, Refusal>
         }
         View::Volume { volume } => {
             let facts = store::volume(book, volume)?;
-            vec![facts.retention, facts.backups]
+            let retired = facts.retired.unwrap_or(NO_END);
+            vec![facts.retention, facts.backups, retired]
         }
         View::Backups { volume } => vec![store::backups(book, volume, output)?],
         View::Cells { volume } => store::cells(book, volume, output).map(|()| vec![])?,
@@ -75,10 +76,14 @@ fn used(slots: u16, records: u16, day: u16) -> Result<Used, Refusal> {
 }
 
 fn facts(retention: u16, backups: u16) -> Result<VolumeFacts, Refusal> {
-    Ok(VolumeFacts { retention, backups })
+    Ok(VolumeFacts {
+        retention,
+        backups,
+        retired: None,
+    })
 }
 
-const NONE: u16 = 65_535;
+const NONE: u16 = NO_END;
 
 #[test]
 fn after_cases_a_to_d() {

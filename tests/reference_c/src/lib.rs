@@ -96,6 +96,22 @@ pub unsafe extern "C" fn reference_backup(
 }
 
 #[no_mangle]
+pub unsafe extern "C" fn reference_retire(
+    book: *mut u8,
+    book_len: usize,
+    spare: *mut u8,
+    spare_len: usize,
+    volume: u16,
+    day: u16,
+    cells: *mut u16,
+) -> u16 {
+    let book = from_raw_parts_mut(book, book_len);
+    let spare = from_raw_parts_mut(spare, spare_len);
+    let result = store::retire(book, spare, volume, day);
+    number(result, |answer| *cells = answer)
+}
+
+#[no_mangle]
 pub unsafe extern "C" fn reference_collect(
     book: *mut u8,
     book_len: usize,

@@ -29,8 +29,8 @@ type Key = (usize, u64, usize);
 struct Kept {
     stored: Stored,
     list: Vec<u8>,
-    /// The numbers of the next enrol, backup, collect, read and restore.
-    numbers: [[u16; 4]; 5],
+    /// The numbers of the next enrol, backup, collect, read, restore and retire.
+    numbers: [[u16; 4]; 6],
 }
 
 /// What `reference_make` made; the pointers are good until it is called again.
@@ -58,7 +58,7 @@ thread_local! {
 }
 
 /// Makes the box of a run, and disturbs its book so many times. `call` is one of the letters e, b, c,
-/// r and s, for enrol, backup, collect, read and restore; others send no numbers.
+/// r, s and t, for enrol, backup, collect, read, restore and retire; others send no numbers.
 #[no_mangle]
 pub extern "C" fn reference_make(shape: u8, seed: u16, calls: u8, disturbed: u8, call: u8) -> Made {
     let key = (
@@ -70,7 +70,7 @@ pub extern "C" fn reference_make(shape: u8, seed: u16, calls: u8, disturbed: u8,
         let kept = maker.kept.entry(key).or_insert_with(|| run(key));
         maker.book.clone_from(&kept.stored.book);
         disturb_often(&mut maker.book, seed, disturbed);
-        let kind = b"ebcrs".iter().position(|letter| *letter == call);
+        let kind = b"ebcrst".iter().position(|letter| *letter == call);
         Made {
             book: maker.book.as_ptr(),
             book_len: maker.book.len(),
@@ -88,7 +88,7 @@ fn run((shape, seed, calls): Key) -> Kept {
     let mut kept = Kept {
         stored: run.run(CALLS[calls]),
         list: Vec::new(),
-        numbers: [[0; 4]; 5],
+        numbers: [[0; 4]; 6],
     };
     let Run {
         volume,
@@ -97,7 +97,7 @@ fn run((shape, seed, calls): Key) -> Kept {
         length,
     } = run.restore(&mut Prng::seeded(seed));
     kept.numbers[4] = [volume, number, first, length];
-    let mut missing = vec![0, 1, 2, 3];
+    let mut missing = vec![0, 1, 2, 3, 5];
     while !missing.is_empty() {
         let (kind, numbers) = match run.next_call() {
             Call::Enrol { volume, retention } => (0, [volume, retention, 0, 0]),
@@ -111,6 +111,7 @@ fn run((shape, seed, calls): Key) -> Kept {
                 number,
                 lbn,
             } => (3, [volume, number, lbn, 0]),
+            Call::Retire { volume, day } => (5, [volume, day, 0, 0]),
             Call::Restore(_) | Call::Audit => continue,
         };
         kept.numbers[kind] = numbers;

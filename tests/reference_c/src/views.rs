@@ -47,11 +47,13 @@ pub unsafe extern "C" fn reference_volume(
     volume: u16,
     retention: *mut u16,
     backups: *mut u16,
+    retired: *mut u16,
 ) -> u16 {
     let book = from_raw_parts(book, book_len);
     number(store::volume(book, volume), |facts| {
         *retention = facts.retention;
         *backups = facts.backups;
+        *retired = facts.retired.unwrap_or(store::NO_END);
     })
 }
 

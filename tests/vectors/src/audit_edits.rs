@@ -4,6 +4,7 @@ use reference::cases::{fingerprint, two_records_in_a_slot};
 use reference::layout::{Book, Entry, Header, Lbn, Pbn, HELD, UNMAPPED};
 use reference::store::Fault;
 
+use crate::retired;
 use crate::vector::Meant::Totals;
 use crate::vector::{Edit, EditedBook, Vector};
 
@@ -16,10 +17,11 @@ pub fn edits() -> Vec<Faulty> {
     edits.extend(expiries());
     edits.extend(fingerprints());
     edits.extend(freed());
+    edits.extend(retired::faults());
     edits
 }
 
-fn faulty(
+pub(crate) fn faulty(
     name: &str,
     faults: &'static [Fault],
     change: impl Fn(&mut EditedBook) + Send + Sync + 'static,

@@ -1,7 +1,7 @@
 //! Header, retentions, entries, maps and records: each condition of form broken alone, and
 //! both ends of each range.
 
-use reference::layout::{Header, Lbn, Pbn, Slot, FREE, HELD, UNUSED_RECORD};
+use reference::layout::{Header, Lbn, Pbn, Slot, BACKUP, FREE, HELD, UNUSED_RECORD};
 
 use crate::vector::Meant::{Refused2, Totals};
 use crate::vector::{Edit, EditedBook, Meant};
@@ -61,7 +61,7 @@ fn use_record_as_slot(book: &mut EditedBook) {
         let next = slots.get(index + 1).map_or(3, |&(_, next)| next);
         let slot = Slot {
             volume: (index % 2) as u8,
-            zero: 0,
+            kind: BACKUP,
             day,
             first,
             number: next - first,

@@ -138,11 +138,11 @@ fn second_bytes() -> Vec<Edit> {
     let edit = |(index, byte)| {
         let name = format!("slot-{index}-second-byte-{byte}");
         Edit::new(name, Refused2, move |book| {
-            book.edit_slot(index, |slot| slot.zero = byte);
+            book.edit_slot(index, |slot| slot.kind = byte);
         })
     };
     let ones = (0..6).map(|index| (index, 1));
-    ones.chain([(3, 255)]).map(edit).collect()
+    ones.chain([(3, 2), (3, 255), (4, 2)]).map(edit).collect()
 }
 
 type SlotEdit = (&'static str, fn(&mut Slot));

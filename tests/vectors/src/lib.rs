@@ -5,6 +5,7 @@ mod audit_edits;
 mod form_edits;
 mod form_slots;
 mod layout_edits;
+mod retired;
 mod runs;
 pub mod seeds;
 mod sized;
@@ -17,6 +18,7 @@ pub fn edits() -> Vec<Edit> {
     let mut edits = layout_edits::edits();
     edits.extend(form_edits::edits());
     edits.extend(form_slots::edits());
+    edits.extend(retired::edits());
     edits.extend(audit_edits::edits().into_iter().map(|(edit, _)| edit));
     edits
 }

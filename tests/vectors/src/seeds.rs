@@ -154,6 +154,8 @@ fn list(fresh: bool) -> Vec<u8> {
         restore(1, 4),
         Call::Collect { day },
         read(1),
+        Call::Retire { volume: 1, day },
+        Call::Retire { volume: 1, day },
         Call::Audit,
     ]);
     encode(&calls)

@@ -1,6 +1,8 @@
 //! Books and other inputs at the ends of what tally takes: by sizes and by length.
 
-use reference::layout::{self, Book, Entry, Header, Lbn, Pbn, Record, Sizes, Slot, HELD};
+use reference::layout::{
+    self, Book, Entry, Header, Lbn, Pbn, Record, Sizes, Slot, BACKUP, HELD, RETIREMENT, UNMAPPED,
+};
 use reference::refusal::Refusal;
 use reference::tally::INPUT_MAX;
 
@@ -34,7 +36,7 @@ const MOST_BLOCKS: Sizes = sizes(3_117, 1, 1, 1);
 pub fn vectors() -> Vec<Vector> {
     let mut vectors = books();
     vectors.extend(long_inputs());
-    for (name, book, _) in long_books() {
+    for (name, book, _) in long_books().into_iter().chain(long_retired()) {
         vectors.push(Vector::new(name, book, Refused1));
     }
     vectors.extend(inputs_of_one_byte());
@@ -92,8 +94,9 @@ fn longest_page() -> Vec<u8> {
     bytes
 }
 
-/// The largest book with all slots and records used, its numbers at the ends of their ranges.
-fn largest_used(last: Record) -> Vec<u8> {
+/// The largest book with all slots and records used, its numbers at the ends of their ranges. The last
+/// slot is of this kind, and its records but the last are, too.
+fn largest_used(kind: u8, last: Record) -> Vec<u8> {
     let mut bytes = all_held(LARGEST, 65_535);
     let mut book = Book::over(&mut bytes[..]);
     book.set_header(Header::SlotsUsed, 1_024);
@@ -104,7 +107,7 @@ fn largest_used(last: Record) -> Vec<u8> {
     for index in 0..1_024 {
         let slot = Slot {
             volume: 7,
-            zero: 0,
+            kind: if index < 1_023 { BACKUP } else { kind },
             day: 58 * index,
             first: 16 * index,
             number: 16,
@@ -115,6 +118,11 @@ fn largest_used(last: Record) -> Vec<u8> {
         book.set_record(index, LAST);
     }
     book.set_record(16_383, last);
+    if kind == RETIREMENT {
+        for index in 16_368..16_383 {
+            book.edit_record(index, |record| record.after = UNMAPPED);
+        }
+    }
     bytes
 }
 
@@ -174,15 +182,40 @@ fn long_books() -> Vec<(&'static str, Vec<u8>, Result<(), Refusal>)> {
         ("blocks-4096", fresh(sizes(4_096, 4, 6, 8)), Ok(())),
         ("records-16384", fresh(sizes(4, 4, 6, 16_384)), Ok(())),
         ("largest", book_of(LARGEST), Ok(())),
-        ("largest-used", largest_used(LAST), Ok(())),
+        ("largest-used", largest_used(BACKUP, LAST), Ok(())),
         (
             "largest-used-last-before-0",
-            largest_used(before_first),
+            largest_used(BACKUP, before_first),
             Ok(()),
         ),
         (
             "largest-used-last-after-n",
-            largest_used(after_no_block),
+            largest_used(BACKUP, after_no_block),
+            Err(Refusal::Form),
+        ),
+    ]
+}
+
+/// The last slot a retirement, and one whose last record isn't as the others.
+fn long_retired() -> Vec<(&'static str, Vec<u8>, Result<(), Refusal>)> {
+    let after_unmapped = Record {
+        after: UNMAPPED,
+        ..LAST
+    };
+    vec![
+        (
+            "largest-used-last-unmapped",
+            largest_used(BACKUP, after_unmapped),
+            Err(Refusal::Form),
+        ),
+        (
+            "largest-retired",
+            largest_used(RETIREMENT, after_unmapped),
+            Ok(()),
+        ),
+        (
+            "largest-retired-last-mapped",
+            largest_used(RETIREMENT, LAST),
             Err(Refusal::Form),
         ),
     ]
@@ -201,12 +234,12 @@ fn inputs_of_one_byte() -> Vec<Vector> {
 
 #[cfg(test)]
 mod tests {
-    use super::long_books;
+    use super::{long_books, long_retired};
     use reference::form;
 
     #[test]
     fn form_says_of_each_long_book_what_is_meant() {
-        for (name, book, meant) in long_books() {
+        for (name, book, meant) in long_books().into_iter().chain(long_retired()) {
             assert_eq!(form::check(&book).map(|_| ()), meant, "{name}");
         }
     }

@@ -5,15 +5,16 @@ use mathlib.Core.Bool.{Bool, true, false, _&&_}
 use mathlib.Core.List.{List, [], _∷_}
 use lib.ListN.{length, getD, set}
 use lib.Dec.{leb, eqb}
+use Rattle.words.specs.Choice.{if_then_else_}
 use Rattle.words.specs.Lists.{someOf, countOf, joined}
 use Rattle.book.specs.Book.{Book, entryAt, retentionOf, Sized}
 use Rattle.book.specs.Form.{sizesOk, bookOk}
 use Rattle.model.specs.Pool.{poolSize}
 use Rattle.model.specs.Journal.{Backup, journal}
 use Rattle.model.specs.Audit.{applied, replayed, noMaps, hasBefore, dueOf, untilIn, printsSound}
-use Rattle.model.specs.Plain.{image, Taken, Plain}
+use Rattle.model.specs.Plain.{image, retirement, Taken, Plain}
 use Rattle.model.specs.Sides.{blocksIn}
-use Rattle.claims.proofs.kept.Sound.{SoundAll, Days, AllRise}
+use Rattle.claims.proofs.kept.Sound.{SoundAll, Days, AllRise, EmptiedAll}
 
 -- a book whose bytes are in form
 pub record Fit (x : Book) : Type 0 where
@@ -21,20 +22,32 @@ pub record Fit (x : Book) : Type 0 where
   pub sizes : sizesOk (x .sizes) ≡ true
   pub form : bookOk x ≡ true
 
--- what the plain store takes by a backup, from the volume's map before it
+-- what the plain store takes by a slot, from the volume's map before it
 abbrev pub takenBy : List ℕ → Backup → Taken
-takenBy m b = record { volume = b .volume; day = b .day; what = image (applied m (b .records)); changes = length (b .records) }
+takenBy m b = record {
+  volume = b .volume;
+  day = b .day;
+  what = if b .retire then retirement else image (applied m (b .records));
+  changes = length (b .records);
+}
 
--- .. by all backups of a journal, from all volumes' maps before them
+-- .. by all slots of a journal, from all volumes' maps before them
 abbrev pub takenFrom : List (List ℕ) → List Backup → List Taken
 takenFrom ms [] = []
 takenFrom ms (b ∷ bs) =
     takenBy (getD ms (b .volume) []) b ∷ takenFrom (set ms (b .volume) (applied (getD ms (b .volume) []) (b .records))) bs
 
--- .. by one volume's backups, from its map before them
+-- .. by one volume's slots, from its map before them
+abbrev pub takenIn : List ℕ → List Backup → List Taken
+takenIn m [] = []
+takenIn m (b ∷ bs) = takenBy m b ∷ takenIn (applied m (b .records)) bs
+
+-- the same, were each of them a backup
 abbrev pub imagesOf : List ℕ → List Backup → List Taken
 imagesOf m [] = []
-imagesOf m (b ∷ bs) = takenBy m b ∷ imagesOf (applied m (b .records)) bs
+imagesOf m (b ∷ bs) =
+    record { volume = b .volume; day = b .day; what = image (applied m (b .records)); changes = length (b .records) }
+    ∷ imagesOf (applied m (b .records)) bs
 
 -- the maps whose cells the counts count
 abbrev pub countedMaps : Book → List (List ℕ)
@@ -63,6 +76,8 @@ pub record Agree (x : Book) (pool : List ℕ) (q : Plain) : Type 0 where
   pub sound : SoundAll (noMaps x) (journal x)
   pub days : Days 0 (journal x) (x .day)
   pub rising : AllRise (journal x)
+  -- a retired volume's map is all unmapped
+  pub emptied : EmptiedAll (x .sizes .l) (noMaps x) (journal x)
   -- the entries
   pub counts : (p : ℕ) → p < x .sizes .n → entryAt (x .entries) p .count ≡ named x p
   pub expiries : (p : ℕ) → p < x .sizes .n → entryAt (x .entries) p .expiry ≡ untilIn x p (journal x)

@@ -12,7 +12,7 @@ use Rattle.book.specs.Book.{volumes, Rec, Book, cellAt, retentionOf}
 use Rattle.book.specs.Form.{pbnOk}
 use Rattle.book.proofs.Clauses.{book-parts}
 use Rattle.model.specs.Days.{kept}
-use Rattle.model.specs.Journal.{Backup, journal, days}
+use Rattle.model.specs.Journal.{Backup, journal, days, backupCount}
 use Rattle.model.specs.Read.{image}
 use Rattle.model.specs.Audit.{applied, noMaps, printsSound, cellSound, audit}
 use Rattle.claims.specs.Claims.{BeforesIn, Befores, Holds}
@@ -48,7 +48,7 @@ module _ {x : Book} {pool : List ℕ} {q : Plain} (g : Agree x pool q) where
       in
       cell-holds x (cellAt (x .maps) v l) .0 (current-held g v l (rw (g .fit .sized .maps) at h) ok)
 
-  kept-holds : (v k l : ℕ) → v < volumes → 1 ≤ k → k ≤ length (days x v)
+  kept-holds : (v k l : ℕ) → v < volumes → 1 ≤ k → k ≤ backupCount x v
       → kept (days x v) (retentionOf x v) (x .day) k ≡ true → Holds x (image x v k l)
   kept-holds v zero l h a b e = absurd (omega arith)
   kept-holds v (suc k) l h a b e =

@@ -8,23 +8,23 @@ use lib.Dec.{eqb, leb·zero}
 use lib.ListN.{length, getD, set, replicate, length-map}
 use Rattle.words.specs.Blocks.{unmapped}
 use Rattle.words.specs.Choice.{if_then_else_}
-use Rattle.words.proofs.ChoiceLaws.{and-false, or-no}
+use Rattle.words.proofs.ChoiceLaws.{and-false, or-no, not-both}
 use Rattle.words.specs.Lists.{joined, countOf}
 use Rattle.runs.specs.Changes.{Change, changeCount, changes}
 use Rattle.runs.proofs.Laws.{length-changes, changes-rise}
 use Rattle.book.specs.Book.{volumes, Sizes, Slot, Rec, Book, entryAt, retentionOf}
 use Rattle.book.specs.Next.{withDay, withSlot}
 use Rattle.book.proofs.Clauses.{book-parts}
-use Rattle.model.specs.Journal.{Backup, journalOf, journal, backups, days}
+use Rattle.model.specs.Journal.{Backup, journalOf, journal, slotsOf, days}
 use Rattle.model.specs.Audit.{applied, replayed, noMaps, hasBefore, dueOf, untilIn, printsSound}
 use Rattle.model.specs.Backup.{Work, untilNext, closed}
 use Rattle.model.specs.Plain
 use Rattle.model.specs.Plain.{image, Taken, Plain, withBlocks, withTaken}
 use Rattle.model.specs.PlainBackup
 use Rattle.model.specs.PlainBackup.{PlainWork}
-use Rattle.claims.proofs.kept.Sound.{SoundAll, Days, Rising, AllRise}
+use Rattle.claims.proofs.kept.Sound.{SoundAll, Days, Rising, AllRise, EmptiedAll}
 use Rattle.claims.proofs.agreement.Agree.{Fit, Agree, takenFrom, named, reaches}
-use Rattle.claims.proofs.kept.JournalLaws.{added, journal-append, replayed-append, soundAll-append, days-append}
+use Rattle.claims.proofs.kept.JournalLaws.{added, journal-append, replayed-append, soundAll-append, days-append, emptied-append}
 use Rattle.claims.proofs.kept.JournalLaws.{allRise-append, untilIn-append, untilIn-book, reaches-append}
 use Rattle.claims.proofs.kept.Replays.{takenFrom-append, last-day}
 use Rattle.claims.proofs.kept.Reaches.{reached-earlier}
@@ -55,7 +55,7 @@ module _ {x : Book} {pool : List ℕ} {q : Plain} (g : Agree x pool q) (v t : �
   q′ = PlainBackup.closed q v t (changeCount list) u .store
 
   abbrev slot : Slot
-  slot = record { volume = v; day = t; first = length (x .records); number = changeCount list }
+  slot = record { volume = v; retire = false; day = t; first = length (x .records); number = changeCount list }
 
   -- the backup that is added
   abbrev b : Backup
@@ -117,6 +117,13 @@ module _ {x : Book} {pool : List ℕ} {q : Plain} (g : Agree x pool q) (v t : �
       ∙ sym (takenFrom-append (noMaps x) (journal x) (b ∷ []))
       ∙ sym (ap₂ takenFrom noMaps-after journal-after)
 
+  -- a backup retires nothing
+  emptied-after : EmptiedAll (y .sizes .l) (noMaps y) (journal y)
+  unfolding EmptiedAll closed withDay withSlot
+  emptied-after =
+      rw (noMaps-after, journal-after, a .sizes)
+      (emptied-append (x .sizes .l) (noMaps x) (journal x) (b ∷ []) (g .emptied) (λ e. absurd (not-both false e refl), tt))
+
   days-after : Days 0 (journal y) t
   days-after = rw journal-after (days-append 0 (x .day) (journal x) b (g .days) (ok .day))
 
@@ -139,7 +146,7 @@ module _ {x : Book} {pool : List ℕ} {q : Plain} (g : Agree x pool q) (v t : �
 
   -- the new backup counts from the volume's last one before it
   due-new : dueOf (retentionOf x v) b ≡ untilNext x v
-  unfolding days backups journal
+  unfolding days slotsOf journal
   due-new = ap (λ (d : ℕ). d + retentionOf x v) (last-day v [] (x .slots) (x .records))
 
   expiry-after : (p : ℕ) → p < x .sizes .n → entryAt (w .book .entries) p .expiry ≡ untilIn y p (journal y)
@@ -187,6 +194,7 @@ module _ {x : Book} {pool : List ℕ} {q : Plain} (g : Agree x pool q) (v t : �
         sound = sound-after;
         days = days-after;
         rising = rising-after;
+        emptied = emptied-after;
         counts = λ p h. a .counts p (omega arith) ∙ sym (named-after p);
         expiries = λ p h. expiry-after p (omega arith);
         used = λ first p h. used-after first p (omega arith);

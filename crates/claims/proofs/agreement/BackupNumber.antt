@@ -8,13 +8,13 @@ use lib.ListN.{length}
 use Rattle.runs.specs.Changes.{changeCount, listNumber}
 use Rattle.book.specs.Book.{Book}
 use Rattle.model.specs.Days.{badDay, notAfter}
-use Rattle.model.specs.Journal.{days, noVolume}
+use Rattle.model.specs.Journal.{days, noLiving}
 use Rattle.model.specs.Backup.{backupNumber}
 use Rattle.model.specs.Plain.{Plain, takenOf, daysOf}
 use Rattle.model.specs.PlainBackup
 use Rattle.model.specs.PlainBackup.{changesIn}
 use Rattle.claims.proofs.agreement.Agree.{Agree}
-use Rattle.claims.proofs.agreement.AgreeLaws.{volume-inside, days-agree, noVolume-agree}
+use Rattle.claims.proofs.agreement.AgreeLaws.{living-inside, days-agree, noLiving-agree}
 use Rattle.claims.proofs.form.BackupAllowed.{ladder}
 use Rattle.claims.proofs.agreement.SoFar.{taken-so-far, changes-so-far}
 
@@ -35,13 +35,13 @@ module _ {x : Book} {pool : List ℕ} {q : Plain} (g : Agree x pool q) (v t : �
 
   pub number-agree : PlainBackup.backupNumber q v t list ≡ backupNumber x v t list
   unfolding backupNumber PlainBackup.backupNumber
-  number-agree = ap plainNumber (noVolume-agree g v) ∙ go (noVolume x v) refl
+  number-agree = ap plainNumber (noLiving-agree g v) ∙ go (noLiving x v) refl
     where
-      go : (s : Bool) → noVolume x v ≡ s → plainNumber s ≡ ourNumber s
+      go : (s : Bool) → noLiving x v ≡ s → plainNumber s ≡ ourNumber s
       go true e = refl
       go false e =
           ladder-same false _ _ _ _ _ _ _ _
-          (ap₂ (λ (d : ℕ) (ds : List ℕ). badDay d t || notAfter ds t) (g .day) (days-agree g v (volume-inside x v e)))
+          (ap₂ (λ (d : ℕ) (ds : List ℕ). badDay d t || notAfter ds t) (g .day) (days-agree g v (living-inside x v e)))
           (ap (λ z. not (eqb (listNumber (z .l) list) 0)) (g .sizes))
           (ap₂ leb (ap (λ z. z .s) (g .sizes)) (taken-so-far g))
           (ap₂ (λ (j k : ℕ). ltb j (k + changeCount list)) (ap (λ z. z .j) (g .sizes)) (changes-so-far g))

@@ -100,6 +100,7 @@ module _ {x : Book} {pool : List ℕ} {q : Plain} (g : Agree x pool q) where
     sound = g .sound;
     days = days-later 0 (x .day) t (journal x) (g .days) (collect-days x t .0 ok .0);
     rising = g .rising;
+    emptied = g .emptied;
     counts = count-after t;
     expiries = λ p h. expiry-after t p h ∙ sym (untilIn-book x (collected x t .book) p (journal x) refl);
     used = λ first p h k. let late = collect-days x t .0 ok .0 in g .used (omega arith) p h (held-after t p h k);

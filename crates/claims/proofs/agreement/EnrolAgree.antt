@@ -5,7 +5,7 @@ use mathlib.Core.Logic.{_≢_}
 use mathlib.Core.Bool.{Bool, true, false, _||_}
 use mathlib.Core.List.{List, [], _∷_}
 use native.Mathlib.Omega.{arith}
-use lib.Dec.{leb, ltb}
+use lib.Dec.{ltb}
 use lib.ListN.{set, drop}
 use lib.Seq.{getD-set-other}
 use borrow.Author.Tests.{ltb-false}
@@ -16,6 +16,7 @@ use Rattle.book.specs.Book.{volumes, Slot, Rec, Book}
 use Rattle.book.specs.Form.{enrolled, slotOk}
 use Rattle.book.specs.Next.{withRetention}
 use Rattle.book.proofs.Clauses.{book-parts}
+use Rattle.book.proofs.Conditions.{slot-facts}
 use Rattle.model.specs.Days.{badRetention}
 use Rattle.model.specs.Journal.{Backup, journalOf, journal}
 use Rattle.model.specs.Enrol.{enrolNumber}
@@ -47,11 +48,11 @@ module _ (x : Book) (v r : ℕ) where
 -- "used slots name enrolled volumes"
 slots-apart : (x : Book) (v : ℕ) (gone ts : List Slot) (rs : List Rec) → enrolled x v ≡ false → all (slotOk x) ts ≡ true
     → Apart v (journalOf gone ts rs)
-unfolding Apart slotOk
+unfolding Apart
 slots-apart x v gone [] rs n e = tt
 slots-apart x v gone (t ∷ ts) rs n e =
     let w = and-true (slotOk x t) (all (slotOk x) ts) e in
-    let on = and-true (enrolled x (t .volume)) (leb (t .day) (x .day)) (w .0) .0 in
+    let on = slot-facts x t (w .0) .0 in
     (λ q. not-both (enrolled x v) (rw q at on) n, slots-apart x v (t ∷ gone) ts (drop (t .number) rs) n (w .1))
 
 -- ---- enrol
@@ -87,6 +88,7 @@ module _ {x : Book} {pool : List ℕ} {q : Plain} (g : Agree x pool q) where
     sound = g .sound;
     days = g .days;
     rising = g .rising;
+    emptied = g .emptied;
     counts = g .counts;
     expiries = λ p h. g .expiries p h ∙ sym (apart-until x v r p (journal x) apart);
     used = λ z p h k n. apart-reaches x v r 0 p (journal x) apart ∙ g .used z p h k n;

@@ -19,7 +19,7 @@ use Rattle.model.specs.Audit.{noMaps, printsSound}
 use Rattle.model.specs.Plain.{Block, free, start, names}
 use Rattle.model.specs.Sides.{blocksIn}
 use Rattle.claims.proofs.agreement.Agree.{Fit, Agree, named, reaches}
-use Rattle.claims.proofs.kept.Sound.{SoundAll, Days, AllRise}
+use Rattle.claims.proofs.kept.Sound.{SoundAll, Days, AllRise, EmptiedAll}
 use Rattle.claims.proofs.kept.Marks.{named-none, pbn-mapped}
 
 free-blocks : (n : ℕ) (pool : List ℕ) → replicate n free ≡ blocksIn (replicate n freeEntry) pool
@@ -41,7 +41,7 @@ unnamed z p ok h =
 
 pub fresh-agree : (z : Sizes) (pool : List ℕ) → sizesOk z ≡ true → length pool ≡ poolSize (z .n) → Fit (fresh z)
     → Agree (fresh z) pool (start z)
-unfolding fresh start journal noMaps reaches printsSound SoundAll Days AllRise freeEntry
+unfolding fresh start journal noMaps reaches printsSound SoundAll Days AllRise EmptiedAll freeEntry
 fresh-agree z pool ok long fit = record {
   fit = fit;
   poolLong = long;
@@ -55,6 +55,7 @@ fresh-agree z pool ok long fit = record {
   sound = tt;
   days = omega arith;
   rising = tt;
+  emptied = tt;
   counts = λ p h. ap (λ (e : Entry). e .count) (getD-replicated (z .n) freeEntry p) ∙ sym (unnamed z p ok h);
   expiries = λ p h. ap (λ (e : Entry). e .expiry) (getD-replicated (z .n) freeEntry p);
   used = λ first p h k n. sym (ap (λ (e : Entry). e .held) (getD-replicated (z .n) freeEntry p)) ∙ k;

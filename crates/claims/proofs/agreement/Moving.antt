@@ -41,7 +41,7 @@ module _ (until before : ℕ) (es : List Entry) where
       go true = refl
       go false = getD-set-kept f es before (lowered until (entryAt es before)) freeEntry (k (entryAt es before)) q
 
-  lower-blocks : (pool : List ℕ) → blocksIn (lower until before es) pool ≡ blocksIn es pool
+  pub lower-blocks : (pool : List ℕ) → blocksIn (lower until before es) pool ≡ blocksIn es pool
   unfolding lower lowered countAs expiryAs
   lower-blocks pool = go (eqb before unmapped)
     where
@@ -52,7 +52,7 @@ module _ (until before : ℕ) (es : List Entry) where
   abbrev printsIn : List Entry → List (List ℕ)
   printsIn l = map (λ (e : Entry). e .print) (those (λ (e : Entry). e .held) l)
 
-  lower-prints : printsIn (lower until before es) ≡ printsIn es
+  pub lower-prints : printsIn (lower until before es) ≡ printsIn es
   unfolding lower lowered countAs expiryAs
   lower-prints = go (eqb before unmapped)
     where
@@ -61,7 +61,7 @@ module _ (until before : ℕ) (es : List Entry) where
       go false = prints-kept es before (lowered until (entryAt es before)) refl refl
 
   -- the lowered entry is before's, and no other
-  lower-at : (q : ℕ) → q < unmapped → (before ≢ unmapped → before < length es)
+  pub lower-at : (q : ℕ) → q < unmapped → (before ≢ unmapped → before < length es)
       → entryAt (lower until before es) q ≡ (if eqb q before then lowered until (entryAt es q) else entryAt es q)
   unfolding lower
   lower-at q small k = go (eqb before unmapped) refl

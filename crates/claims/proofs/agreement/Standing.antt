@@ -5,7 +5,6 @@ use mathlib.Core.Path.{_≡_, refl, sym, ap, ap₂, _∙_}
 use mathlib.Core.Bool.{Bool, true, false, not, _||_}
 use mathlib.Core.List.{List, [], _∷_}
 use lib.Dec.{leb, ltb, eqb}
-use lib.ListN.{length}
 use Rattle.words.specs.Blocks.{unmapped}
 use Rattle.words.specs.Choice.{if_then_else_}
 use Rattle.words.specs.Lists.{all}
@@ -23,7 +22,7 @@ use Rattle.model.specs.Backup.{Backed}
 use Rattle.model.specs.Backup
 use Rattle.claims.proofs.agreement.BackupAgree.{BothBacked, backup-agree}
 use Rattle.claims.proofs.form.BackupFit.{backup-fit}
-use Rattle.model.specs.Calls.{Call, enrol, backup, collect, read, audit, Answer}
+use Rattle.model.specs.Calls.{Call, enrol, backup, collect, read, audit, Answer, retire}
 use Rattle.claims.specs.Claims.{isDamage, saysDamage}
 use Rattle.model.specs.Collect
 use Rattle.model.specs.Collect.{collected, collectNumber}
@@ -34,17 +33,23 @@ use Rattle.model.specs.Enrol.{enrolNumber}
 use Rattle.model.specs.Enrol
 use Rattle.claims.proofs.agreement.EnrolAgree.{enrol-number, enrol-agree}
 use Rattle.claims.proofs.form.EnrolFit.{enrol-fit}
-use Rattle.model.specs.Journal.{days, noVolume}
-use Rattle.model.specs.OnBytes.{backedBytes, collectedBytes}
-use Rattle.claims.proofs.form.OnBytesFit.{enrol-on-bytes, collect-on-bytes, audit-on-bytes, read-on-bytes, backup-on-bytes}
+use Rattle.model.specs.Journal.{days, noVolume, backupCount}
+use Rattle.model.specs.OnBytes.{backedBytes, collectedBytes, retiredBytes}
+use Rattle.claims.proofs.form.OnBytesFit.{enrol-on-bytes, collect-on-bytes, audit-on-bytes, read-on-bytes, backup-on-bytes, retire-on-bytes}
 use Rattle.model.specs.Plain
 use Rattle.model.specs.Plain.{Plain}
 use Rattle.model.specs.PlainBackup
 use Rattle.model.specs.PlainBackup.{PlainBacked}
 use Rattle.claims.proofs.agreement.ReadAgree.{read-agree}
 use Rattle.model.specs.Read
-use Rattle.model.specs.Sides.{Step, answersOf, endOf, Changed, answerOf, stepOf, readAnswer, auditAnswer}
+use Rattle.model.specs.Retire
+use Rattle.model.specs.Retire.{Retired}
+use Rattle.model.specs.PlainRetire
+use Rattle.model.specs.PlainRetire.{PlainRetired}
+use Rattle.model.specs.Sides.{Step, answersOf, endOf, Changed, answerOf, stepOf, readAnswer, auditAnswer, retiredTo, storeRetired}
 use Rattle.model.specs.Sides.{Ours, enrolledTo, backedTo, collectedTo, ours, storeEnrolled, storeBacked, storeCollected, plain}
+use Rattle.claims.proofs.agreement.RetireAgree.{BothRetired, retire-agree}
+use Rattle.claims.proofs.form.RetireFit.{retire-fit}
 
 module _ (z : Sizes) where
   -- the book is the bytes of a book of these sizes that agrees with the plain store
@@ -118,7 +123,7 @@ collect-undamaged x t = go (badDay (x .day) t)
 read-undamaged : (x : Book) (v k lbn : ℕ) → isDamage (Read.readNumber x v k lbn) ≡ false
 unfolding Read.readNumber
 read-undamaged x v k lbn =
-    go (noVolume x v) (eqb k 0 || ltb (length (days x v)) k) (not (kept (days x v) (retentionOf x v) (x .day) k)) (leb (x .sizes .l) lbn)
+    go (noVolume x v) (eqb k 0 || ltb (backupCount x v) k) (not (kept (days x v) (retentionOf x v) (x .day) k)) (leb (x .sizes .l) lbn)
     (eqb (Read.image x v k lbn) unmapped)
   where
     go : (a b c d e : Bool) → isDamage (if a then 5 else if b then 15 else if c then 16 else if d then 17 else if e then 18 else 0) ≡ false
@@ -193,11 +198,25 @@ module _ (z : Sizes) (spare : ℕ) (enough : bookSize z ≤ spare) {x : Book} {p
           changed _ _ (λ i. sym (h .number) i ∷ sym (h .taken) i ∷ sym (h .touched) i ∷ [])
           (stand (d .book) (d .pool) (f .store) (h .agree (fits .fit)) (fits .sizes ∙ sizes))
 
+  retire-alike : (v t : ℕ) → Alike z (ours spare here (retire v t)) (plain q (retire v t))
+  unfolding ours plain retiredBytes
+  retire-alike v t =
+      rw (retire-on-bytes (fit-form (g .fit)) (fit-book (g .fit)) (length-bytes x) spare (rw sizes enough) v t)
+      (changed-alike z standing _ _ (go (Retire.retire x v t) refl (PlainRetire.retire q v t) (retire-agree g v t)))
+    where
+      go : (a : Outcome Retired) → Retire.retire x v t ≡ a → (b : Outcome PlainRetired) → BothRetired pool a b
+          → BothChanged z (andThen (andThen a (λ d. accepted (retiredBytes d))) (retiredTo here)) (andThen b storeRetired)
+      go a e b (BothRetired.stopped k d) = stopped k d
+      go a e b (BothRetired.retires d f h) =
+          let fits = retire-fit (g .fit) v t d e in
+          changed _ _ (ap (λ (k : ℕ). k ∷ []) (h .cells)) (stand (d .book) pool (f .store) (h .agree (fits .fit)) (fits .sizes ∙ sizes))
+
 module _ (z : Sizes) (spare : ℕ) (enough : bookSize z ≤ spare) where
   pub call-alike : {o : Ours} {q : Plain} → Stand z o q → (c : Call) → Alike z (ours spare o c) (plain q c)
   call-alike (stand x pool q g e) (enrol v r) = enrol-alike z spare enough g e v r
   call-alike (stand x pool q g e) (backup v t list) = backup-alike z spare enough g e v t list
   call-alike (stand x pool q g e) (collect t) = collect-alike z spare enough g e t
+  call-alike (stand x pool q g e) (retire v t) = retire-alike z spare enough g e v t
   call-alike (stand x pool q g e) (read v k lbn) = read-alike z spare enough g e v k lbn
   call-alike (stand x pool q g e) audit = audit-alike z spare enough g e
 

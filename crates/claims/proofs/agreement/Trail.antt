@@ -52,7 +52,8 @@ pub record Trail (x : Book) (v until : ℕ) (ds : List Change) (w : Work) (u : P
 
 -- ---- small laws
 
-later : (e t : ℕ) (a b : Bool) → max (max e (if a then t else 0)) (if b then t else 0) ≡ max e (if a || b then t else 0)
+-- an expiry that was raised before
+pub later : (e t : ℕ) (a b : Bool) → max (max e (if a then t else 0)) (if b then t else 0) ≡ max e (if a || b then t else 0)
 later e t true true = omega arith
 later e t true false = omega arith
 later e t false true = omega arith

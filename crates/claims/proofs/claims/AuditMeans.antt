@@ -17,7 +17,7 @@ use Rattle.words.proofs.Same.{same-self, same-equal}
 use Rattle.words.proofs.Tests.{surely-not}
 use Rattle.book.specs.Book.{volumes, Entry, Rec, Book, entryAt, cellAt, retentionOf}
 use Rattle.model.specs.Days
-use Rattle.model.specs.Journal.{Backup, journal, days}
+use Rattle.model.specs.Journal.{Backup, journal, days, backupCount}
 use Rattle.model.specs.Read.{image}
 use Rattle.model.specs.Audit.{applied, replayed, beforesIn, befores, noMaps, sameMap, mapsSound, countSound, untilIn, expirySound}
 use Rattle.model.specs.Audit.{printsSound, cellSound, currentSound, backupSound, backupsSound, audit}
@@ -169,17 +169,17 @@ module _ (x : Book) where
       go false = (λ e l z. absurd (not-both false z refl), λ g. refl)
 
   backups-mean : (backupsSound x ≡ true)
-      ↔ ((v k l : ℕ) → v < volumes → 1 ≤ k → k ≤ length (days x v)
+      ↔ ((v k l : ℕ) → v < volumes → 1 ≤ k → k ≤ backupCount x v
       → Days.kept (days x v) (retentionOf x v) (x .day) k ≡ true → l < x .sizes .l → Holds x (image x v k l))
   unfolding backupsSound
   backups-mean = (
     λ e v k l h a b z. backup-means v k .0
-        (upFrom-all (backupSound x v) 1 (length (days x v))
-        (upFrom-all (λ v. all (backupSound x v) (upFrom 1 (length (days x v)))) 0 volumes e v (omega arith)
+        (upFrom-all (backupSound x v) 1 (backupCount x v)
+        (upFrom-all (λ v. all (backupSound x v) (upFrom 1 (backupCount x v))) 0 volumes e v (omega arith)
         (omega arith)) k a (omega arith))
         l z,
-    λ g. all-upFrom (λ v. all (backupSound x v) (upFrom 1 (length (days x v)))) 0 volumes
-        (λ v _ h. all-upFrom (backupSound x v) 1 (length (days x v))
+    λ g. all-upFrom (λ v. all (backupSound x v) (upFrom 1 (backupCount x v))) 0 volumes
+        (λ v _ h. all-upFrom (backupSound x v) 1 (backupCount x v)
         (λ k a b. backup-means v k .1 (λ l. g v k l (omega arith) a (omega arith)))),
   )
 

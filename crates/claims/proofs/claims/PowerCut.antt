@@ -22,10 +22,10 @@ use Rattle.model.specs.Backup.{Backed}
 use Rattle.claims.proofs.agreement.BackupAgree.{BothBacked, stopped, backed, backup-agree}
 use Rattle.claims.proofs.form.BackupFit.{backup-fit}
 use Rattle.claims.proofs.agreement.BlocksIn.{blocksIn-at, length-blocksIn, held-inside}
-use Rattle.model.specs.Calls.{Call, enrol, backup, collect, read, audit}
+use Rattle.model.specs.Calls.{Call, enrol, backup, collect, read, audit, retire}
 use Rattle.claims.specs.Claims.{Fresh, plainAnswers, plainEnd}
 use Rattle.model.specs.History.{historyOf, dayOf}
-use Rattle.model.specs.OnBytes.{backedBytes, enrolBytes, collectBytes}
+use Rattle.model.specs.OnBytes.{backedBytes, enrolBytes, collectBytes, retireBytes}
 use Rattle.claims.proofs.form.OnBytesFit.{backup-on-bytes}
 use Rattle.model.specs.Plain.{Block, free, held, Plain, start, atDay, withBlocks, withTaken}
 use Rattle.model.specs.PlainBackup.{PlainWork, place, moved, changeStep, runChanges, begun, closed, backupNumber}
@@ -73,6 +73,7 @@ agree-pool {x} {pool} {pool′} {q} g l h = record {
   sound = g .sound;
   days = g .days;
   rising = g .rising;
+  emptied = g .emptied;
   counts = g .counts;
   expiries = g .expiries;
   used = g .used;
@@ -185,6 +186,7 @@ module _ (spare : ℕ) {x : Book} {pool : List ℕ} {q : Plain} (g : Agree x poo
   call-serves (enrol v r) = rw (book-alone (enrolBytes (bytes x) v r) (λ b. b) (λ b. [])) serves-same
   call-serves (backup v t list) = backup-serves v t list
   call-serves (collect t) = rw (book-alone (collectBytes (bytes x) t) (λ d. d .book) (λ d. d .freed ∷ [])) serves-same
+  call-serves (retire v t) = rw (book-alone (retireBytes (bytes x) spare v t) (λ d. d .book) (λ d. d .cells ∷ [])) serves-same
   call-serves (read v k lbn) = serves-same
   call-serves audit = serves-same
 

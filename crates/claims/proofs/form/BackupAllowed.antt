@@ -13,12 +13,13 @@ use Rattle.runs.specs.Changes.{changeCount, listNumber}
 use Rattle.book.specs.Book.{Book}
 use Rattle.model.specs.Days.{badDay, notAfter}
 use Rattle.claims.proofs.kept.DayLaws.{good-day}
-use Rattle.model.specs.Journal.{days, noVolume}
+use Rattle.model.specs.Journal.{days, isRetired, noVolume, noLiving}
 use Rattle.model.specs.Backup.{backupNumber}
 use Rattle.claims.specs.Claims.{isDamage}
 
 pub record Allowed (x : Book) (v t : ℕ) (list : List ℕ) : Type 0 where
   pub volume : noVolume x v ≡ false
+  pub living : isRetired x v ≡ false
   pub day : x .day ≤ t
   pub last : t ≤ 60000
   pub after : notAfter (days x v) t ≡ false
@@ -49,14 +50,16 @@ ladder-damage false false false false false = refl
 
 module _ (x : Book) (v t : ℕ) (list : List ℕ) where
   pub number-zero : backupNumber x v t list ≡ 0 → Allowed x v t list
-  unfolding backupNumber
+  unfolding backupNumber noLiving
   number-zero z =
-      let l = ladder-zero (noVolume x v) (badDay (x .day) t || notAfter (days x v) t) (not (eqb (listNumber (x .sizes .l) list) 0))
+      let l = ladder-zero (noLiving x v) (badDay (x .day) t || notAfter (days x v) t) (not (eqb (listNumber (x .sizes .l) list) 0))
       (leb (x .sizes .s) (length (x .slots))) (ltb (x .sizes .j) (length (x .records) + changeCount list)) z in
+      let n = or-neither (noVolume x v) (isRetired x v) (l .0) in
       let d = or-neither (badDay (x .day) t) (notAfter (days x v) t) (l .1) in
       let b = good-day (x .day) t .0 (d .0) in
       record {
-        volume = l .0;
+        volume = n .0;
+        living = n .1;
         day = b .0;
         last = b .1;
         after = d .1;
@@ -69,5 +72,5 @@ module _ (x : Book) (v t : ℕ) (list : List ℕ) where
   pub number-damage : isDamage (backupNumber x v t list) ≡ false
   unfolding backupNumber
   number-damage =
-      ladder-damage (noVolume x v) (badDay (x .day) t || notAfter (days x v) t) (not (eqb (listNumber (x .sizes .l) list) 0))
+      ladder-damage (noLiving x v) (badDay (x .day) t || notAfter (days x v) t) (not (eqb (listNumber (x .sizes .l) list) 0))
       (leb (x .sizes .s) (length (x .slots))) (ltb (x .sizes .j) (length (x .records) + changeCount list))

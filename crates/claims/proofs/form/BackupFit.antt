@@ -3,21 +3,21 @@ use Prim.Native.Nat.{ℕ, _+_}
 use mathlib.Core.Path.{_≡_, refl, sym, ap, subst, _∙_}
 use mathlib.Core.Bool.{true, false, not}
 use mathlib.Core.List.{List, [], _∷_, _++_}
-use native.Mathlib.Nat.{le-trans}
+use native.Mathlib.Nat.{le-trans, zero-add}
 use native.Mathlib.Omega.{arith}
 use lib.Dec.{leb, ltb}
-use lib.ListN.{length, length-append}
-use borrow.Author.Tests.{le-leb, not-false}
+use lib.ListN.{length, drop, length-append, length-drop, take-append-drop}
+use borrow.Author.Tests.{not-false}
 use Rattle.words.proofs.Accepted.{unless-accepted, then-accepted, accepted-same}
 use Rattle.words.proofs.Appends.{all-append}
-use Rattle.words.proofs.ChoiceLaws.{true-and}
+use Rattle.words.proofs.ChoiceLaws.{true-and, or-r}
 use Rattle.words.specs.Lists.{all, lastOf}
 use Rattle.words.specs.Outcome.{accepted, andThen}
 use Rattle.words.proofs.Tests.{or-neither}
 use Rattle.runs.specs.Changes.{changes, changeCount}
 use Rattle.runs.proofs.Laws.{length-changes}
-use Rattle.book.specs.Book.{Slot, Book}
-use Rattle.book.specs.Form.{enrolled, slotOk}
+use Rattle.book.specs.Book.{Slot, Rec, Book}
+use Rattle.book.specs.Form.{aftersOk, enrolled, slotOk}
 use Rattle.book.specs.Next.{withDay, withSlot}
 use Rattle.book.proofs.SizesIn.{sizes-facts}
 use Rattle.model.specs.Journal.{days, noVolume}
@@ -30,11 +30,11 @@ use Rattle.claims.proofs.form.BackupAllowed.{Allowed, number-zero}
 use Rattle.claims.proofs.form.ChangesFit.{changes-fit}
 use Rattle.claims.proofs.form.FitParts.{fit-parts, parts-fit}
 use Rattle.claims.proofs.form.RunFit.{run-fit, start-fit, until-low}
-use Rattle.claims.proofs.form.SlotsFit.{slots-kept, days-more, slots-before, pairs-more}
+use Rattle.claims.proofs.form.SlotsFit.{slot-ok, slots-kept, days-more, slots-before, afters-more, pairs-more}
 use Rattle.claims.proofs.form.WorkFit.{WorkFit}
 
 -- number 5, passed
-volume-enrolled : (x : Book) (v : ℕ) → noVolume x v ≡ false → enrolled x v ≡ true
+pub volume-enrolled : (x : Book) (v : ℕ) → noVolume x v ≡ false → enrolled x v ≡ true
 unfolding noVolume
 volume-enrolled x v e = not-false (enrolled x v) (or-neither (ltb 7 v) (not (enrolled x v)) e .1)
 
@@ -42,7 +42,7 @@ volume-enrolled x v e = not-false (enrolled x v) (or-neither (ltb 7 v) (not (enr
 
 module _ {x : Book} (fit : Fit x) (v t : ℕ) (list : List ℕ) (ok : Allowed x v t list) (w : Work) (f : WorkFit x (changeCount list) w) where
   abbrev slot : Slot
-  slot = record { volume = v; day = t; first = length (x .records); number = changeCount list }
+  slot = record { volume = v; retire = false; day = t; first = length (x .records); number = changeCount list }
 
   abbrev y : Book
   y = closed x v t (changeCount list) w .book
@@ -52,14 +52,24 @@ module _ {x : Book} (fit : Fit x) (v t : ℕ) (list : List ℕ) (ok : Allowed x 
   enrolled-kept u e = rw (f .retentions) e
 
   slots-after : all (slotOk y) (x .slots ++ (slot ∷ [])) ≡ true
-  unfolding closed withDay withSlot slotOk
+  unfolding closed withDay withSlot
   slots-after =
       all-append (slotOk y) (x .slots) (slot ∷ [])
       ∙ true-and (all (slotOk y) (x .slots)) (all (slotOk y) (slot ∷ []))
-      (slots-kept x y (x .slots) enrolled-kept (ok .day) (fit-parts fit .slots))
+      (slots-kept x y (x .slots) enrolled-kept (ok .day) (ap (λ z. z .layout) (f .sizes)) (fit-parts fit .slots))
       (true-and (slotOk y slot) true
-      (true-and (enrolled y v) (leb t t) (enrolled-kept v (volume-enrolled x v (ok .volume))) (le-leb t t (omega arith)))
+      (slot-ok y slot (enrolled-kept v (volume-enrolled x v (ok .volume))) (omega arith) (or-r (leb 3 (y .sizes .layout)) true refl))
       refl)
+
+  afters-after : aftersOk (w .book .slots ++ (slot ∷ [])) (w .book .records) ≡ true
+  afters-after =
+      let u = length (x .records) in
+      let new : length (drop u (w .book .records)) ≡ changeCount list = length-drop u (w .book .records) ∙ omega (arith, f .recordCount) in
+      let whole : w .book .records ≡ x .records ++ drop u (w .book .records) =
+      sym (take-append-drop u (w .book .records)) ∙ ap (λ (rs : List Rec). rs ++ drop u (w .book .records)) (f .given) in
+      rw (f .slots)
+      (ap (aftersOk (x .slots ++ (slot ∷ []))) whole
+      ∙ afters-more 0 (x .slots) (x .records) slot (drop u (w .book .records)) (rw zero-add (fit-parts fit .pairs)) new (fit-parts fit .afters) (f .afters))
 
   closed-fit : Fit y
   unfolding closed withDay withSlot
@@ -84,10 +94,11 @@ module _ {x : Book} (fit : Fit x) (v t : ℕ) (list : List ℕ) (ok : Allowed x 
         maps = rw (f .sizes) (f .maps);
         slotCount = omega (arith, ok .slots);
         slots = ap (λ (ts : List Slot). all (slotOk y) (ts ++ (slot ∷ []))) (f .slots) ∙ slots-after;
-        days = rw (f .slots) (days-more (x .slots) slot (p .days) (slots-before x slot (p .days) (ok .after) (p .slots) (ok .day)));
+        days = rw (f .slots) (days-more (x .slots) slot (p .days) (slots-before x slot (p .days) (ok .living) (ok .after) (p .slots) (ok .day)));
         pairs = rw (f .slots, f .recordCount) (pairs-more 0 (x .slots) (length (x .records)) slot (p .pairs) refl);
         recordCount = omega (arith, ok .records);
         records = rw (f .sizes) (f .records);
+        afters = afters-after;
       })
 
 -- ---- the whole call

@@ -6,13 +6,13 @@ use mathlib.Core.List.{List, [], _∷_}
 use lib.Dec.{ltb, eqb}
 use lib.ListN.{getD, set, take, drop}
 use Rattle.words.specs.Blocks.{unmapped}
-use Rattle.words.proofs.ChoiceLaws.{and-true, true-and, or-l, or-r}
+use Rattle.words.proofs.ChoiceLaws.{and-true, true-and, or-r}
 use Rattle.words.specs.Lists.{all}
 use Rattle.words.proofs.Places.{all-getD, all-take, all-drop, all-those, all-set, all-replicate, all-weaker}
 use Rattle.book.specs.Book.{Sizes, Slot, Rec, Book}
 use Rattle.book.specs.Form.{pbnOk, recOk, bookOk}
 use Rattle.book.proofs.Clauses.{book-parts}
-use Rattle.model.specs.Journal.{Backup, journalOf, journal, backupsIn}
+use Rattle.model.specs.Journal.{Backup, journalOf, journal, slotsIn}
 use Rattle.model.specs.Audit.{applied}
 use Rattle.model.specs.Plain.{mapsOf, noMap}
 use Rattle.claims.proofs.agreement.Agree.{imagesOf}
@@ -52,22 +52,20 @@ module _ (f : ℕ → Bool) where
 -- ---- a book in form
 
 after-ok : (z : Sizes) (r : Rec) → recOk z r ≡ true → pbnOk (z .n) (r .after) ≡ true
-unfolding recOk pbnOk
-after-ok z r e =
-    or-l (ltb (r .after) (z .n)) (eqb (r .after) unmapped)
-    (and-true (ltb (r .lbn) (z .l) && pbnOk (z .n) (r .before)) (ltb (r .after) (z .n)) e .1)
+unfolding recOk
+after-ok z r e = and-true (ltb (r .lbn) (z .l) && pbnOk (z .n) (r .before)) (pbnOk (z .n) (r .after)) e .1
 
 pub unmapped-ok : (n : ℕ) → pbnOk n unmapped ≡ true
 unfolding pbnOk
 unmapped-ok n = or-r (ltb unmapped n) true refl
 
 pub image-cells : (x : Book) (v k l : ℕ) → bookOk x ≡ true
-    → pbnOk (x .sizes .n) (getD (getD (mapsOf (imagesOf (noMap (x .sizes)) (backupsIn v (journal x)))) k
+    → pbnOk (x .sizes .n) (getD (getD (mapsOf (imagesOf (noMap (x .sizes)) (slotsIn v (journal x)))) k
     (noMap (x .sizes))) l unmapped) ≡ true
 unfolding journal
 image-cells x v k l e =
-    all-getD (pbnOk n) (getD (mapsOf (imagesOf (noMap (x .sizes)) (backupsIn v (journal x)))) k (noMap (x .sizes))) unmapped l
-    (all-getD (all (pbnOk n)) (mapsOf (imagesOf (noMap (x .sizes)) (backupsIn v (journal x)))) (noMap (x .sizes)) k images none)
+    all-getD (pbnOk n) (getD (mapsOf (imagesOf (noMap (x .sizes)) (slotsIn v (journal x)))) k (noMap (x .sizes))) unmapped l
+    (all-getD (all (pbnOk n)) (mapsOf (imagesOf (noMap (x .sizes)) (slotsIn v (journal x)))) (noMap (x .sizes)) k images none)
     (unmapped-ok n)
   where
     n : ℕ
@@ -81,7 +79,7 @@ image-cells x v k l e =
         all-journal (λ (r : Rec). pbnOk n (r .after)) [] (x .slots) (x .records)
         (all-weaker (recOk (x .sizes)) (λ (r : Rec). pbnOk n (r .after)) (x .records) (after-ok (x .sizes)) (book-parts x e .records))
 
-    images : all (all (pbnOk n)) (mapsOf (imagesOf (noMap (x .sizes)) (backupsIn v (journal x)))) ≡ true
+    images : all (all (pbnOk n)) (mapsOf (imagesOf (noMap (x .sizes)) (slotsIn v (journal x)))) ≡ true
     images =
-        all-images (pbnOk n) (noMap (x .sizes)) (backupsIn v (journal x)) none
+        all-images (pbnOk n) (noMap (x .sizes)) (slotsIn v (journal x)) none
         (all-those (λ (b : Backup). all (λ (r : Rec). pbnOk n (r .after)) (b .records)) (λ b. eqb (b .volume) v) (journal x) records)

@@ -47,9 +47,10 @@ collect-fit {x} f t ok =
       mapCount = p .mapCount;
       maps = p .maps;
       slotCount = p .slotCount;
-      slots = slots-kept x (collected x t .book) (x .slots) (λ v e. e) (d .0) (p .slots);
+      slots = slots-kept x (collected x t .book) (x .slots) (λ v e. e) (d .0) refl (p .slots);
       days = p .days;
       pairs = p .pairs;
       recordCount = p .recordCount;
       records = p .records;
+      afters = p .afters;
     })

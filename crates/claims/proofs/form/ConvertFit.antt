@@ -1,10 +1,10 @@
 -- What a converter writes: every field equal, in form, audited alike, and there and back the very bytes (document 02, K3).
 use Prim.Native.Nat.{ℕ, _≤_, _<_}
 use mathlib.Core.Path.{_≡_, refl, sym, ap, _∙_}
-use mathlib.Core.Bool.{true, _&&_}
+use mathlib.Core.Bool.{true, _&&_, not, _||_, Bool, false}
 use mathlib.Core.List.{List}
 use native.Mathlib.Omega.{arith}
-use lib.Dec.{eqb}
+use lib.Dec.{leb, eqb}
 use lib.ListN.{length, getD}
 use borrow.Author.Tests.{le-leb, le-ltb}
 use Rattle.words.proofs.Accepted.{unless-accepted, accepted-same}
@@ -14,20 +14,22 @@ use Rattle.words.specs.Numbers.{num}
 use Rattle.words.specs.Outcome.{accepted, unless}
 use Rattle.book.specs.Book.{Sizes, Book, Sized, entryAt}
 use Rattle.book.specs.Layout.{nOffset, bookSize, bytes, sizesOf, countIn, entryOffset, entryOf, bookOf}
-use Rattle.book.specs.Form.{sizesAs, slotOk, recOk, bookOk, formAs}
+use Rattle.book.specs.Form.{sizesAs, slotOk, recOk, bookOk, formAs, enrolled}
 use Rattle.book.specs.FormFacts.{FormFactsAs}
 use Rattle.book.specs.Next.{sizesIn, withLayout}
-use Rattle.book.proofs.Clauses.{parts-book}
+use Rattle.book.proofs.Clauses.{parts-book, book-parts}
 use Rattle.book.proofs.FormBytes.{book-as, bytes-as}
 use Rattle.book.proofs.FormFactLaws.{facts-as}
 use Rattle.book.proofs.Laws.{book-bytes}
 use Rattle.book.proofs.SizesIn.{sizes-as, sizes-in}
 use Rattle.model.specs.Audit.{mapsSound, noMaps, countSound, expirySound, printsSound, cellSound, currentSound, backupSound}
 use Rattle.model.specs.Audit.{backupsSound, audit}
-use Rattle.model.specs.Journal.{journal, backups, days}
+use Rattle.model.specs.Journal.{journal, slotsOf, days, backupCount}
 use Rattle.model.specs.Read.{image}
 use Rattle.claims.proofs.kept.JournalLaws.{untilIn-book}
 use Rattle.model.specs.Convert.{roomNumber, converted, isNarrow, narrowNumber, toTwo, toOne}
+use Rattle.words.proofs.ChoiceLaws.{and-true, true-and, not-both}
+use Rattle.words.proofs.Places.{all-weaker}
 
 -- ---- a book with another layout number
 
@@ -45,10 +47,28 @@ module _ (g : ℕ) (x : Book) where
         records = s .records;
       }
 
-  -- no condition of form looks at the layout number
-  pub layout-ok : bookOk (withLayout g x) ≡ bookOk x
-  unfolding withLayout bookOk slotOk recOk
-  layout-ok = refl
+  -- slots retire from layout 3 on; no other condition of form looks at the layout number
+  pub layout-ok : (not (leb 3 (x .sizes .layout)) || leb 3 g) ≡ true → bookOk x ≡ true → bookOk (withLayout g x) ≡ true
+  unfolding withLayout recOk slotOk
+  layout-ok up e =
+      let p = book-parts x e in
+      parts-book (withLayout g x) (record {
+        day = p .day;
+        cursor = p .cursor;
+        retentions = p .retentions;
+        entries = p .entries;
+        maps = p .maps;
+        slots = all-weaker (slotOk x) (slotOk (withLayout g x)) (x .slots) (λ t k. may-retire (enrolled x (t .volume) && leb (t .day) (x .day)) (t .retire) (leb 3 (x .sizes .layout)) (leb 3 g) up k) (p .slots);
+        days = p .days;
+        pairs = p .pairs;
+        records = p .records;
+        afters = p .afters;
+      })
+    where
+      may-retire : (a r old new : Bool) → (not old || new) ≡ true → (a && (old || not r)) ≡ true → (a && (new || not r)) ≡ true
+      may-retire a r old true u k = true-and a true (and-true a (old || not r) k .0) refl
+      may-retire a r false false u k = k
+      may-retire a r true false u k = absurd (not-both false u refl)
 
   -- nor does audit
   pub layout-expiries : all (expirySound (withLayout g x)) (upFrom 0 (withLayout g x .sizes .n)) ≡ all (expirySound x) (upFrom 0 (x .sizes .n))
@@ -58,7 +78,7 @@ module _ (g : ℕ) (x : Book) where
 
   pub layout-audit : audit (withLayout g x) ≡ audit x
   unfolding
-      withLayout audit mapsSound noMaps countSound printsSound cellSound currentSound backupSound backupsSound journal backups days image
+      withLayout audit mapsSound noMaps countSound printsSound cellSound currentSound backupSound backupsSound journal slotsOf backupCount days image
   layout-audit = λ i.
       mapsSound x
       && all (countSound x) (upFrom 0 (x .sizes .n))
@@ -117,15 +137,16 @@ module _ (from to : ℕ) (number : Book → ℕ) (f : Book → Book) (b : List �
     pub fields-equal : bookOf c ≡ withLayout to (f (bookOf b))
     fields-equal = rw written-bytes (book-bytes (withLayout to (f (bookOf b))) (layout-sized to (f (bookOf b)) (made .0)))
 
-    -- it writes a book of its layout in form
-    pub written-form : formAs to c ≡ 0
+    -- it writes a book of its layout in form, unless it goes back from one whose slots may retire
+    pub written-form : (not (leb 3 from) || leb 3 to) ≡ true → formAs to c ≡ 0
     unfolding withLayout
-    written-form =
+    written-form up =
         let y = withLayout to (f (bookOf b)) in
         let z : sizesAs to (y .sizes) ≡ true =
         rw (made .1) (layout-sizes from to (bookOf b .sizes) (book-as from b given-form .0))
         in
-        rw written-bytes (bytes-as to y (layout-sized to (f (bookOf b)) (made .0)) z (layout-ok to (f (bookOf b)) ∙ made .2))
+        let g : f (bookOf b) .sizes .layout ≡ from = ap (λ z. z .layout) (made .1) ∙ facts .layout in
+        rw written-bytes (bytes-as to y (layout-sized to (f (bookOf b)) (made .0)) z (layout-ok to (f (bookOf b)) (rw g up) (made .2)))
 
 -- ---- there and back
 
@@ -153,12 +174,12 @@ module _ (from to : ℕ) (there back : Book → ℕ) (b : List ℕ) (room : ℕ)
   unfolding bookOf withLayout
   same-size = ap (λ (y : Book). bookSize (y .sizes)) same-book ∙ sym (known .holds .len)
 
-  pub very-bytes : (room′ : ℕ) → length b ≤ room′ → back (withLayout to (bookOf b)) ≡ 0
+  pub very-bytes : (not (leb 3 from) || leb 3 to) ≡ true → (room′ : ℕ) → length b ≤ room′ → back (withLayout to (bookOf b)) ≡ 0
       → converted to from back (λ x. x) c room′ ≡ accepted b
   unfolding converted
-  very-bytes room′ h z =
+  very-bytes up room′ h z =
       rw (
-        written-form from to there (λ x. x) b room c small e keeps-same,
+        written-form from to there (λ x. x) b room c small e keeps-same up,
         room-enough from c room′ (length b) same-size h,
         fields-equal from to there (λ x. x) b room c small e keeps-same,
         z,
@@ -184,11 +205,11 @@ pub there-and-back : (b : List ℕ) (room room′ : ℕ) (c : List ℕ) → ((i 
     → length b ≤ room′ → toOne c room′ ≡ accepted b
 unfolding toTwo toOne narrowNumber withLayout
 there-and-back b room room′ c small e h =
-    very-bytes 1 2 (λ x. 0) narrowNumber b room c small e room′ h
+    very-bytes 1 2 (λ x. 0) narrowNumber b room c small e refl room′ h
     (rw (counts-narrow b small (given-form 1 2 (λ x. 0) (λ x. x) b room c small e)))
 
 -- and layout 2 to 1 and back, where it goes back
 pub back-and-there : (b : List ℕ) (room room′ : ℕ) (c : List ℕ) → ((i : ℕ) → getD b i 0 < 256) → toOne b room ≡ accepted c
     → length b ≤ room′ → toTwo c room′ ≡ accepted b
 unfolding toTwo toOne
-back-and-there b room room′ c small e h = very-bytes 2 1 narrowNumber (λ x. 0) b room c small e room′ h refl
+back-and-there b room room′ c small e h = very-bytes 2 1 narrowNumber (λ x. 0) b room c small e refl room′ h refl

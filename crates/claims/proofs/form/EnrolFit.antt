@@ -51,9 +51,10 @@ enrol-fit {x} f v r ok =
       mapCount = p .mapCount;
       maps = p .maps;
       slotCount = p .slotCount;
-      slots = slots-kept x (withRetention v r x) (x .slots) (λ u. enrolled-kept x v r u (n .0)) (omega arith) (p .slots);
+      slots = slots-kept x (withRetention v r x) (x .slots) (λ u. enrolled-kept x v r u (n .0)) (omega arith) refl (p .slots);
       days = p .days;
       pairs = p .pairs;
       recordCount = p .recordCount;
       records = p .records;
+      afters = p .afters;
     })

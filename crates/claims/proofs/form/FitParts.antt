@@ -11,7 +11,7 @@ use Rattle.words.proofs.ChoiceLaws.{and-true, true-and}
 use Rattle.words.specs.Lists.{all}
 use Rattle.words.proofs.Places.{all-place, place-all, all-weaker}
 use Rattle.book.specs.Book.{volumes, Sizes, Entry, Book, freeEntry, entryAt, Sized}
-use Rattle.book.specs.Form.{sizesOk, retentionOk, entryOk, pbnOk, recOk, slotOk, daysOk, pairsOk}
+use Rattle.book.specs.Form.{sizesOk, retentionOk, entryOk, pbnOk, recOk, aftersOk, slotOk, daysOk, pairsOk}
 use Rattle.book.specs.FormFacts.{BookParts}
 use Rattle.book.proofs.Clauses.{book-parts, parts-book}
 use Rattle.claims.proofs.agreement.Agree.{Fit}
@@ -40,6 +40,7 @@ pub record FitParts (x : Book) : Type 0 where
   pub pairs : pairsOk 0 (x .slots) (length (x .records)) ≡ true
   pub recordCount : length (x .records) ≤ x .sizes .j
   pub records : all (recOk (x .sizes)) (x .records) ≡ true
+  pub afters : aftersOk (x .slots) (x .records) ≡ true
 
 -- ---- one way
 
@@ -78,6 +79,7 @@ fit-parts {x} f =
       pairs = p .pairs;
       recordCount = f .sized .records;
       records = p .records;
+      afters = p .afters;
     }
 
 -- ---- the other way
@@ -125,6 +127,7 @@ module _ {x : Book} (p : FitParts x) where
     days = p .days;
     pairs = p .pairs;
     records = p .records;
+    afters = p .afters;
   }
 
   pub parts-fit : Fit x

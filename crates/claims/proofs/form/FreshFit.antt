@@ -43,4 +43,5 @@ fresh-fit z ok = parts-fit (record {
   pairs = refl;
   recordCount = zero-le;
   records = refl;
+  afters = refl;
 })

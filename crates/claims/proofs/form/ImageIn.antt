@@ -17,8 +17,8 @@ use Rattle.book.specs.Book.{Sizes, Slot, Rec, Book, cellAt}
 use Rattle.book.proofs.Conditions.{pbn-cases, cell-in}
 use Rattle.book.specs.Form.{pbnOk, recOk}
 use Rattle.book.specs.FormFacts.{BookParts}
-use Rattle.model.specs.Journal.{Backup, journalOf, journal, backups}
-use Rattle.model.specs.JournalAt.{backupsFrom, firstBefore, imageFrom}
+use Rattle.model.specs.Journal.{Backup, journalOf, journal, slotsOf}
+use Rattle.model.specs.JournalAt.{ownFrom, firstBefore, imageFrom}
 use Rattle.model.specs.Read.{recordsOf, beforeOr, image}
 
 -- what holds of all records holds of each backup's, and of the first that passes a test
@@ -52,7 +52,7 @@ before-ok : (z : Sizes) (r : Rec) → recOk z r ≡ true → pbnOk (z .n) (r .be
 unfolding recOk
 before-ok z r e =
     and-true (ltb (r .lbn) (z .l)) (pbnOk (z .n) (r .before))
-    (and-true (ltb (r .lbn) (z .l) && pbnOk (z .n) (r .before)) (ltb (r .after) (z .n)) e .0) .1
+    (and-true (ltb (r .lbn) (z .l) && pbnOk (z .n) (r .before)) (pbnOk (z .n) (r .after)) e .0) .1
 
 abbrev beforeOk : Book → Rec → Bool
 beforeOk x r = pbnOk (x .sizes .n) (r .before)
@@ -77,18 +77,18 @@ before-in x h v lbn rs ok = go (firstThat has rs) refl
     go (some r) e = pbn-cases (x .sizes .n) (r .before) (first-passes (beforeOk x) has rs r ok e)
 
 pub image-in : (x : Book) → BookParts x → (v k lbn : ℕ) → (image x v k lbn < x .sizes .n) ⊎ (image x v k lbn ≡ unmapped)
-unfolding image backups
+unfolding image slotsOf
 image-in x h v k lbn =
-    before-in x h v lbn (recordsOf (drop k (backups x v)))
-    (all-records (beforeOk x) (drop k (backups x v))
-    (all-drop (allOf (beforeOk x)) k (backups x v)
+    before-in x h v lbn (recordsOf (drop k (slotsOf x v)))
+    (all-records (beforeOk x) (drop k (slotsOf x v))
+    (all-drop (allOf (beforeOk x)) k (slotsOf x v)
     (all-those (allOf (beforeOk x)) (λ b. eqb (b .volume) v) (journal x) (journal-ok x h))))
 
 pub image-from-in : (x : Book) → BookParts x → (v q lbn : ℕ)
     → (imageFrom x v q lbn < x .sizes .n) ⊎ (imageFrom x v q lbn ≡ unmapped)
-unfolding imageFrom backupsFrom
+unfolding imageFrom ownFrom
 image-from-in x h v q lbn =
-    before-in x h v lbn (recordsOf (backupsFrom x v q))
-    (all-records (beforeOk x) (backupsFrom x v q)
+    before-in x h v lbn (recordsOf (ownFrom x v q))
+    (all-records (beforeOk x) (ownFrom x v q)
     (all-those (allOf (beforeOk x)) (λ b. eqb (b .volume) v) (drop q (journal x))
     (all-drop (allOf (beforeOk x)) q (journal x) (journal-ok x h))))

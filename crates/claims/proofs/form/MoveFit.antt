@@ -1,13 +1,14 @@
 -- Steps 3 and 4 of a change keep entries, maps and records in form.
 use Prim.Native.Nat.{ℕ, suc, _≤_, _<_}
-use mathlib.Core.Path.{_≡_, refl, subst, _∙_}
+use mathlib.Core.Path.{_≡_, refl, ap, subst, _∙_}
 use mathlib.Core.Logic.{_≢_}
 use mathlib.Core.Bool.{Bool, true, false, not, _&&_}
 use mathlib.Core.List.{List, [], _∷_, _++_}
 use native.Mathlib.Omega.{arith}
 use lib.Dec.{ltb, eqb}
-use lib.ListN.{length, getD, set, length-append, length-set}
-use borrow.Author.Tests.{eqb-true, eqb-false, lt-ltb, eq-eqb}
+use lib.ListN.{length, getD, set, drop, length-append, length-set}
+use lib.Seq.{take-append-le, drop-append-le}
+use borrow.Author.Tests.{eqb-true, eqb-false, lt-ltb, eq-eqb, ne-eqb}
 use Rattle.words.proofs.Accepted.{unless-accepted}
 use Rattle.words.proofs.Appends.{all-append}
 use Rattle.words.specs.Blocks.{unmapped}
@@ -17,7 +18,7 @@ use Rattle.words.specs.Lists.{all}
 use Rattle.words.specs.Outcome.{accepted}
 use Rattle.words.proofs.Places.{all-place, all-getD, all-set}
 use Rattle.book.specs.Book.{volumes, Sizes, Entry, Rec, Book, entryAt, cellAt}
-use Rattle.book.specs.Form.{pbnOk, recOk}
+use Rattle.book.specs.Form.{pbnOk, recOk, afterOk}
 use Rattle.book.specs.Next.{cellsWith, withEntries, withMaps, withRecord, countAs, expiryAs}
 use Rattle.model.specs.Backup.{Work, Placed, lowered, lower, raised, nameBlock, moveNumber, moved, moveTo}
 use Rattle.claims.proofs.form.Bounds.{unmapped-ok}
@@ -46,7 +47,7 @@ module _ (until before : ℕ) (es : List Entry) where
   lower-held = lower-kept until before es (λ (e : Entry). e .held) (λ e. refl)
 
   -- a before whose count isn't 0 is held, and until is 65,000 at most
-  lower-fit : until ≤ 65000 → all entryFit es ≡ true → (before ≢ unmapped → entryAt es before .count ≢ 0)
+  pub lower-fit : until ≤ 65000 → all entryFit es ≡ true → (before ≢ unmapped → entryAt es before .count ≢ 0)
       → all entryFit (lower until before es) ≡ true
   unfolding lower lowered countAs expiryAs
   lower-fit low f some = go (eqb before unmapped) refl
@@ -75,32 +76,41 @@ raise-fit es p f h =
 -- ---- maps and records
 
 module _ (z : Sizes) (ms : List (List ℕ)) (v : ℕ) (inside : v < length ms) (f : all (mapFit z) ms ≡ true) where
-  row-fit : (all (pbnOk (z .n)) (getD ms v []) ≡ true) × (length (getD ms v []) ≡ z .l)
+  pub row-fit : (all (pbnOk (z .n)) (getD ms v []) ≡ true) × (length (getD ms v []) ≡ z .l)
   unfolding mapFit
   row-fit =
       let w = and-true (all (pbnOk (z .n)) (getD ms v [])) (eqb (length (getD ms v [])) (z .l)) (all-place (mapFit z) ms [] v f inside) in
       (w .0, eqb-true (length (getD ms v [])) (z .l) (w .1))
 
-  cell-ok : (l : ℕ) → pbnOk (z .n) (cellAt ms v l) ≡ true
+  pub cell-ok : (l : ℕ) → pbnOk (z .n) (cellAt ms v l) ≡ true
   cell-ok l = all-getD (pbnOk (z .n)) (getD ms v []) unmapped l (row-fit .0) (unmapped-ok (z .n))
 
-  cells-fit : (l p : ℕ) → p < z .n → all (mapFit z) (cellsWith ms v l p) ≡ true
-  unfolding mapFit pbnOk
+  pub cells-fit : (l p : ℕ) → pbnOk (z .n) p ≡ true → all (mapFit z) (cellsWith ms v l p) ≡ true
+  unfolding mapFit
   cells-fit l p h =
       let row = set (getD ms v []) l p in
       all-set (mapFit z) ms v row f
       (true-and (all (pbnOk (z .n)) row) (eqb (length row) (z .l))
-      (all-set (pbnOk (z .n)) (getD ms v []) l p (row-fit .0) (or-l (ltb p (z .n)) (eqb p unmapped) (lt-ltb p (z .n) h)))
+      (all-set (pbnOk (z .n)) (getD ms v []) l p (row-fit .0) h)
       (eq-eqb (length row) (z .l) (length-set (getD ms v []) l p ∙ row-fit .1)))
 
-record-ok : (z : Sizes) (r : Rec) → r .lbn < z .l → pbnOk (z .n) (r .before) ≡ true → r .after < z .n → recOk z r ≡ true
+pub record-ok : (z : Sizes) (r : Rec) → r .lbn < z .l → pbnOk (z .n) (r .before) ≡ true → pbnOk (z .n) (r .after) ≡ true → recOk z r ≡ true
 unfolding recOk
 record-ok z r low old new =
-    true-and (ltb (r .lbn) (z .l) && pbnOk (z .n) (r .before)) (ltb (r .after) (z .n))
+    true-and (ltb (r .lbn) (z .l) && pbnOk (z .n) (r .before)) (pbnOk (z .n) (r .after))
     (true-and (ltb (r .lbn) (z .l)) (pbnOk (z .n) (r .before)) (lt-ltb (r .lbn) (z .l) low) old)
-    (lt-ltb (r .after) (z .n) new)
+    new
 
-records-more : (z : Sizes) (rs : List Rec) (r : Rec) → all (recOk z) rs ≡ true → recOk z r ≡ true → all (recOk z) (rs ++ (r ∷ [])) ≡ true
+-- a backup's after is mapped
+after-mapped : (n : ℕ) (r : Rec) → n ≤ 4096 → r .after < n → afterOk false r ≡ true
+unfolding afterOk
+after-mapped n r few h = ap not (ne-eqb (r .after) unmapped (λ e. omega arith))
+
+pbn-inside : (n p : ℕ) → p < n → pbnOk n p ≡ true
+unfolding pbnOk
+pbn-inside n p h = or-l (ltb p n) (eqb p unmapped) (lt-ltb p n h)
+
+pub records-more : (z : Sizes) (rs : List Rec) (r : Rec) → all (recOk z) rs ≡ true → recOk z r ≡ true → all (recOk z) (rs ++ (r ∷ [])) ≡ true
 records-more z rs r f g = all-append (recOk z) rs (r ∷ []) ∙ rw (f, g)
 
 -- ---- both steps
@@ -119,6 +129,7 @@ module _ (x : Book) (k v until lbn before : ℕ) (inside : v < volumes) (low : u
       let w = f .work in
       let n : v < length (d .work .book .maps) = rw (w .mapCount) inside in
       record {
+        few = w .few;
         sizes = w .sizes;
         retentions = w .retentions;
         slots = w .slots;
@@ -128,11 +139,16 @@ module _ (x : Book) (k v until lbn before : ℕ) (inside : v < volumes) (low : u
             raise-fit (lower until before es) (d .pbn) (lower-fit until before es low (w .entries) some)
             (lower-held until before es (d .pbn) ∙ f .holds);
         mapCount = length-set (d .work .book .maps) v _ ∙ w .mapCount;
-        maps = cells-fit (x .sizes) (d .work .book .maps) v n (w .maps) lbn (d .pbn) (f .inside);
+        maps = cells-fit (x .sizes) (d .work .book .maps) v n (w .maps) lbn (d .pbn) (pbn-inside (x .sizes .n) (d .pbn) (f .inside));
         recordCount = length-append (d .work .book .records) (added ∷ []) ∙ omega (arith, w .recordCount);
         records =
             records-more (x .sizes) (d .work .book .records) added (w .records)
-            (record-ok (x .sizes) added below (cell-ok (x .sizes) (d .work .book .maps) v n (w .maps) lbn) (f .inside));
+            (record-ok (x .sizes) added below (cell-ok (x .sizes) (d .work .book .maps) v n (w .maps) lbn) (pbn-inside (x .sizes .n) (d .pbn) (f .inside)));
+        given = take-append-le (length (x .records)) (d .work .book .records) (added ∷ []) (omega (arith, w .recordCount)) ∙ w .given;
+        afters =
+            ap (all (afterOk false)) (drop-append-le (length (x .records)) (d .work .book .records) (added ∷ []) (omega (arith, w .recordCount)))
+            ∙ all-append (afterOk false) (drop (length (x .records)) (d .work .book .records)) (added ∷ [])
+            ∙ rw (w .afters, after-mapped (x .sizes .n) added (w .few) (f .inside));
         pool = w .pool;
       }
 

@@ -23,8 +23,9 @@ use Rattle.model.specs.Collect.{collect}
 use Rattle.model.specs.Read.{image, read}
 use Rattle.model.specs.Restore.{restore}
 use Rattle.model.specs.Audit.{audit}
-use Rattle.model.specs.OnBytes.{numberOf, poolNumber, spareNumber, formatNumber, formatBytes, enrolBytes, backedBytes, backupBytes}
+use Rattle.model.specs.OnBytes.{numberOf, poolNumber, spareNumber, formatNumber, formatBytes, enrolBytes, backedBytes, backupBytes, retiredBytes, retireBytes}
 use Rattle.model.specs.OnBytes.{collectedBytes, collectBytes, readBytes, readNumberBytes, readPlaceBytes, restoreBytes, auditBytes}
+use Rattle.model.specs.Retire.{retire}
 
 -- an accepted format leaves the bytes of a fresh book
 pub format-on-bytes : (b : List ℕ) (z : Sizes) (b′ : List ℕ) → formatBytes b z ≡ accepted b′ → (sizesOk z ≡ true) × (b′ ≡ bytes (fresh z))
@@ -49,6 +50,17 @@ module _ {x : Book} (form : formNumber (bytes x) ≡ 0) (book : bookOf (bytes x)
   pub audit-on-bytes : auditBytes (bytes x) ≡ accepted (audit x)
   unfolding auditBytes
   audit-on-bytes = rw (form, book)
+
+  -- ---- with a spare
+
+  module _ (size : length (bytes x) ≡ bookSize (x .sizes)) (spare : ℕ) (enough : bookSize (x .sizes) ≤ spare) where
+    spare-passes : spareNumber (bytes x) spare ≡ 0
+    unfolding spareNumber
+    spare-passes = rw (le-ltb spare (length (bytes x)) (rw size enough))
+
+    pub retire-on-bytes : (v t : ℕ) → retireBytes (bytes x) spare v t ≡ andThen (retire x v t) (λ d. accepted (retiredBytes d))
+    unfolding retireBytes
+    retire-on-bytes v t = rw (form, spare-passes, book)
 
   -- ---- with a pool
 
@@ -84,11 +96,7 @@ module _ {x : Book} (form : formNumber (bytes x) ≡ 0) (book : bookOf (bytes x)
     -- ---- .. and a spare
 
     module _ (size : length (bytes x) ≡ bookSize (x .sizes)) (spare : ℕ) (enough : bookSize (x .sizes) ≤ spare) where
-      spare-passes : spareNumber (bytes x) spare ≡ 0
-      unfolding spareNumber
-      spare-passes = rw (le-ltb spare (length (bytes x)) (rw size enough))
-
       pub backup-on-bytes : (v t : ℕ) (list : List ℕ)
           → backupBytes (bytes x) pool spare v t list ≡ andThen (backup x pool v t list) (λ d. accepted (backedBytes d))
       unfolding backupBytes
-      backup-on-bytes v t list = rw (form, pool-passes, spare-passes, book)
+      backup-on-bytes v t list = rw (form, pool-passes, spare-passes size spare enough, book)

@@ -16,9 +16,10 @@ use Rattle.words.proofs.SectionLaws.{length-tab, getD-tab}
 use Rattle.words.specs.Choice.{if_then_else_}
 use Rattle.words.specs.Lists.{all, allZero}
 use Rattle.words.specs.Sections.{tab}
+use Rattle.book.proofs.Conditions.{slot-facts}
 use Rattle.book.proofs.Clauses.{book-parts, parts-book}
 use Rattle.book.specs.Book.{Entry, Slot, Rec, Book, Sized, noPrint, freeEntry, entryAt, retentionOf}
-use Rattle.book.specs.Form.{retentionOk, entryOk, slotOk, enrolled}
+use Rattle.book.specs.Form.{retentionOk, entryOk, slotOk}
 use Rattle.book.specs.FormFacts.{BookParts}
 use Rattle.book.specs.Next.{withLayout, withEntries, expiryAs}
 use Rattle.model.specs.Audit.{hasBefore, dueOf, untilIn}
@@ -96,11 +97,10 @@ refreshed-layout g x = λ i.
 
 module _ (x : Book) (parts : BookParts x) where
   last-low : (v : ℕ) (ts : List Slot) → all (slotOk x) ts ≡ true → sinceOf (lastDay v ts) ≤ x .day
-  unfolding slotOk
   last-low v [] ok = omega arith
   last-low v (t ∷ ts) ok =
       let w = and-true (slotOk x t) (all (slotOk x) ts) ok in
-      go (eqb (t .volume) v) (leb-true (t .day) (x .day) (and-true (enrolled x (t .volume)) (leb (t .day) (x .day)) (w .0) .1))
+      go (eqb (t .volume) v) (leb-true (t .day) (x .day) (slot-facts x t (w .0) .1))
       (last-low v ts (w .1))
     where
       go : (own : Bool) → t .day ≤ x .day → sinceOf (lastDay v ts) ≤ x .day
@@ -122,7 +122,7 @@ module _ (x : Book) (parts : BookParts x) where
   until-low p gone [] rs g ok = omega arith
   until-low p gone (t ∷ ts) rs g ok =
       let w = and-true (slotOk x t) (all (slotOk x) ts) ok in
-      let b : Backup = record { volume = t .volume; day = t .day; prev = lastDay (t .volume) gone; records = take (t .number) rs } in
+      let b : Backup = record { volume = t .volume; day = t .day; retire = t .retire; prev = lastDay (t .volume) gone; records = take (t .number) rs } in
       go (hasBefore p (b .records)) (due-low b (last-low (t .volume) gone g))
       (until-low p (t ∷ gone) ts (drop (t .number) rs) (true-and (slotOk x t) (all (slotOk x) gone) (w .0) g) (w .1))
     where
@@ -167,5 +167,6 @@ keeps-refreshed x s e =
         days = p .days;
         pairs = p .pairs;
         records = p .records;
+        afters = p .afters;
       }),
     )

@@ -1,11 +1,12 @@
 -- From a fit book, the changes of a good list keep what a backup needs, and each adds one record.
 use Prim.Native.Nat.{ℕ, suc, _+_, _≤_, _<_}
-use mathlib.Core.Path.{_≡_, refl, subst}
-use mathlib.Core.Bool.{true}
+use mathlib.Core.Path.{_≡_, refl, ap, subst}
+use mathlib.Core.Bool.{true, false}
 use mathlib.Core.List.{List, [], _∷_}
 use native.Mathlib.Nat.{zero-add}
 use native.Mathlib.Omega.{arith}
 use lib.ListN.{length}
+use lib.Seq.{take-length, drop-length}
 use borrow.Author.Tests.{leb-true}
 use Rattle.words.proofs.Accepted.{then-accepted}
 use Rattle.words.proofs.ChoiceLaws.{and-true}
@@ -14,7 +15,8 @@ use Rattle.words.specs.Outcome.{accepted}
 use Rattle.words.proofs.Places.{all-getD}
 use Rattle.runs.specs.Changes.{Change}
 use Rattle.book.specs.Book.{volumes, Book, cellAt, retentionOf}
-use Rattle.book.specs.Form.{retentionOk}
+use Rattle.book.specs.Form.{retentionOk, afterOk}
+use Rattle.book.proofs.SizesIn.{sizes-facts}
 use Rattle.model.specs.Pool.{poolSize}
 use Rattle.model.specs.Backup.{Work, place, moveTo, changeStep, runChanges, begun}
 use Rattle.claims.proofs.agreement.Agree.{Fit}
@@ -48,6 +50,7 @@ module _ {x : Book} (fit : Fit x) where
   start-fit pool long =
       let p = fit-parts fit in
       record {
+        few = sizes-facts (x .sizes) (p .sizes) .n;
         sizes = refl;
         retentions = refl;
         slots = refl;
@@ -58,6 +61,8 @@ module _ {x : Book} (fit : Fit x) where
         maps = p .maps;
         recordCount = omega arith;
         records = p .records;
+        given = take-length (x .records);
+        afters = ap (all (afterOk false)) (drop-length (x .records));
         pool = long;
       }
 

@@ -21,11 +21,12 @@ use Rattle.model.specs.Audit.{currentSound, backupSound, backupsSound, audit}
 use Rattle.model.specs.AuditTwo.{keptTwo, expiryTwo, backupTwo, backupsTwo, auditTwo}
 use Rattle.model.specs.Convert.{refreshed}
 use Rattle.model.specs.Days.{kept}
-use Rattle.model.specs.Journal.{journal, backups, days}
+use Rattle.model.specs.Journal.{journal, slotsOf, days, backupCount}
 use Rattle.model.specs.Read.{image}
 use Rattle.claims.proofs.form.Refreshed.{AllButExpiries, expiry-fresh, refreshed-others}
 use Rattle.claims.proofs.form.SlotsFit.{daysIn, days-journal, days-above}
 use Rattle.claims.proofs.kept.JournalLaws.{untilIn-book}
+use Rattle.claims.proofs.kept.Retirements.{count-within}
 
 -- ---- what is kept by today's rule was kept by that of layout 2, since a volume's days never fall
 
@@ -116,11 +117,11 @@ module _ (x : Book) (s : Sized x) where
 
   module _ (ok : daysOk (x .slots) ≡ true) where
     days-rise : (v : ℕ) → neverFall (days x v) ≡ true
-    unfolding days backups journal
+    unfolding days slotsOf journal
     days-rise v = rw (days-journal v [] (x .slots) (x .records)) (volume-days v (x .slots) ok)
 
     backup-sound : (v k : ℕ) → backupTwo x v (suc k) ≡ true → backupSound y v (suc k) ≡ true
-    unfolding refreshed withEntries backupTwo backupSound image days backups journal
+    unfolding refreshed withEntries backupTwo backupSound image days slotsOf journal
     backup-sound v k e =
         let ds = days x v in
         let r = retentionOf x v in
@@ -134,16 +135,16 @@ module _ (x : Book) (s : Sized x) where
         go true false rest h e = absurd (not-both false (h refl) refl)
 
     backups-sound : backupsTwo x ≡ true → backupsSound y ≡ true
-    unfolding refreshed withEntries backupsTwo backupsSound days backups journal
+    unfolding refreshed withEntries backupsTwo backupsSound backupCount days slotsOf journal
     backups-sound e =
-        all-weaker (λ v. all (backupTwo x v) (upFrom 1 (length (days x v)))) (λ v. all (backupSound y v) (upFrom 1 (length (days x v))))
+        all-weaker (λ v. all (backupTwo x v) (upFrom 1 (length (days x v)))) (λ v. all (backupSound y v) (upFrom 1 (backupCount x v)))
         (upFrom 0 volumes) numbers e
       where
         numbers : (v : ℕ) → all (backupTwo x v) (upFrom 1 (length (days x v))) ≡ true
-            → all (backupSound y v) (upFrom 1 (length (days x v))) ≡ true
+            → all (backupSound y v) (upFrom 1 (backupCount x v)) ≡ true
         numbers v h =
-            all-upFrom (backupSound y v) 1 (length (days x v)) (λ k lo hi.
-            number v k lo (upFrom-all (backupTwo x v) 1 (length (days x v)) h k lo hi))
+            all-upFrom (backupSound y v) 1 (backupCount x v) (λ k lo hi.
+            number v k lo (upFrom-all (backupTwo x v) 1 (length (days x v)) h k lo (omega (arith, count-within x v))))
           where
             number : (v k : ℕ) → 1 ≤ k → backupTwo x v k ≡ true → backupSound y v k ≡ true
             number v zero lo h = absurd (omega arith)

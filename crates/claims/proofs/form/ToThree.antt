@@ -1,7 +1,7 @@
 -- What the converter from layout 2 to 3 writes (document 02, K4): every expiry worked out afresh, every other field equal, in form; and what
 -- was sound by the rules of layout 2 is sound by today's.
 use Prim.Native.Nat.{ℕ, _<_}
-use mathlib.Core.Path.{_≡_, ap}
+use mathlib.Core.Path.{_≡_, ap, refl}
 use mathlib.Core.Bool.{true}
 use mathlib.Core.List.{List}
 use lib.ListN.{getD}
@@ -32,7 +32,7 @@ module _ (b : List ℕ) (room : ℕ) (c : List ℕ) (small : (i : ℕ) → getD 
   -- it writes a book of layout 3 in form
   pub three-form : formAs 3 c ≡ 0
   unfolding toThree
-  three-form = written-form 2 3 (λ x. 0) refreshed b room c small e keeps-refreshed
+  three-form = written-form 2 3 (λ x. 0) refreshed b room c small e keeps-refreshed refl
 
   -- with every other field equal
   pub others-equal : AllButExpiries (withLayout 3 (bookOf b)) (bookOf c)

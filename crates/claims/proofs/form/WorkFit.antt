@@ -1,11 +1,11 @@
 -- A book between two changes of a backup: what every change keeps, and what steps 1 and 2 leave.
-use Prim.Native.Nat.{ℕ, suc, _+_, _<_}
+use Prim.Native.Nat.{ℕ, suc, _+_, _≤_, _<_}
 use mathlib.Core.Path.{_≡_, refl, ap, subst, _∙_}
 use mathlib.Core.Bool.{Bool, true, false}
 use mathlib.Core.Option.{Option, none, some}
 use native.Mathlib.Nat.{mod-lt}
 use native.Mathlib.Omega.{arith}
-use lib.ListN.{length, length-set}
+use lib.ListN.{length, take, drop, length-set}
 use lib.Seq.{getD-set-same}
 use Rattle.words.proofs.Accepted.{refused-not}
 use Rattle.words.specs.Choice.{if_then_else_}
@@ -14,7 +14,7 @@ use Rattle.words.specs.Outcome.{refused, accepted}
 use Rattle.words.proofs.Places.{all-set}
 use Rattle.runs.specs.Changes.{Change}
 use Rattle.book.specs.Book.{volumes, Entry, Book, freeEntry, entryAt}
-use Rattle.book.specs.Form.{recOk}
+use Rattle.book.specs.Form.{recOk, afterOk}
 use Rattle.book.specs.Next.{withCursor, withEntries, heldAs}
 use Rattle.model.specs.Pool.{poolSize, blockAt}
 use Rattle.model.specs.Backup.{Work, Placed, findHeld, findFree, takeBlock, placeFree, placeHeld, place}
@@ -26,6 +26,7 @@ use Rattle.claims.proofs.claims.FoundBlocks.{held-lowest, free-next}
 
 -- k changes were made from the book x
 pub record WorkFit (x : Book) (k : ℕ) (w : Work) : Type 0 where
+  pub few : x .sizes .n ≤ 4096
   pub sizes : w .book .sizes ≡ x .sizes
   pub retentions : w .book .retentions ≡ x .retentions
   pub slots : w .book .slots ≡ x .slots
@@ -36,6 +37,9 @@ pub record WorkFit (x : Book) (k : ℕ) (w : Work) : Type 0 where
   pub maps : all (mapFit (x .sizes)) (w .book .maps) ≡ true
   pub recordCount : length (w .book .records) ≡ length (x .records) + k
   pub records : all (recOk (x .sizes)) (w .book .records) ≡ true
+  -- those that were there, and behind them those of a backup
+  pub given : take (length (x .records)) (w .book .records) ≡ x .records
+  pub afters : all (afterOk false) (drop (length (x .records)) (w .book .records)) ≡ true
   pub pool : length (w .pool) ≡ poolSize (x .sizes .n)
 
 -- .. and the block of the next change was found or taken
@@ -60,6 +64,7 @@ module _ (x : Book) (k : ℕ) (c : Change) (good : ChangeFit (x .sizes .l) c) (w
       let n : w .book .sizes .n ≡ x .sizes .n = ap (λ z. z .n) (f .sizes) in
       record {
         work = record {
+          few = f .few;
           sizes = f .sizes;
           retentions = f .retentions;
           slots = f .slots;
@@ -70,6 +75,8 @@ module _ (x : Book) (k : ℕ) (c : Change) (good : ChangeFit (x .sizes .l) c) (w
           maps = f .maps;
           recordCount = f .recordCount;
           records = f .records;
+          given = f .given;
+          afters = f .afters;
           pool = length-with (w .pool) (c .block) p (x .sizes .n) (good .block) h (f .pool);
         };
         inside = h;

@@ -17,10 +17,10 @@ use Rattle.words.specs.Choice.{if_then_else_}
 use Rattle.words.specs.Lists.{firstThat, joined}
 use Rattle.book.specs.Book.{Slot, Rec, Book, noSlot, slotAt, cellAt}
 use Rattle.book.specs.Form.{pairsOk}
-use Rattle.model.specs.Journal.{Backup, lastDay, sinceOf, journalOf, journal, backups}
+use Rattle.model.specs.Journal.{Backup, lastDay, sinceOf, journalOf, journal, slotsOf}
 use Rattle.model.specs.Read.{recordsOf, beforeOr, image}
-use Rattle.claims.proofs.kept.JournalLaws.{backupsIn-append}
-use Rattle.model.specs.JournalAt.{noBackup, backupAt, goneAfter, lastBefore, backupsFrom, ownAt, firstBefore, imageFrom}
+use Rattle.claims.proofs.kept.JournalLaws.{slotsIn-append}
+use Rattle.model.specs.JournalAt.{noBackup, backupAt, goneAfter, lastBefore, ownFrom, ownAt, firstBefore, imageFrom}
 
 -- ---- its parts are the slot's
 
@@ -105,26 +105,26 @@ module _ (x : Book) (q : ℕ) where
 
 -- ---- the volume's backups in the slots from q on
 
-pub from-start : (x : Book) (v : ℕ) → backupsFrom x v 0 ≡ backups x v
-unfolding backupsFrom backups
+pub from-start : (x : Book) (v : ℕ) → ownFrom x v 0 ≡ slotsOf x v
+unfolding ownFrom slotsOf
 from-start x v = refl
 
 module _ (x : Book) (v q : ℕ) where
   -- slot q is the volume's, or another's
-  pub from-own : q < length (x .slots) → slotAt (x .slots) q .volume ≡ v → backupsFrom x v q ≡ backupAt x q ∷ backupsFrom x v (q + 1)
-  unfolding backupsFrom
+  pub from-own : q < length (x .slots) → slotAt (x .slots) q .volume ≡ v → ownFrom x v q ≡ backupAt x q ∷ ownFrom x v (q + 1)
+  unfolding ownFrom
   from-own h e = rw (journal-next x q h, eq-eqb (backupAt x q .volume) v (volume-at x q ∙ e))
 
-  pub from-other : q < length (x .slots) → (slotAt (x .slots) q .volume ≡ v → ⊥) → backupsFrom x v q ≡ backupsFrom x v (q + 1)
-  unfolding backupsFrom
+  pub from-other : q < length (x .slots) → (slotAt (x .slots) q .volume ≡ v → ⊥) → ownFrom x v q ≡ ownFrom x v (q + 1)
+  unfolding ownFrom
   from-other h n = rw (journal-next x q h, ne-eqb (backupAt x q .volume) v (λ e. n (sym (volume-at x q) ∙ e)))
 
-  pub from-split : q < length (x .slots) → backupsFrom x v q ≡ ownAt x v q ++ backupsFrom x v (q + 1)
-  unfolding backupsFrom
-  from-split h = rw (journal-next x q h) (backupsIn-append v (backupAt x q ∷ []) (drop (q + 1) (journal x)))
+  pub from-split : q < length (x .slots) → ownFrom x v q ≡ ownAt x v q ++ ownFrom x v (q + 1)
+  unfolding ownFrom
+  from-split h = rw (journal-next x q h) (slotsIn-append v (backupAt x q ∷ []) (drop (q + 1) (journal x)))
 
-  pub from-end : length (x .slots) ≤ q → backupsFrom x v q ≡ []
-  unfolding backupsFrom
+  pub from-end : length (x .slots) ≤ q → ownFrom x v q ≡ []
+  unfolding ownFrom
   from-end h = rw (journal-end x q h)
 
 -- ---- what the volume had before its backups in the slots from q on
@@ -149,14 +149,14 @@ module _ (x : Book) (v q l : ℕ) where
   pub image-split : q < length (x .slots) → imageFrom x v q l ≡ firstBefore l (recordsOf (ownAt x v q)) (imageFrom x v (q + 1) l)
   unfolding imageFrom
   image-split h =
-      rw (from-split x v q h, recordsOf-append (ownAt x v q) (backupsFrom x v (q + 1)))
-      (firstBefore-append l (recordsOf (ownAt x v q)) (recordsOf (backupsFrom x v (q + 1))) (cellAt (x .maps) v l))
+      rw (from-split x v q h, recordsOf-append (ownAt x v q) (ownFrom x v (q + 1)))
+      (firstBefore-append l (recordsOf (ownAt x v q)) (recordsOf (ownFrom x v (q + 1))) (cellAt (x .maps) v l))
 
   pub image-end : length (x .slots) ≤ q → imageFrom x v q l ≡ cellAt (x .maps) v l
   unfolding imageFrom
   image-end h = rw (from-end x v q h)
 
   -- where these are the backups after k, it is the image of k
-  pub image-from : (k : ℕ) → drop k (backups x v) ≡ backupsFrom x v q → image x v k l ≡ imageFrom x v q l
+  pub image-from : (k : ℕ) → drop k (slotsOf x v) ≡ ownFrom x v q → image x v k l ≡ imageFrom x v q l
   unfolding image imageFrom
   image-from k e = rw e

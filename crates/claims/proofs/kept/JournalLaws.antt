@@ -14,16 +14,16 @@ use Rattle.words.proofs.Appends.{those-append, someOf-append}
 use Rattle.words.specs.Lists.{all}
 use Rattle.book.specs.Book.{Slot, Rec, Book, retentionOf}
 use Rattle.book.specs.Form.{pairsOk}
-use Rattle.model.specs.Journal.{Backup, lastDay, journalOf, journal, backupsIn}
+use Rattle.model.specs.Journal.{Backup, lastDay, journalOf, journal, slotsIn}
 use Rattle.model.specs.JournalAt.{goneAfter}
 use Rattle.model.specs.Audit.{applied, replayed, hasBefore, dueOf, untilIn}
 use Rattle.claims.proofs.agreement.Agree.{reaches}
-use Rattle.claims.proofs.kept.Sound.{Sound, SoundAll, Days, Rising, AllRise}
+use Rattle.claims.proofs.kept.Sound.{Sound, SoundAll, Days, Rising, AllRise, EmptiedAll}
 
 -- ---- one slot more, with its records behind the others
 
 -- the last pair ends where the records end
-pairs-end : (at : ℕ) (ts : List Slot) (u : ℕ) → pairsOk at ts u ≡ true → at ≤ u
+pub pairs-end : (at : ℕ) (ts : List Slot) (u : ℕ) → pairsOk at ts u ≡ true → at ≤ u
 pairs-end at [] u e = omega (arith, eqb-true at u e)
 pairs-end at (t ∷ ts) u e =
     let z = pairs-end (at + t .number) ts u (and-true (eqb (t .first) at) (pairsOk (at + t .number) ts u) e .1) in
@@ -31,13 +31,13 @@ pairs-end at (t ∷ ts) u e =
 
 -- the backup that a slot adds behind slots ts, with its records
 abbrev pub added : List Slot → Slot → List Rec → Backup
-added ts t qs = record { volume = t .volume; day = t .day; prev = lastDay (t .volume) (goneAfter [] ts); records = qs }
+added ts t qs = record { volume = t .volume; day = t .day; retire = t .retire; prev = lastDay (t .volume) (goneAfter [] ts); records = qs }
 
 journalOf-append : (gone ts : List Slot) (rs : List Rec) (t : Slot) (qs : List Rec) (at : ℕ)
     → pairsOk at ts (at + length rs) ≡ true → length qs ≡ t .number
     → journalOf gone (ts ++ (t ∷ [])) (rs ++ qs)
     ≡ journalOf gone ts rs
-    ++ (record { volume = t .volume; day = t .day; prev = lastDay (t .volume) (goneAfter gone ts); records = qs } ∷ [])
+    ++ (record { volume = t .volume; day = t .day; retire = t .retire; prev = lastDay (t .volume) (goneAfter gone ts); records = qs } ∷ [])
 journalOf-append gone [] [] t qs at e f = rw (← f, take-length)
 journalOf-append gone [] (r ∷ rs) t qs at e f = absurd (omega (arith, eqb-true at (at + suc (length rs)) e))
 journalOf-append gone (a ∷ ts) rs t qs at e f =
@@ -78,8 +78,8 @@ rising-append a e (q ∷ rs) r s b h k =
 
 -- ---- backups
 
-pub backupsIn-append : (v : ℕ) (bs cs : List Backup) → backupsIn v (bs ++ cs) ≡ backupsIn v bs ++ backupsIn v cs
-backupsIn-append v bs cs = those-append (λ (b : Backup). eqb (b .volume) v) bs cs
+pub slotsIn-append : (v : ℕ) (bs cs : List Backup) → slotsIn v (bs ++ cs) ≡ slotsIn v bs ++ slotsIn v cs
+slotsIn-append v bs cs = those-append (λ (b : Backup). eqb (b .volume) v) bs cs
 
 pub replayed-append : (ms : List (List ℕ)) (bs cs : List Backup) → replayed ms (bs ++ cs) ≡ replayed (replayed ms bs) cs
 replayed-append ms [] cs = refl
@@ -96,6 +96,13 @@ unfolding SoundAll
 soundAll-append ms [] cs s t = t
 soundAll-append ms (b ∷ bs) cs s t =
     (s .0, s .1, soundAll-append (set ms (b .volume) (applied (getD ms (b .volume) []) (b .records))) bs cs (s .2) t)
+
+pub emptied-append : (l : ℕ) (ms : List (List ℕ)) (bs cs : List Backup) → EmptiedAll l ms bs → EmptiedAll l (replayed ms bs) cs
+    → EmptiedAll l ms (bs ++ cs)
+unfolding EmptiedAll
+emptied-append l ms [] cs s t = t
+emptied-append l ms (b ∷ bs) cs s t =
+    (s .0, emptied-append l (set ms (b .volume) (applied (getD ms (b .volume) []) (b .records))) bs cs (s .1) t)
 
 pub days-append : (d e : ℕ) (bs : List Backup) (b : Backup) → Days d bs e → e ≤ b .day → Days d (bs ++ (b ∷ [])) (b .day)
 unfolding Days

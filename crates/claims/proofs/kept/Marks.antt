@@ -16,16 +16,17 @@ use Rattle.words.proofs.Places.{place-some, countOf-none, someOf-joined}
 use Rattle.book.specs.Book.{volumes, Book, entryAt, cellAt, retentionOf}
 use Rattle.book.specs.Form.{sizesOk}
 use Rattle.book.proofs.SizesIn.{sizes-facts}
-use Rattle.model.specs.Journal.{journal, backupsIn}
+use Rattle.model.specs.Journal.{journal, slotsIn}
 use Rattle.model.specs.Audit.{noMaps}
-use Rattle.model.specs.Plain.{Plain, retentionAt, takenOf, names, keptNames, marked}
+use Rattle.model.specs.Plain.{Plain, retentionAt, takenOf, names, keptNames, marked, noMap}
 use Rattle.claims.proofs.agreement.Agree.{Agree, named, reaches}
 use Rattle.claims.proofs.kept.TakenLaws.{some-volume, volume-some}
-use Rattle.claims.proofs.kept.Replays.{backupsIn-days, backups-linked}
-use Rattle.claims.proofs.agreement.AgreeLaws.{length-noMaps, sounds-agree, images-agree, map-after, maps-agree, retention-agree}
+use Rattle.claims.proofs.kept.Replays.{slotsIn-days, backups-linked}
+use Rattle.claims.proofs.agreement.AgreeLaws.{length-noMaps, sounds-agree, taken-agree, emptied-agree, map-after, maps-agree, retention-agree}
 use Rattle.claims.proofs.kept.KeptCells.{keptAt, takenAt, kept-cell}
 use Rattle.claims.proofs.kept.KeptNames.{cell-names, kept-names-cell, cell-kept-names}
 use Rattle.claims.proofs.kept.Reaches.{reachesBy, until-reaches, taken-reaches, reaches-taken}
+use Rattle.claims.proofs.kept.TakenIn.{kept-takenIn}
 
 -- counts and names
 pub named-none : (x : Book) (p : ℕ) → eqb (named x p) 0 ≡ not (someOf (names p) (x .maps))
@@ -51,11 +52,13 @@ module _ {x : Book} {pool : List ℕ} {q : Plain} (g : Agree x pool q) where
   -- a volume's kept backups at one LBN, by the book alone
   pub kept-cell-agree : (d p v l : ℕ) → p ≢ unmapped → v < volumes
       → keptAt p (retentionOf x v) d l (takenOf v (q .taken))
-      ≡ (eqb p (cellAt (x .maps) v l) || takenAt p (retentionOf x v) d l (backupsIn v (journal x)))
+      ≡ (eqb p (cellAt (x .maps) v l) || takenAt p (retentionOf x v) d l (slotsIn v (journal x)))
   kept-cell-agree d p v l n h =
-      rw (images-agree g v h, map-after g v h)
-      (kept-cell p (retentionOf x v) d l (x .sizes .l) (x .day) (backupsIn v (journal x)) n (sounds-agree g v h)
-      (backupsIn-days v 0 (x .day) (journal x) (g .days)) (backups-linked x v))
+      ap (keptAt p (retentionOf x v) d l) (taken-agree g v h)
+      ∙ kept-takenIn p (retentionOf x v) d l (x .sizes .l) (noMap (x .sizes)) (slotsIn v (journal x)) n (emptied-agree g v h)
+      ∙ rw (map-after g v h)
+      (kept-cell p (retentionOf x v) d l (x .sizes .l) (x .day) (slotsIn v (journal x)) n (sounds-agree g v h)
+      (slotsIn-days v 0 (x .day) (journal x) (g .days)) (backups-linked x v))
 
   -- a cell of a current map, where no current map names p
   unnamed-cell : (p v l : ℕ) → p ≢ unmapped → v < volumes → someOf (names p) (x .maps) ≡ false → eqb p (cellAt (x .maps) v l) ≡ false
@@ -68,7 +71,7 @@ module _ {x : Book} {pool : List ℕ} {q : Plain} (g : Agree x pool q) where
       go false f = refl
 
   kept-taken : (d p v l : ℕ) → p ≢ unmapped → v < volumes → someOf (names p) (x .maps) ≡ false
-      → keptAt p (retentionOf x v) d l (takenOf v (q .taken)) ≡ takenAt p (retentionOf x v) d l (backupsIn v (journal x))
+      → keptAt p (retentionOf x v) d l (takenOf v (q .taken)) ≡ takenAt p (retentionOf x v) d l (slotsIn v (journal x))
   kept-taken d p v l n h e = kept-cell-agree d p v l n h ∙ rw (unnamed-cell p v l n h e)
 
   kept-here : (d p v : ℕ) → keptIn q p d v ≡ keptNames p (retentionOf x v) d (takenOf v (q .taken))

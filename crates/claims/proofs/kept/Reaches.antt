@@ -12,7 +12,7 @@ use Rattle.words.specs.Choice.{if_then_else_}
 use Rattle.words.proofs.ChoiceLaws.{and-true, true-and, or-cases, or-l, or-r, and-false, and-yes, leb-max, not-both}
 use Rattle.words.specs.Lists.{someOf}
 use Rattle.book.specs.Book.{Rec, Book, retentionOf}
-use Rattle.model.specs.Journal.{Backup, backupsIn}
+use Rattle.model.specs.Journal.{Backup, slotsIn}
 use Rattle.model.specs.Audit.{applied, hasBefore, dueOf, untilIn}
 use Rattle.claims.proofs.kept.Sound.{SoundAll, Rising, AllRise}
 use Rattle.claims.proofs.kept.KeptOwn.{takes}
@@ -77,14 +77,14 @@ before-takes a p (c ∷ cs) s e = go (or-cases (eqb (c .before) p) (hasBefore p 
         let w = ih y in
         (w .0, (let q = w .1 in let z = s .0 in omega arith), rw (ne-eqb (c .lbn) (w .0) (λ z. let q = w .1 in omega arith)) (w .2))
 
-pub taken-reaches : (x : Book) (d p v l : ℕ) (bs : List Backup) → takenAt p (retentionOf x v) d l (backupsIn v bs) ≡ true
+pub taken-reaches : (x : Book) (d p v l : ℕ) (bs : List Backup) → takenAt p (retentionOf x v) d l (slotsIn v bs) ≡ true
     → someOf (reachesBy x d p) bs ≡ true
 taken-reaches x d p v l [] e = e
 taken-reaches x d p v l (b ∷ bs) e = go (eqb (b .volume) v) refl e (taken-reaches x d p v l bs)
   where
     step : b .volume ≡ v
-        → ((leb d (dueOf (retentionOf x v) b) && takes p l (b .records)) ≡ true) ⊎ (takenAt p (retentionOf x v) d l (backupsIn v bs) ≡ true)
-        → (takenAt p (retentionOf x v) d l (backupsIn v bs) ≡ true → someOf (reachesBy x d p) bs ≡ true)
+        → ((leb d (dueOf (retentionOf x v) b) && takes p l (b .records)) ≡ true) ⊎ (takenAt p (retentionOf x v) d l (slotsIn v bs) ≡ true)
+        → (takenAt p (retentionOf x v) d l (slotsIn v bs) ≡ true → someOf (reachesBy x d p) bs ≡ true)
         → someOf (reachesBy x d p) (b ∷ bs) ≡ true
     step q (inl a) ih =
         let c = and-true (leb d (dueOf (retentionOf x v) b)) (takes p l (b .records)) a in
@@ -92,34 +92,34 @@ taken-reaches x d p v l (b ∷ bs) e = go (eqb (b .volume) v) refl e (taken-reac
         (rw q (true-and (leb d (dueOf (retentionOf x v) b)) (hasBefore p (b .records)) (c .0) (takes-before p l (b .records) (c .1))))
     step q (inr y) ih = or-r (reachesBy x d p b) (someOf (reachesBy x d p) bs) (ih y)
 
-    go : (t : Bool) → eqb (b .volume) v ≡ t → takenAt p (retentionOf x v) d l (if t then b ∷ backupsIn v bs else backupsIn v bs) ≡ true
-        → (takenAt p (retentionOf x v) d l (backupsIn v bs) ≡ true → someOf (reachesBy x d p) bs ≡ true)
+    go : (t : Bool) → eqb (b .volume) v ≡ t → takenAt p (retentionOf x v) d l (if t then b ∷ slotsIn v bs else slotsIn v bs) ≡ true
+        → (takenAt p (retentionOf x v) d l (slotsIn v bs) ≡ true → someOf (reachesBy x d p) bs ≡ true)
         → someOf (reachesBy x d p) (b ∷ bs) ≡ true
     go true q e ih =
         step (eqb-true (b .volume) v q)
-        (or-cases (leb d (dueOf (retentionOf x v) b) && takes p l (b .records)) (takenAt p (retentionOf x v) d l (backupsIn v bs)) e) ih
+        (or-cases (leb d (dueOf (retentionOf x v) b) && takes p l (b .records)) (takenAt p (retentionOf x v) d l (slotsIn v bs)) e) ih
     go false q e ih = or-r (reachesBy x d p b) (someOf (reachesBy x d p) bs) (ih e)
 
 -- where a record with before p stands: its volume and its LBN
 pub reaches-taken : (x : Book) (d p : ℕ) (ms : List (List ℕ)) (bs : List Backup) → SoundAll ms bs → AllRise bs
     → someOf (reachesBy x d p) bs ≡ true
-    → (v : ℕ) × (v < length ms) × ((l : ℕ) × (takenAt p (retentionOf x v) d l (backupsIn v bs) ≡ true))
+    → (v : ℕ) × (v < length ms) × ((l : ℕ) × (takenAt p (retentionOf x v) d l (slotsIn v bs) ≡ true))
 unfolding SoundAll AllRise
 reaches-taken x d p ms [] s r e = absurd (not-both false e refl)
 reaches-taken x d p ms (b ∷ bs) s r e =
     go (or-cases (reachesBy x d p b) (someOf (reachesBy x d p) bs) e)
     (reaches-taken x d p (set ms (b .volume) (applied (getD ms (b .volume) []) (b .records))) bs (s .2) (r .1))
   where
-    keep : (v l : ℕ) → takenAt p (retentionOf x v) d l (backupsIn v bs) ≡ true → (t : Bool)
-        → takenAt p (retentionOf x v) d l (if t then b ∷ backupsIn v bs else backupsIn v bs) ≡ true
-    keep v l e true = or-r (leb d (dueOf (retentionOf x v) b) && takes p l (b .records)) (takenAt p (retentionOf x v) d l (backupsIn v bs)) e
+    keep : (v l : ℕ) → takenAt p (retentionOf x v) d l (slotsIn v bs) ≡ true → (t : Bool)
+        → takenAt p (retentionOf x v) d l (if t then b ∷ slotsIn v bs else slotsIn v bs) ≡ true
+    keep v l e true = or-r (leb d (dueOf (retentionOf x v) b) && takes p l (b .records)) (takenAt p (retentionOf x v) d l (slotsIn v bs)) e
     keep v l e false = e
 
     go : (reachesBy x d p b ≡ true) ⊎ (someOf (reachesBy x d p) bs ≡ true)
         → (someOf (reachesBy x d p) bs ≡ true
         → (v : ℕ) × (v < length (set ms (b .volume) (applied (getD ms (b .volume) []) (b .records))))
-        × ((l : ℕ) × (takenAt p (retentionOf x v) d l (backupsIn v bs) ≡ true)))
-        → (v : ℕ) × (v < length ms) × ((l : ℕ) × (takenAt p (retentionOf x v) d l (backupsIn v (b ∷ bs)) ≡ true))
+        × ((l : ℕ) × (takenAt p (retentionOf x v) d l (slotsIn v bs) ≡ true)))
+        → (v : ℕ) × (v < length ms) × ((l : ℕ) × (takenAt p (retentionOf x v) d l (slotsIn v (b ∷ bs)) ≡ true))
     go (inl y) ih =
         let c = and-true (leb d (dueOf (retentionOf x (b .volume)) b)) (hasBefore p (b .records)) y in
         let w = before-takes 0 p (b .records) (r .0) (c .1) in

@@ -7,7 +7,6 @@ use mathlib.Core.List.{List, _++_, append-assoc}
 use native.Mathlib.Nat.{zero-add}
 use native.Mathlib.Omega.{arith}
 use lib.Dec.{leb, ltb, eqb}
-use lib.ListN.{length}
 use borrow.Author.Tests.{le-ltb, lt-leb, ltb-false}
 use Rattle.words.proofs.Tests.{or-neither}
 use Rattle.words.specs.Blocks.{blockSize, unmapped}
@@ -19,7 +18,7 @@ use Rattle.book.specs.Book.{Book, retentionOf}
 use Rattle.book.specs.Form.{formNumber}
 use Rattle.book.specs.Layout.{bookOf}
 use Rattle.model.specs.Days.{kept}
-use Rattle.model.specs.Journal.{days, noVolume}
+use Rattle.model.specs.Journal.{days, noVolume, backupCount}
 use Rattle.model.specs.Kept.{keptNumber}
 use Rattle.model.specs.OnBytes.{poolNumber, restoreBytes}
 use Rattle.model.specs.Pool.{blockAt}
@@ -79,7 +78,7 @@ module _ (x : Book) (pool : List ℕ) (v k : ℕ) where
       ≡ unless (keptNumber x v k) (unless (if leb (x .sizes .l) lbn then 17 else if goneAt lbn then 18 else 0) (accepted (blockOf lbn)))
   unfolding read readNumber keptNumber
   read-order lbn =
-      numbers-then (noVolume x v) (eqb k 0 || ltb (length (days x v)) k) (kept (days x v) (retentionOf x v) (x .day) k) _
+      numbers-then (noVolume x v) (eqb k 0 || ltb (backupCount x v) k) (kept (days x v) (retentionOf x v) (x .day) k) _
       (accepted (blockOf lbn))
 
   pub read-kept : (lbn : ℕ) → keptNumber x v k ≡ 0 → lbn < x .sizes .l → read x pool v k lbn ≡ onlyUnmapped (goneAt lbn) (blockOf lbn)

@@ -1,8 +1,9 @@
 -- When a journal is sound over the maps that it starts from: what audit asks of it, as facts.
 use Prim.Native.Nat.{ℕ, suc, _≤_, _<_}
 use mathlib.Core.Path.{_≡_}
+use mathlib.Core.Bool.{true}
 use mathlib.Core.List.{List, [], _∷_}
-use lib.ListN.{length, getD, set}
+use lib.ListN.{length, getD, set, replicate}
 use Rattle.words.specs.Blocks.{unmapped}
 use Rattle.book.specs.Book.{Rec}
 use Rattle.model.specs.Journal.{Backup}
@@ -33,3 +34,15 @@ Rising a (r ∷ rs) = (a ≤ r .lbn) × Rising (suc (r .lbn)) rs
 unfoldable pub AllRise : List Backup → Type 0
 AllRise [] = Unit {0}
 AllRise (b ∷ bs) = Rising 0 (b .records) × AllRise bs
+
+-- a retirement leaves each of its volume's l cells unmapped
+unfoldable pub EmptiedAll : ℕ → List (List ℕ) → List Backup → Type 0
+EmptiedAll l ms [] = Unit {0}
+EmptiedAll l ms (b ∷ bs) =
+    (b .retire ≡ true → applied (getD ms (b .volume) []) (b .records) ≡ replicate l unmapped)
+    × EmptiedAll l (set ms (b .volume) (applied (getD ms (b .volume) []) (b .records))) bs
+
+-- the same of one volume's slots
+unfoldable pub Emptied : ℕ → List ℕ → List Backup → Type 0
+Emptied l m [] = Unit {0}
+Emptied l m (b ∷ bs) = (b .retire ≡ true → applied m (b .records) ≡ replicate l unmapped) × Emptied l (applied m (b .records)) bs

@@ -1,16 +1,18 @@
 -- Laws of the plain store's list of what was taken, of one volume or of all.
-use Prim.Native.Nat.{ℕ, suc, _<_}
+use Prim.Native.Nat.{ℕ, suc, _≤_, _<_}
 use mathlib.Core.Path.{_≡_, refl, sym, ap, _∙_}
 use mathlib.Core.Bool.{Bool, true, false}
 use mathlib.Core.List.{List, [], _∷_, _++_, map}
 use native.Mathlib.Nat.{zero-add}
+use native.Mathlib.Omega.{arith}
 use lib.ListN.{length, getD}
-use Rattle.words.proofs.ChoiceLaws.{and-true, not-both}
+use Rattle.words.proofs.ChoiceLaws.{and-true, true-and, not-both}
 use Rattle.words.specs.Lists.{all, someOf, upFrom}
 use Rattle.words.proofs.Places.{some-place, place-some}
 use Rattle.words.proofs.Ranges.{length-upFrom, getD-upFrom}
+use Rattle.words.proofs.Tests.{or-neither}
 use Rattle.book.specs.Book.{volumes, Sizes}
-use Rattle.model.specs.Plain.{What, image, retirement, Taken, mapWith, mapsOf, leaves}
+use Rattle.model.specs.Plain.{What, image, retirement, Taken, mapWith, mapsOf, isRetirement, isRetired, leaves}
 
 abbrev pub isImage : What → Bool
 isImage (image m) = true
@@ -33,12 +35,33 @@ maps-append (i ∷ is) js = go (i .what) (maps-append is js)
     go (image m) ih = ap (λ (ms : List (List ℕ)). m ∷ ms) ih
     go retirement ih = ih
 
+-- there are no more maps than things taken: a retirement has none
+pub maps-within : (is : List Taken) → length (mapsOf is) ≤ length is
+maps-within [] = omega arith
+maps-within (i ∷ is) = go (i .what) (maps-within is)
+  where
+    go : (w : What) → length (mapsOf is) ≤ length is → length (mapWith w (mapsOf is)) ≤ suc (length is)
+    go (image m) ih = omega arith
+    go retirement ih = omega arith
+
 -- ---- where all were taken by backups
 
-pub backups-end : (is : List Taken) → all isBackup is ≡ true → Ends is
-backups-end [] e = tt
-backups-end (i ∷ is) e =
-    let w = and-true (isBackup i) (all isBackup is) e in (λ f. absurd (not-both (isBackup i) (w .0) f), backups-end is (w .1))
+-- so it is of a volume that isn't retired
+pub living-backups : (is : List Taken) → isRetired is ≡ false → all isBackup is ≡ true
+living-backups [] e = refl
+living-backups (i ∷ is) e =
+    let w = or-neither (isRetirement (i .what)) (isRetired is) e in
+    true-and (isBackup i) (all isBackup is) (go (i .what) (w .0)) (living-backups is (w .1))
+  where
+    go : (w : What) → isRetirement w ≡ false → isImage w ≡ true
+    go (image m) f = refl
+    go retirement f = absurd (not-both true refl f)
+
+-- then one more may follow, whatever it is
+pub backups-then : (is : List Taken) (i : Taken) → all isBackup is ≡ true → Ends (is ++ (i ∷ []))
+backups-then [] i e = (λ f. refl, tt)
+backups-then (j ∷ is) i e =
+    let w = and-true (isBackup j) (all isBackup is) e in (λ f. absurd (not-both (isBackup j) (w .0) f), backups-then is i (w .1))
 
 pub backups-leave : (z : Sizes) (is : List Taken) → all isBackup is ≡ true → map (λ (i : Taken). leaves z (i .what)) is ≡ mapsOf is
 backups-leave z [] e = refl

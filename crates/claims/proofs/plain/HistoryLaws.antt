@@ -17,7 +17,7 @@ use Rattle.model.specs.Days.{keptBy, kept}
 use Rattle.claims.proofs.kept.DayLaws.{kept-own}
 use Rattle.model.specs.Calls.{block}
 use Rattle.model.specs.Sides.{readAnswer}
-use Rattle.model.specs.History.{Sent, History, withSent, lastBlock, sentBlock, isNone, blockOr, historyNumber, historyRead}
+use Rattle.model.specs.History.{Sent, History, withSent, daysNoted, lastBlock, sentBlock, isNone, blockOr, historyNumber, historyRead}
 
 -- ---- the last block sent
 
@@ -63,7 +63,7 @@ kept-earlier ds r d t (suc k) h e = go (getD ds k 0) (drop (suc k) ds) e
     go own [] e = refl
     go own (x ∷ ts) e = kept-own own x ts r d .1 (let z = kept-own own x ts r t .0 e in omega arith)
 
--- one more backup makes no other kept longer
+-- one more backup makes no other kept longer, and neither does a retirement
 pub kept-shorter : (ds : List ℕ) (x r d k : ℕ) → k ≤ length ds → kept (ds ++ (x ∷ [])) r d k ≡ true → kept ds r d k ≡ true
 unfolding kept
 kept-shorter ds x r d zero h e = e
@@ -80,7 +80,7 @@ pub read-was-sent : (l : ℕ) (h : History) (d k lbn : ℕ) (b : List ℕ) → h
 unfolding historyRead historyNumber readAnswer
 read-was-sent l h d k lbn b e =
     go (eqb (h .retention) 0) (eqb k 0 || ltb (length (h .sent)) k)
-    (not (kept (map (λ (s : Sent). s .day) (h .sent)) (h .retention) d k)) (leb l lbn)
+    (not (kept (daysNoted h) (h .retention) d k)) (leb l lbn)
     (sentBlock h k lbn) e
   where
     go : (t u v w : Bool) (o : Option (List ℕ))

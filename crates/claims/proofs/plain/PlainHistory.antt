@@ -15,16 +15,20 @@ use Rattle.book.specs.Book.{volumes}
 use Rattle.model.specs.Days.{badDay, notAfter, badRetention}
 use Rattle.claims.proofs.kept.DayLaws.{good-day}
 use Rattle.model.specs.Plain
-use Rattle.model.specs.Plain.{Plain, withRetention, retentionAt, isEnrolled, takenOf, daysOf, collected, enrolNumber, collectNumber}
+use Rattle.model.specs.Plain.{Plain, withRetention, retentionAt, isEnrolled, takenOf, daysOf, isRetired, noLiving, collected}
+use Rattle.model.specs.Plain.{enrolNumber, collectNumber}
 use Rattle.model.specs.PlainBackup
 use Rattle.model.specs.PlainBackup.{PlainWork, PlainBacked, backupNumber, runChanges, begun, closed}
-use Rattle.model.specs.Calls.{Call, enrol, backup, collect, read, audit}
-use Rattle.model.specs.Sides.{answersOf, endOf, stepOf, storeEnrolled, storeBacked, storeCollected, plain}
-use Rattle.model.specs.History.{History, withEnrol, withSent, noted, historyFrom, dayNoted, dayFrom}
+use Rattle.model.specs.PlainRetire
+use Rattle.model.specs.PlainRetire.{PlainRetired, retireNumber, retired}
+use Rattle.model.specs.Calls.{Call, enrol, backup, collect, retire, read, audit}
+use Rattle.model.specs.Sides.{answersOf, endOf, stepOf, storeEnrolled, storeBacked, storeCollected, storeRetired, plain}
+use Rattle.model.specs.History.{History, withEnrol, withSent, withLeft, noted, historyFrom, dayNoted, dayFrom}
 use Rattle.claims.proofs.form.Proper.{not-refused}
 use Rattle.claims.proofs.plain.PlainProper.{changes-proper}
 use Rattle.claims.proofs.plain.PlainRecalls.{Recalls, AllRecall}
 use Rattle.claims.proofs.plain.PlainRecallsBackup.{backup-recalls}
+use Rattle.claims.proofs.plain.PlainRecallsRetire.{retire-recalls}
 use Rattle.claims.proofs.plain.PlainRecallsOthers.{enrol-recalls, collect-recalls}
 
 -- ---- what it says that no number refuses a call
@@ -45,18 +49,31 @@ collect-allowed : (q : Plain) (t : ℕ) → collectNumber q t ≡ 0 → q .day �
 unfolding collectNumber
 collect-allowed q t e = good-day (q .day) t .0 (choice-zero (badDay (q .day) t) 6 0 e .0) .0
 
-backup-allowed : (q : Plain) (v t : ℕ) (list : List ℕ) → backupNumber q v t list ≡ 0
-    → (retentionAt q v ≡ 0 → ⊥) × (q .day ≤ t)
-unfolding backupNumber
-backup-allowed q v t list e =
-    let s = choice-zero (ltb 7 v || not (isEnrolled q v)) 4 _ e in
-    let a = or-neither (ltb 7 v) (not (isEnrolled q v)) (s .0) in
+-- backup and retire start with the same two numbers, 5 and 7
+living-allowed : (q : Plain) (v t m : ℕ)
+    → (if noLiving q v then 5 else if badDay (q .day) t || notAfter (daysOf (takenOf v (q .taken))) t then 7 else m) ≡ 0
+    → (q .day ≤ t) × (retentionAt q v ≡ 0 → ⊥) × (isRetired (takenOf v (q .taken)) ≡ false)
+living-allowed q v t m e =
     let bad = badDay (q .day) t in
     let old = notAfter (daysOf (takenOf v (q .taken))) t in
-    let b = or-neither bad old (choice-zero (bad || old) 6 _ (s .1) .0) in (
-      eqb-false (retentionAt q v) 0 (not-true (eqb (retentionAt q v) 0) (not-false (isEnrolled q v) (a .1))),
-      good-day (q .day) t .0 (b .0) .0,
+    let s = choice-zero (noLiving q v) 4 (if bad || old then 7 else m) e in
+    let a = or-neither (ltb 7 v || not (isEnrolled q v)) (isRetired (takenOf v (q .taken))) (s .0) in
+    let b = or-neither (ltb 7 v) (not (isEnrolled q v)) (a .0) in
+    let c = or-neither bad old (choice-zero (bad || old) 6 m (s .1) .0) in (
+      good-day (q .day) t .0 (c .0) .0,
+      eqb-false (retentionAt q v) 0 (not-true (eqb (retentionAt q v) 0) (not-false (isEnrolled q v) (b .1))),
+      a .1,
     )
+
+backup-allowed : (q : Plain) (v t : ℕ) (list : List ℕ) → backupNumber q v t list ≡ 0
+    → (q .day ≤ t) × (retentionAt q v ≡ 0 → ⊥) × (isRetired (takenOf v (q .taken)) ≡ false)
+unfolding backupNumber
+backup-allowed q v t list e = living-allowed q v t _ e
+
+retire-allowed : (q : Plain) (v t : ℕ) → retireNumber q v t ≡ 0
+    → (q .day ≤ t) × (retentionAt q v ≡ 0 → ⊥) × (isRetired (takenOf v (q .taken)) ≡ false)
+unfolding retireNumber
+retire-allowed q v t e = living-allowed q v t _ e
 
 -- ---- one call
 
@@ -98,6 +115,22 @@ module _ {l d : ℕ} {q : Plain} {h : ℕ → History} (a : AllRecall l d q h) w
       go zero e = collect-recalls a t (rw (← (a .day)) (collect-allowed q t e))
       go (suc k) e = rw (eqb·suc-zero k) a
 
+  retire-step : (v t : ℕ)
+      → AllRecall l (dayNoted d (retire v t) (plain q (retire v t) .answer)) (plain q (retire v t) .next)
+      (λ w. noted w (h w) (retire v t) (plain q (retire v t) .answer))
+  unfolding plain stepOf PlainRetire.retire
+  retire-step v t = go (retireNumber q v t) refl
+    where
+      after : Outcome PlainRetired
+      after = accepted (retired q v t)
+
+      go : (n : ℕ) → retireNumber q v t ≡ n
+          → AllRecall l (dayNoted d (retire v t) (stepOf q (andThen (unless n after) storeRetired) .answer))
+          (stepOf q (andThen (unless n after) storeRetired) .next)
+          (λ w. noted w (h w) (retire v t) (stepOf q (andThen (unless n after) storeRetired) .answer))
+      go zero e = let b = retire-allowed q v t e in retire-recalls a v t (rw (← (a .day)) (b .0)) (b .1) (b .2)
+      go (suc k) e = rw (eqb·suc-zero k) (not-noted v (λ w. withLeft t (h w)) false refl)
+
   module _ (v t : ℕ) (list : List ℕ) where
     abbrev Backs : Outcome PlainBacked → Type 0
     Backs o =
@@ -115,7 +148,7 @@ module _ {l d : ℕ} {q : Plain} {h : ℕ → History} (a : AllRecall l d q h) w
     run-step e (refused k) f = refused-step k (not-refused k (rw f at (changes-proper (changes list) (begun q v))))
     run-step e (accepted w) f =
         let b = backup-allowed q v t list e in
-        backup-recalls a v t (changeCount list) (changes list) w (rw (← (a .day)) (b .1)) (b .0) f
+        backup-recalls a v (b .2) t (changeCount list) (changes list) w (rw (← (a .day)) (b .0)) (b .1) f
 
     abbrev ran : Outcome PlainWork
     ran = runChanges (changes list) (begun q v)
@@ -134,6 +167,7 @@ module _ {l d : ℕ} {q : Plain} {h : ℕ → History} (a : AllRecall l d q h) w
   call-recalls (enrol v r) = enrol-step v r
   call-recalls (backup v t list) = backup-step v t list
   call-recalls (collect t) = collect-step t
+  call-recalls (retire v t) = retire-step v t
   call-recalls (read v k lbn) = a
   call-recalls audit = a
 

@@ -2,7 +2,7 @@
 use Prim.Native.Nat.{ℕ, zero, suc, _-_, _≤_, _<_}
 use mathlib.Core.Path.{_≡_, refl, sym, ap, _∙_}
 use mathlib.Core.Bool.{Bool, true, false, not, _||_}
-use mathlib.Core.List.{List, [], map}
+use mathlib.Core.List.{List, []}
 use native.Mathlib.Omega.{arith}
 use lib.Dec.{leb, ltb, eqb}
 use lib.ListN.{length, getD, List·getD-eq-default}
@@ -17,10 +17,10 @@ use Rattle.model.specs.Plain
 use Rattle.model.specs.Plain.{free, Taken, Plain, start, retentionAt, isEnrolled, takenOf, daysOf, mapsOf, bytesOf, cell}
 use Rattle.model.specs.Calls.{Call}
 use Rattle.model.specs.Sides.{answersOf, endOf, readAnswer, plain}
-use Rattle.model.specs.History.{Sent, History, historyOf, dayOf, sentBlock, isNone, blockOr, historyNumber, historyRead}
+use Rattle.model.specs.History.{History, historyOf, dayOf, daysNoted, sentBlock, isNone, blockOr, historyNumber, historyRead}
 use Rattle.claims.proofs.kept.ReadNumbers.{same-refusal, number-inside}
 use Rattle.claims.proofs.plain.PlainShows.{shownAt, held-bytes-or}
-use Rattle.claims.proofs.plain.PlainRecalls.{imageAt, AllRecall, as-many}
+use Rattle.claims.proofs.plain.PlainRecalls.{imageAt, AllRecall}
 use Rattle.claims.proofs.plain.PlainRecallsOthers.{start-recalls}
 use Rattle.claims.proofs.plain.PlainHistory.{list-recalls}
 
@@ -44,10 +44,9 @@ module _ {l d : ℕ} {q : Plain} {h : ℕ → History} (a : AllRecall l d q h) (
 
   -- numbers 15, 16 and 17
   same-count : (k : ℕ) → (eqb k 0 || ltb (length (mapsOf is)) k) ≡ (eqb k 0 || ltb (length (h v .sent)) k)
-  same-count k = rw (as-many (a .each v))
+  same-count k = rw (a .each v .count)
 
-  same-kept : (k : ℕ) → kept (daysOf is) (retentionAt q v) (q .day) k
-      ≡ kept (map (λ (s : Sent). s .day) (h v .sent)) (h v .retention) d k
+  same-kept : (k : ℕ) → kept (daysOf is) (retentionAt q v) (q .day) k ≡ kept (daysNoted (h v)) (h v .retention) d k
   same-kept k = rw (a .each v .days, a .each v .retention, a .day)
 
   same-logical : (lbn : ℕ) → leb (q .sizes .l) lbn ≡ leb l lbn

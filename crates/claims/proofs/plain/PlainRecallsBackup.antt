@@ -1,33 +1,34 @@
 -- A backup of the plain store keeps what its volumes sent.
 use Prim.Native.Nat.{ℕ, suc, _≤_}
-use mathlib.Core.Path.{_≡_, refl, sym, ap, subst, _∙_}
+use mathlib.Core.Path.{_≡_, refl, sym, ap, _∙_}
 use mathlib.Core.Logic.{_⊎_, inl, inr}
 use mathlib.Core.Bool.{Bool, true, false, _&&_}
-use mathlib.Core.List.{List, [], _∷_, _++_, append-nil}
+use mathlib.Core.List.{List, [], _∷_, _++_, map, append-nil}
 use mathlib.Core.Option.{Option}
 use native.Mathlib.Numerals.{add-one}
 use native.Mathlib.Omega.{arith}
 use native.Mathlib.Nat.{le-refl}
 use lib.Dec.{ltb, eqb}
 use lib.ListN.{length, getD, length-append}
-use borrow.Author.Tests.{ltb-true, ltb-false, eqb-true}
+use borrow.Author.Tests.{ltb-true, ltb-false}
 use Rattle.words.specs.Blocks.{unmapped}
 use Rattle.words.specs.Choice.{if_then_else_}
-use Rattle.words.proofs.Appends.{all-append, those-append, map-append}
+use Rattle.words.proofs.Appends.{map-append}
 use Rattle.words.specs.Outcome.{accepted}
 use Rattle.runs.specs.Changes.{Change}
 use Rattle.model.specs.Days.{kept}
-use Rattle.model.specs.Plain.{Block, image, Taken, Plain, atDay, withBlocks, withTaken, retentionAt, takenOf, daysOf, mapsOf, currentOf}
+use Rattle.model.specs.Plain.{Block, image, Taken, Plain, atDay, withBlocks, withTaken, retentionAt, takenOf, daysOf, mapsOf}
+use Rattle.model.specs.Plain.{isRetired, currentOf}
 use Rattle.model.specs.PlainBackup.{PlainWork, runChanges, begun, closed}
-use Rattle.model.specs.History.{Sent, History, withSent, sentBlock}
+use Rattle.model.specs.History.{Sent, History, withSent, daysNoted, sentBlock}
 use Rattle.claims.proofs.kept.DayLaws.{kept-newest}
-use Rattle.claims.proofs.kept.TakenLaws.{isBackup, maps-append}
-use Rattle.claims.proofs.plain.HistoryLaws.{sent-earlier, sent-newest, kept-shorter}
+use Rattle.claims.proofs.kept.TakenLaws.{maps-append, living-backups, backups-then}
+use Rattle.claims.proofs.plain.HistoryLaws.{sent-earlier, sent-newest}
 use Rattle.claims.proofs.plain.PlainShows.{Maps, Carries, maps-same, carries-same}
 use Rattle.claims.proofs.plain.PlainPlacing.{grown-self}
 use Rattle.claims.proofs.plain.PlainChanges.{sentOver, Copies, run-copies}
-use Rattle.claims.proofs.plain.PlainRecalls.{imageAt, Recalls, AllRecall, maps-days, as-many, current-image, image-earlier}
-use Rattle.claims.proofs.plain.PlainRecalls.{image-newest, recalls-later}
+use Rattle.claims.proofs.plain.PlainRecalls.{imageAt, Recalls, AllRecall, living-days, current-image, image-earlier}
+use Rattle.claims.proofs.plain.PlainRecalls.{image-newest, days-longer, kept-before, recalls-later, each-taken}
 
 -- ---- one more image, which shows what its changes sent, or else what the one before it shows
 
@@ -45,14 +46,11 @@ module _ (l t v n : ℕ) (bs : List Block) (span : ℕ) (is : List Taken) (h : H
   longer : length (mapsOf (is ++ (added ∷ []))) ≡ suc (length (mapsOf is))
   longer = ap length (maps-append is (added ∷ [])) ∙ length-append (mapsOf is) (cells ∷ []) ∙ add-one (length (mapsOf is))
 
-  days-longer : daysOf (is ++ (added ∷ [])) ≡ daysOf is ++ (t ∷ [])
-  days-longer = map-append (λ (i : Taken). i .day) is (added ∷ [])
-
   newest-sent : (lbn : ℕ) → shown lbn ≡ sentBlock (withSent sending h) (suc (length (mapsOf is))) lbn
-  newest-sent lbn = rw (← (as-many r)) (sym (sent-newest h sending lbn))
+  newest-sent lbn = rw (← (r .count)) (sym (sent-newest h sending lbn))
 
   earlier-sent : (k lbn : ℕ) → k ≤ length (mapsOf is) → sentBlock h k lbn ≡ sentBlock (withSent sending h) k lbn
-  earlier-sent k lbn e = sym (sent-earlier h sending k lbn (rw (as-many r) e))
+  earlier-sent k lbn e = sym (sent-earlier h sending k lbn (rw (r .count) e))
 
   -- a number is an earlier one, or the new one
   number-cases : (k : ℕ) → k ≤ length (mapsOf (is ++ (added ∷ []))) → (k ≤ length (mapsOf is)) ⊎ (k ≡ suc (length (mapsOf is)))
@@ -78,19 +76,33 @@ module _ (l t v n : ℕ) (bs : List Block) (span : ℕ) (is : List Taken) (h : H
   added-carries carries k (inl e) f =
       carries-same l (imageAt l is k) (imageAt l (is ++ (added ∷ [])) k) (sentBlock h k) (sentBlock (withSent sending h) k)
       (sym (image-earlier l is added k e)) (λ lbn. earlier-sent k lbn e) bs
-      (r .carries k e (kept-shorter (daysOf is) t span t k (rw (← (maps-days r)) e) (rw days-longer at f)))
+      (r .carries k e (kept-before is added span t k e f))
   added-carries carries k (inr e) f =
       rw e
       (carries-same l cells (imageAt l (is ++ (added ∷ [])) (suc (length (mapsOf is)))) shown
       (sentBlock (withSent sending h) (suc (length (mapsOf is)))) (sym (image-newest l is added cells refl)) newest-sent bs carries)
 
-  recalls-added : (span ≡ 0 → ⊥) → length cells ≡ l → Maps l cells shown → Carries l bs cells shown
+  -- no day of a retirement stands behind those of the backups
+  days-sent : isRetired is ≡ false → daysOf (is ++ (added ∷ [])) ≡ daysNoted (withSent sending h)
+  unfolding withSent
+  days-sent living =
+      days-longer is added
+      ∙ ap (λ (ds : List ℕ). ds ++ (t ∷ [])) (r .days ∙ none-left (h .sent))
+      ∙ sym (map-append (λ (s : Sent). s .day) (h .sent) (sending ∷ []))
+      ∙ sym (none-left (h .sent ++ (sending ∷ [])))
+    where
+      none-left : (ss : List Sent) → map (λ (s : Sent). s .day) ss ++ h .left ≡ map (λ (s : Sent). s .day) ss
+      none-left ss = rw (r .stays living) (append-nil (map (λ (s : Sent). s .day) ss))
+
+  recalls-added : (span ≡ 0 → ⊥) → isRetired is ≡ false → length cells ≡ l → Maps l cells shown → Carries l bs cells shown
       → Recalls l t bs span (is ++ (added ∷ [])) (withSent sending h)
   unfolding withSent
-  recalls-added used wide maps carries = record {
+  recalls-added used living wide maps carries = record {
     retention = r .retention;
-    backups = all-append isBackup is (added ∷ []) ∙ rw (r .backups);
-    days = days-longer ∙ ap (λ (ds : List ℕ). ds ++ (t ∷ [])) (r .days) ∙ sym (map-append (λ (s : Sent). s .day) (h .sent) (sending ∷ []));
+    ends = backups-then is added (living-backups is living);
+    days = days-sent living;
+    count = length-append (h .sent) (sending ∷ []) ∙ add-one (length (h .sent)) ∙ ap suc (r .count) ∙ sym longer;
+    stays = λ e. r .stays living;
     unused = λ e. absurd (used e);
     wide = rw (longer, image-newest l is added cells refl) wide;
     maps = λ k e. added-maps maps k (number-cases k e);
@@ -99,7 +111,8 @@ module _ (l t v n : ℕ) (bs : List Block) (span : ℕ) (is : List Taken) (h : H
 
 -- ---- the whole call
 
-module _ {l d : ℕ} {q : Plain} {h : ℕ → History} (a : AllRecall l d q h) (v : ℕ) where
+module _ {l d : ℕ} {q : Plain} {h : ℕ → History} (a : AllRecall l d q h) (v : ℕ)
+    (living : isRetired (takenOf v (q .taken)) ≡ false) where
   abbrev images : List Taken
   images = takenOf v (q .taken)
 
@@ -107,14 +120,15 @@ module _ {l d : ℕ} {q : Plain} {h : ℕ → History} (a : AllRecall l d q h) (
   was = sentBlock (h v) (length (mapsOf images))
 
   copy-begun : currentOf q v ≡ imageAt l images (length (mapsOf images))
-  copy-begun = current-image (q .sizes) images (a .each v .backups) ∙ ap (λ (m : ℕ). imageAt m images (length (mapsOf images))) (a .logical)
+  copy-begun = current-image (q .sizes) images living ∙ ap (λ (m : ℕ). imageAt m images (length (mapsOf images))) (a .logical)
 
   begun-copies : Copies l (q .blocks) was (begun q v)
   unfolding begun
   begun-copies =
       let r = a .each v in
       let newest : kept (daysOf images) (retentionAt q v) d (length (mapsOf images)) ≡ true =
-      kept-newest (daysOf images) (retentionAt q v) d (length (mapsOf images)) (rw (← (maps-days r)) (le-refl (length (mapsOf images)))) in
+      kept-newest (daysOf images) (retentionAt q v) d (length (mapsOf images))
+      (rw (← (living-days images living)) (le-refl (length (mapsOf images)))) in
       let maps = r .maps (length (mapsOf images)) (le-refl (length (mapsOf images))) in
       let carries = r .carries (length (mapsOf images)) (le-refl (length (mapsOf images))) newest in
       record {
@@ -141,16 +155,6 @@ module _ {l d : ℕ} {q : Plain} {h : ℕ → History} (a : AllRecall l d q h) (
     abbrev new : Taken
     new = record { volume = v; day = t; what = image (w .copy); changes = n }
 
-    each-recalls : (retentionAt q v ≡ 0 → ⊥) → (x : ℕ) (s : Bool) → eqb v x ≡ s
-        → Recalls l t (w .blocks) (retentionAt q x) (takenOf x (q .taken) ++ (if s then new ∷ [] else []))
-        (if s && true then withSent (record { day = t; changes = cs }) (h x) else h x)
-    each-recalls used x true e =
-        subst (λ (x : ℕ). Recalls l t (w .blocks) (retentionAt q x) (takenOf x (q .taken) ++ (new ∷ []))
-        (withSent (record { day = t; changes = cs }) (h x))) (eqb-true v x e)
-        (recalls-added l t v n (w .blocks) (retentionAt q v) (takenOf v (q .taken)) (h v) (w .copy) cs (others-recall v) used (c .wide)
-        (c .maps) (c .carries))
-    each-recalls used x false e = rw (append-nil (takenOf x (q .taken))) (others-recall x)
-
     closed-recalls : (retentionAt q v ≡ 0 → ⊥)
         → AllRecall l t (closed q v t n w .store) (λ x. if eqb v x && true then withSent (record { day = t; changes = cs }) (h x) else h x)
     unfolding closed atDay withBlocks withTaken
@@ -159,7 +163,10 @@ module _ {l d : ℕ} {q : Plain} {h : ℕ → History} (a : AllRecall l d q h) (
       day = refl;
       room = enough;
       volumeCount = a .volumeCount;
-      each = λ x. rw (those-append (λ (i : Taken). eqb (i .volume) x) (q .taken) (new ∷ [])) (each-recalls used x (eqb v x) refl);
+      each =
+          each-taken l t (w .blocks) q h new (withSent (record { day = t; changes = cs })) others-recall
+          (recalls-added l t v n (w .blocks) (retentionAt q v) images (h v) (w .copy) cs (others-recall v) used living (c .wide) (c .maps)
+          (c .carries));
     }
 
   pub backup-recalls : (t n : ℕ) (cs : List Change) (w : PlainWork) → d ≤ t → (retentionAt q v ≡ 0 → ⊥)

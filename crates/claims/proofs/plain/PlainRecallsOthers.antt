@@ -2,7 +2,7 @@
 use Prim.Native.Nat.{ℕ, zero, suc, _≤_, _<_}
 use mathlib.Core.Path.{_≡_, refl, sym, ap, subst, _∙_}
 use mathlib.Core.Bool.{Bool, true, false, _&&_}
-use mathlib.Core.List.{List, [], _∷_, map}
+use mathlib.Core.List.{List, []}
 use mathlib.Core.Option.{none, some}
 use native.Mathlib.Omega.{arith}
 use lib.Dec.{ltb, eqb}
@@ -16,13 +16,12 @@ use Rattle.words.proofs.Places.{getD-replicated}
 use Rattle.book.specs.Book.{volumes, Sizes}
 use Rattle.model.specs.Days.{kept}
 use Rattle.model.specs.Plain.{Block, free, Taken, Plain, start, atDay, withBlocks, withRetention, retentionAt, takenOf, daysOf, mapsOf}
-use Rattle.model.specs.Plain.{marked, swept, collected}
-use Rattle.model.specs.History.{Sent, History, noHistory, withEnrol, sentBlock}
+use Rattle.model.specs.Plain.{isRetired, marked, swept, collected}
+use Rattle.model.specs.History.{History, noHistory, withEnrol, daysNoted, sentBlock}
 use Rattle.claims.proofs.plain.PlainShows.{heldBytes, shownAt, shown-past, Maps, Carries}
 use Rattle.claims.proofs.kept.KeptNames.{cell-names}
-use Rattle.claims.proofs.kept.TakenLaws.{backups-end}
 use Rattle.claims.proofs.plain.PlainMarks.{kept-marked, length-swept, swept-marked}
-use Rattle.claims.proofs.plain.PlainRecalls.{imageAt, Recalls, AllRecall, as-many, recalls-later}
+use Rattle.claims.proofs.plain.PlainRecalls.{imageAt, Recalls, AllRecall, recalls-later}
 
 -- nothing is sent before backup 1
 none-sent : (h : History) (lbn : ℕ) → sentBlock h 0 lbn ≡ none
@@ -31,10 +30,6 @@ none-sent h lbn = refl
 
 -- a volume of which nothing was taken and nothing was sent
 module _ (l d span : ℕ) (bs : List Block) (h : History) (room : length bs ≤ unmapped) where
-  no-days : (ss : List Sent) → length ss ≡ 0 → [] ≡ map (λ (s : Sent). s .day) ss
-  no-days [] e = refl
-  no-days (s ∷ ss) e = absurd (omega arith)
-
   no-maps : (k : ℕ) → k ≤ 0 → Maps l (imageAt l [] k) (sentBlock h k)
   no-maps zero e lbn i = rw (getD-replicated l unmapped lbn, none-sent h lbn)
   no-maps (suc k) e lbn i = absurd (omega arith)
@@ -43,11 +38,13 @@ module _ (l d span : ℕ) (bs : List Block) (h : History) (room : length bs ≤ 
   no-carries zero e lbn i = rw (getD-replicated l unmapped lbn, none-sent h lbn) (shown-past bs unmapped room)
   no-carries (suc k) e lbn i = absurd (omega arith)
 
-  none-recalls : span ≡ h .retention → length (h .sent) ≡ 0 → Recalls l d bs span [] h
-  none-recalls e n = record {
+  none-recalls : span ≡ h .retention → [] ≡ daysNoted h → length (h .sent) ≡ 0 → h .left ≡ [] → Recalls l d bs span [] h
+  none-recalls e days unsent stays = record {
     retention = e;
-    backups = refl;
-    days = no-days (h .sent) n;
+    ends = tt;
+    days = days;
+    count = unsent;
+    stays = λ f. stays;
     unused = λ z. refl;
     wide = length-replicate l unmapped;
     maps = no-maps;
@@ -65,7 +62,9 @@ start-recalls z room =
       day = refl;
       room = enough;
       volumeCount = refl;
-      each = λ v. rw (getD-replicated {A = ℕ} volumes 0 v) (none-recalls (z .l) 0 0 (replicate (z .n) free) noHistory enough refl refl);
+      each = λ v.
+          rw (getD-replicated {A = ℕ} volumes 0 v)
+          (none-recalls (z .l) 0 0 (replicate (z .n) free) noHistory enough refl refl refl refl);
     }
 
 -- ---- collect
@@ -93,7 +92,8 @@ module _ {l d : ℕ} {q : Plain} {h : ℕ → History} (a : AllRecall l d q h) w
       let p = getD m lbn unmapped in
       let n : p ≡ unmapped → ⊥ = λ f. not-unmapped p f z in
       ap heldBytes (swept-marked (marked q t) p (q .blocks)
-      (kept-marked q t v k p (replicate l unmapped) (volume-there v k hk) (backups-end (takenOf v (q .taken)) (a .each v .backups)) hk e (cell-names p lbn m n (eq-eqb p p refl))))
+      (kept-marked q t v k p (replicate l unmapped) (volume-there v k hk) (a .each v .ends) hk e
+      (cell-names p lbn m n (eq-eqb p p refl))))
       ∙ z
     where
       not-unmapped : (p : ℕ) → p ≡ unmapped → shownAt (q .blocks) p ≡ some b → ⊥
@@ -120,9 +120,11 @@ module _ {l d : ℕ} {q : Plain} {h : ℕ → History} (a : AllRecall l d q h) w
   unfolding withEnrol
   enrolled-recalls v r e =
       let none = a .each v .unused e in
-      let unsent : length (h v .sent) ≡ 0 = as-many (a .each v) ∙ ap (λ (is : List Taken). length (mapsOf is)) none in
+      let days : [] ≡ daysNoted (h v) = sym (ap (λ (is : List Taken). daysOf is) none) ∙ a .each v .days in
+      let unsent : length (h v .sent) ≡ 0 = a .each v .count ∙ ap (λ (is : List Taken). length (mapsOf is)) none in
+      let stays : h v .left ≡ [] = a .each v .stays (ap (λ (is : List Taken). isRetired is) none) in
       subst (λ (is : List Taken). Recalls l d (q .blocks) r is (withEnrol r (h v))) (sym none)
-      (none-recalls l d r (q .blocks) (withEnrol r (h v)) (a .room) refl unsent)
+      (none-recalls l d r (q .blocks) (withEnrol r (h v)) (a .room) refl days unsent stays)
 
   pub enrol-recalls : (v r : ℕ) → v < volumes → retentionAt q v ≡ 0
       → AllRecall l d (withRetention v r q) (λ x. if eqb v x && true then withEnrol r (h x) else h x)

@@ -32,7 +32,7 @@ returns : tie.Need-returns
 returns c = restored-buffers _ _ _ _ _ _ _ (c .before .buffers-number .ensures) (c .if1 .taken)
 
 kept-backup-requires : tie.Need-kept-backup-requires
-kept-backup-requires c κs = ready c .holds
+kept-backup-requires c κs = ready c
 
 restore-before-requires : tie.Need-restore-before-requires
 restore-before-requires c κs =

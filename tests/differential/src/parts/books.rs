@@ -85,6 +85,10 @@ fn calls() -> Vec<Call> {
             length: 2,
         }));
     }
+    for volume in 0..2 {
+        let day = 60_000;
+        calls.push(Call::Retire { volume, day });
+    }
     calls
 }
 

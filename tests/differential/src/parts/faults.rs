@@ -2,7 +2,7 @@
 
 use reference::call::{Call, Stored};
 use reference::cases;
-use reference::layout::{Book, Header, Pbn};
+use reference::layout::{Book, Header, Lbn, Pbn};
 use reference::layout_2::renumbered;
 use reference::play::encode;
 use reference::prng::Prng;
@@ -17,6 +17,7 @@ use crate::seen::{equal, Seen};
 
 /// The numbers that each call is tried with; the faults of a set go together.
 const BACKUP: &[u16] = &[1, 2, 3, 4, 5, 7, 8, 9, 10, 11, 13, 14];
+const RETIRE: &[u16] = &[1, 2, 4, 5, 7, 9, 10, 13];
 const READ: &[u16] = &[1, 2, 3, 5, 15, 16, 17, 18];
 /// In the order of the checks: 21 comes before 18.
 const RESTORE: &[u16] = &[1, 2, 3, 5, 15, 16, 21, 18];
@@ -45,6 +46,7 @@ pub fn jobs() -> Vec<Job> {
     ];
     let job = |(numbers, make)| Job::new(PART, move |o| send_calls(o, numbers, make));
     let mut jobs: Vec<Job> = calls.into_iter().map(job).collect();
+    jobs.push(Job::new(PART, send_retires));
     jobs.push(Job::new(PART, send_restores));
     jobs.push(Job::new(PART, send_books));
     jobs.push(Job::new(PART, send_views));
@@ -67,6 +69,17 @@ fn send_calls(outcome: &mut Outcome, numbers: &[u16], make: Make) {
     for faults in sets(numbers) {
         let (stored, call) = (&faults.stored(), &make(&faults));
         send(outcome, &mut prng, &faults, Request::Call { stored, call });
+    }
+}
+
+/// Retirements of volume 1, which have no cell but that of LBN 3 unless it is for 10.
+fn send_retires(outcome: &mut Outcome) {
+    let mut prng = Prng::seeded(0);
+    for faults in sets(RETIRE) {
+        for (stored, call) in faults.retires() {
+            let (stored, call) = (&stored, &call);
+            send(outcome, &mut prng, &faults, Request::Call { stored, call });
+        }
     }
 }
 
@@ -117,7 +130,8 @@ fn send_lists(outcome: &mut Outcome) {
     for damage in sets(&[1, 2, 3, 4]) {
         for faults in sets(PLAY) {
             let restore = Call::Restore(damage.restores()[0].0);
-            let calls = [damage.backup(), damage.read(), restore, Call::Audit];
+            let retire = damage.retires().remove(0).1;
+            let calls = [damage.backup(), damage.read(), restore, retire, Call::Audit];
             let mut list = encode(&calls);
             let room = play::room_for(&list) - usize::from(faults.has(20));
             if faults.has(19) {
@@ -229,6 +243,24 @@ impl Faults {
             day: self.either(7, 60_001, 11),
             list,
         }
+    }
+
+    /// With 5 by a volume that there isn't, and by one that isn't enrolled. For 10 block 1 is in four
+    /// cells of the map, and for 13 its count is 0.
+    fn retires(&self) -> Vec<(Stored, Call)> {
+        let mut stored = self.stored();
+        let mut book = Book::over(&mut stored.book[..]);
+        if self.has(10) {
+            for lbn in (0..4).map(Lbn) {
+                book.set_cell(1, lbn, Pbn(1));
+            }
+            let count = self.either(13, 0, 5);
+            book.edit_entry(Pbn(1), |entry| entry.count = count);
+        }
+        let volumes: &[u16] = self.either(5, &[8, 2], &[1]);
+        let day = self.either(7, 60_001, 11);
+        let retire = |&volume: &u16| (stored.clone(), Call::Retire { volume, day });
+        volumes.iter().map(retire).collect()
     }
 
     /// Volume 1's backup 1 is kept to day 9, and its newest one has a block at LBN 3 alone.

@@ -76,7 +76,7 @@ fn send_box(outcome: &mut Outcome, buffer: usize) {
 }
 
 /// Each call, as the box after case d accepts it.
-fn calls(list: Vec<u8>) -> [Call; 6] {
+fn calls(list: Vec<u8>) -> [Call; 7] {
     [
         Call::Enrol {
             volume: 7,
@@ -94,6 +94,7 @@ fn calls(list: Vec<u8>) -> [Call; 6] {
             lbn: 0,
         },
         Call::Restore(TWO_BLOCKS),
+        Call::Retire { volume: 0, day: 20 },
         Call::Audit,
     ]
 }

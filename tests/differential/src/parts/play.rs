@@ -4,7 +4,7 @@
 use std::ops::Range;
 
 use reference::agreement;
-use reference::call::{Call, Stored};
+use reference::call::{Answer, Call, Stored};
 use reference::cases;
 use reference::history::History;
 use reference::layout::Sizes;
@@ -135,22 +135,29 @@ fn send_plain(
     let Some(seen) = send(outcome, prng, &label, (fresh, &encode(calls)), room) else {
         return;
     };
-    let (mut plain, mut history) = (Plain::new(sizes), History::new(sizes.lbns));
-    let (mut answers, mut past) = (Vec::new(), Vec::new());
-    for call in calls {
-        let answer = plain.call(call);
-        past.extend(answer_bytes(
-            history.answer(call).as_ref().unwrap_or(&answer),
-        ));
-        history.note(call, &answer);
-        answers.extend(answer_bytes(&answer));
-    }
+    let mut plain = Plain::new(sizes);
+    let answers: Vec<Answer> = calls.iter().map(|call| plain.call(call)).collect();
+    let bytes: Vec<u8> = answers.iter().flat_map(answer_bytes).collect();
     let written = seen.answers[0].1.map_or(0, |written| written as usize);
     let told = seen.content(4).get(..written).unwrap_or(&[]);
-    outcome.check(&label, equal("the answers", told, &answers[..]));
+    outcome.check(&label, equal("the answers", told, &bytes[..]));
+    // A history takes the answers for right, so it comes after them.
+    let past = past_answers(calls, &answers, sizes);
     outcome.check(&label, equal("what was sent", told, &past[..]));
     let agrees = agreement::check(seen.content(0), seen.content(1), &plain);
     outcome.check(&label, agrees);
+}
+
+/// The answers with those of reads and restores from the history.
+fn past_answers(calls: &[Call], answers: &[Answer], sizes: Sizes) -> Vec<u8> {
+    let mut history = History::new(sizes.lbns);
+    let mut past = Vec::new();
+    for (call, answer) in calls.iter().zip(answers) {
+        let of_past = history.answer(call);
+        past.extend(answer_bytes(of_past.as_ref().unwrap_or(answer)));
+        history.note(call, answer);
+    }
+    past
 }
 
 /// The rest of the list on what its beginning left, as it is and disturbed.
@@ -191,7 +198,7 @@ fn send_spoiled(
             0 => calls.truncate(prng.index(calls.len())),
             1 => calls.extend(vec![0; 1 + prng.index(HEAD_BYTES)]),
             // The first head.
-            2 => calls[prng.index(HEAD_BYTES)] = prng.pick(&[0, 1, 4, 5, 255]),
+            2 => calls[prng.index(HEAD_BYTES)] = prng.pick(&[0, 1, 4, 5, 6, 7, 255]),
             _ => {
                 let at = prng.index(calls.len());
                 calls[at] ^= 1 << prng.below(8);
@@ -217,6 +224,7 @@ fn one_of_each() -> Vec<Call> {
         },
         Call::Audit,
         restore(0, 2),
+        Call::Retire { volume: 0, day: 13 },
     ]
 }
 
@@ -256,7 +264,7 @@ fn send_heads(outcome: &mut Outcome) {
     for number in 0..calls.len() {
         let place = encode(&calls[..number]).len();
         for at in place..place + HEAD_BYTES {
-            for value in [0, 1, 2, 3, 4, 5, 6, 128, 255] {
+            for value in [0, 1, 2, 3, 4, 5, 6, 7, 128, 255] {
                 let mut calls = whole.clone();
                 calls[at] = value;
                 let label = || format!("list with {value} at {at}");

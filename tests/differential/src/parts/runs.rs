@@ -15,7 +15,7 @@ use reference::store::Run;
 use reference::view::View;
 
 use super::tested::Tested;
-use super::{converts, restores, views, Job};
+use super::{converts, restores, retires, views, Job};
 use crate::outcome::Outcome;
 use crate::request::Request;
 use crate::seen::{equal, Seen};
@@ -100,7 +100,7 @@ impl Course {
         outcome.check(&label, answers_agree(&answer, &seen, &stored.pool));
         let volumes = match answer {
             _ if last => ALL_VOLUMES,
-            Answer::Freed(_) => &[prng.pick(ALL_VOLUMES)],
+            Answer::Freed(_) | Answer::Retired(_) => &[prng.pick(ALL_VOLUMES)],
             _ => &[],
         };
         send_plain(outcome, prng, &label, (stored, &self.plain), volumes);
@@ -120,6 +120,7 @@ impl Course {
         if prng.once_in(2) {
             send_disturbed(outcome, prng, label, stored, (call, view));
             send_run_disturbed(outcome, drawn, label, (stored, run));
+            retires::send_disturbed(outcome, drawn, label, (stored, &self.calls));
         }
     }
 }
@@ -174,7 +175,7 @@ pub fn answers_agree(answer: &Answer, seen: &Seen, pool: &[u8]) -> Result<(), St
     let expected = match answer {
         Answer::Refused(_) | Answer::Enrolled => return Ok(()),
         Answer::BackedUp(b) => vec![b.number, b.taken, b.touched],
-        Answer::Freed(freed) => vec![*freed],
+        Answer::Freed(number) | Answer::Retired(number) => vec![*number],
         Answer::Sound(sound) => vec![u16::from(*sound)],
         Answer::Block(block) => {
             let at = seen.answer(0) as usize;

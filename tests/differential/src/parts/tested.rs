@@ -6,7 +6,7 @@ use reference::prng::Prng;
 
 use crate::outcome::Outcome;
 use crate::request::Request;
-use crate::seen::Seen;
+use crate::seen::{Seen, BOOK, POOL, SPARE};
 
 pub struct Tested(pub Stored);
 
@@ -38,8 +38,13 @@ impl Tested {
     ) -> Option<Seen> {
         let stored = &mut self.0;
         let seen = outcome.compare(prng, label, Request::Call { stored, call })?;
-        let lent = [&mut stored.book, &mut stored.pool, &mut stored.spare];
-        for (part, (_, buffer)) in lent.into_iter().zip(&seen.buffers) {
+        for (name, buffer) in &seen.buffers {
+            let part = match *name {
+                BOOK => &mut stored.book,
+                POOL => &mut stored.pool,
+                SPARE => &mut stored.spare,
+                _ => continue,
+            };
             part.copy_from_slice(buffer.content());
         }
         Some(seen)

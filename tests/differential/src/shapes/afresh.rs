@@ -111,11 +111,10 @@ impl<'a> Afresh<'a> {
     }
 
     fn loses_a_backup(&self, volume: u8) -> bool {
-        let (days, retention) = (self.old.days_of(volume), self.old.retention(volume));
+        let backups = self.old.backups_of(volume);
         let day = self.old.header(Header::Day);
-        (1..=days.len()).any(|number| {
-            layout_2::is_kept(&days, number, retention, day)
-                && !keeping::is_kept(&days, number, retention, day)
+        (1..=backups.days.len()).any(|number| {
+            layout_2::is_kept(&backups, number, day) && !keeping::is_kept(&backups, number, day)
         })
     }
 }

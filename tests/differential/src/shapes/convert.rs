@@ -89,6 +89,16 @@ impl<'a> Converted<'a> {
         ]
     }
 
+    /// Of those that take layout 2: there are retirements from layout 3 on.
+    pub fn retired_shapes(&self) -> [Shape; 1] {
+        let mut later = self.book.to_vec();
+        if let Some(number) = later.first_mut() {
+            *number = 3;
+        }
+        let alone = self.number == 2 && form::check(&later).is_ok();
+        [("2 for a retirement alone", alone)]
+    }
+
     /// Of the one that has a layout on either side.
     pub fn other_layout_shapes(&self) -> [Shape; 2] {
         let refused = self.number == 1;

@@ -12,12 +12,16 @@ pub struct Days {
     next: Option<i32>,
     /// The one that replaced it was taken on the header's day.
     replaced_today: bool,
+    /// The day on which the volume was retired, and whether that is the header's.
+    retired: Option<u16>,
+    retired_today: bool,
 }
 
 impl Days {
     /// None if the volume has no such backup.
     pub fn new(book: &Book<&[u8]>, volume: u8, number: u16) -> Option<Self> {
-        let slots = book.used_slots_of(volume);
+        let slots = book.backup_slots_of(volume);
+        let retired = book.retired_on(volume);
         let index = usize::from(number).checked_sub(1)?;
         let today = book.header(Header::Day);
         let retention = i32::from(book.retention(volume));
@@ -27,6 +31,8 @@ impl Days {
             own: left(slots.get(index)?),
             next: next.map(left),
             replaced_today: next.is_some_and(|next| next.day == today),
+            retired,
+            retired_today: retired == Some(today),
         })
     }
 
@@ -60,6 +66,38 @@ pub fn shapes(days: Option<&Days>, number: u16) -> [Shape; 6] {
             gone && next(|left| left < 0),
         ),
         ("16 on the next one's very day", gone && replaced_today),
+    ]
+}
+
+/// Of a backup of a retired volume.
+pub fn retired_shapes(days: Option<&Days>, number: u16) -> [Shape; 6] {
+    let days = days.filter(|days| days.retired.is_some());
+    let newest = days.filter(|days| days.is_newest());
+    let (found, gone) = (number == 0, number == 16);
+    let own = |is: fn(i32) -> bool| newest.is_some_and(|days| is(days.own));
+    let at_once = newest.is_some_and(|days| days.retired_today);
+    [
+        (
+            "an older one of a retired volume",
+            found && newest.is_none() && days.is_some(),
+        ),
+        ("the newest of a retired volume", found && newest.is_some()),
+        (
+            "the newest of a retired volume on its last day",
+            found && own(|left| left == 0),
+        ),
+        (
+            "16 for the newest of a retired volume on the day after",
+            gone && own(|left| left == -1),
+        ),
+        (
+            "16 for the newest of a retired volume long after",
+            gone && own(|left| left < -1),
+        ),
+        (
+            "16 for the newest on the day of the retirement",
+            gone && at_once,
+        ),
     ]
 }
 

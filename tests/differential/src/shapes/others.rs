@@ -1,12 +1,22 @@
 //! Shapes of the other calls of the box.
 
-use reference::layout::{Book, Header, Lbn, Pbn, Sizes, Slot, DAY_MAX, HELD};
+use reference::layout::{Book, Header, Lbn, Pbn, Sizes, Slot, DAY_MAX, HELD, UNMAPPED};
 use reference::layout_2::FROM_REPLACING;
 use reference::store::expiries;
 
 use super::days::{self, Days};
 use super::Shape;
 use crate::seen::Seen;
+
+/// The day of each retirement with each block that it unmapped.
+fn retirements<'a>(book: &'a Book<&[u8]>) -> impl Iterator<Item = (u16, Pbn)> + 'a {
+    let slots = book.used_slots().filter(Slot::is_retirement);
+    slots.flat_map(|slot| {
+        let records = slot.records().map(|index| book.record(index));
+        let unmapped = records.filter(|record| record.before != UNMAPPED);
+        unmapped.map(move |record| (slot.day, record.before))
+    })
+}
 
 pub struct Collect {
     day: u16,
@@ -17,6 +27,10 @@ pub struct Collect {
     waiting: Vec<u16>,
     /// A block is freed that the rule of layout 2 would keep.
     sooner: bool,
+    /// A block is freed that a retirement unmapped, the last that named it; and one whose retirement
+    /// was on the header's day.
+    retired: bool,
+    retired_today: bool,
 }
 
 impl Collect {
@@ -27,7 +41,10 @@ impl Collect {
         let freed = |pbn: Pbn| view.entry(pbn).state == HELD && after.entry(pbn).state != HELD;
         let by_old_rule = view.pbns().zip(expiries(&view, FROM_REPLACING));
         let mut kept_by_it = by_old_rule.filter(|(_, expiry)| *expiry >= day);
+        let mut unmapped = retirements(&view).filter(|(_, pbn)| freed(*pbn)).peekable();
         Collect {
+            retired: unmapped.peek().is_some(),
+            retired_today: unmapped.any(|(day, _)| day == view.header(Header::Day)),
             sooner: kept_by_it.any(|(pbn, _)| freed(pbn)),
             day,
             day_before: view.header(Header::Day),
@@ -37,7 +54,7 @@ impl Collect {
         }
     }
 
-    pub fn shapes(&self) -> [Shape; 11] {
+    pub fn shapes(&self) -> [Shape; 13] {
         let (accepted, refused) = (self.number == 0, self.number == 7);
         let (day, before, freed) = (self.day, self.day_before, self.freed);
         let waiting = self.waiting.len();
@@ -55,6 +72,11 @@ impl Collect {
             ("a block waits on its day of expiry", on_its_day),
             ("a block is freed on the day after", day_after),
             ("frees what layout 2 would keep", self.sooner),
+            ("frees what a retirement unmapped", self.retired),
+            (
+                "frees what a retirement of the book's day unmapped",
+                self.retired_today,
+            ),
             ("the day stays", accepted && day == before),
             ("the day goes on", accepted && day > before),
             (
@@ -67,8 +89,12 @@ impl Collect {
 }
 
 pub struct Read {
-    /// Whether a later backup has a record of the LBN.
+    /// Whether a later backup or the retirement has a record of the LBN.
     by_record: bool,
+    /// Whether the retirement has the first.
+    by_retirement: bool,
+    /// Whether it is the number that the retirement would have.
+    of_retirement: bool,
     days: Option<Days>,
 }
 
@@ -77,9 +103,17 @@ impl Read {
         let view = Book::over(book);
         let slots = view.used_slots_of(volume as u8);
         let later = slots.get(usize::from(number)..).unwrap_or(&[]);
-        let mut records = later.iter().flat_map(Slot::records);
+        let has_record = |slot: &&Slot| {
+            let mut records = slot.records();
+            records.any(|index| view.record(index).lbn == Lbn(lbn))
+        };
+        let decides = later.iter().find(has_record);
+        let index = usize::from(number).checked_sub(1);
+        let asked_for = index.and_then(|index| slots.get(index));
         Read {
-            by_record: records.any(|index| view.record(index).lbn == Lbn(lbn)),
+            by_record: decides.is_some(),
+            by_retirement: decides.is_some_and(Slot::is_retirement),
+            of_retirement: asked_for.is_some_and(Slot::is_retirement),
             days: Days::new(&view, volume as u8, number),
         }
     }
@@ -100,10 +134,27 @@ impl Read {
     pub fn day_shapes(&self, refusal: u16) -> [Shape; 6] {
         days::shapes(self.days.as_ref(), refusal)
     }
+
+    pub fn retired_shapes(&self, refusal: u16) -> impl Iterator<Item = Shape> {
+        let shapes = [
+            (
+                "by a retirement's record",
+                refusal == 0 && self.by_retirement,
+            ),
+            (
+                "15 for the place of a retirement",
+                refusal == 15 && self.of_retirement,
+            ),
+        ];
+        let of_days = days::retired_shapes(self.days.as_ref(), refusal);
+        shapes.into_iter().chain(of_days)
+    }
 }
 
-pub fn enrol(volume: u16, days: u16, number: u16) -> [Shape; 8] {
+pub fn enrol(book: &[u8], volume: u16, days: u16, number: u16) -> [Shape; 9] {
     let accepted = number == 0;
+    let there = number == 5 && volume < 8;
+    let retired = there && Book::over(book).retired_on(volume as u8).is_some();
     [
         ("1 day", accepted && days == 1),
         ("2 to 99 days", accepted && (2..100).contains(&days)),
@@ -115,7 +166,8 @@ pub fn enrol(volume: u16, days: u16, number: u16) -> [Shape; 8] {
         ("0 days", number == 6 && days == 0),
         ("5,001 days", number == 6 && days == 5_001),
         ("volume 8", number == 5 && volume == 8),
-        ("a volume that is enrolled", number == 5 && volume < 8),
+        ("a volume that is enrolled", there && !retired),
+        ("a volume that is retired", retired),
     ]
 }
 

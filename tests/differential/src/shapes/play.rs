@@ -13,7 +13,7 @@ const UNKNOWN: &str = "an unknown kind, alone";
 const EARLY: &str = "data that ends early, alone";
 
 /// What a call mustn't have: the kind, a field's place in the head, and the shape's name.
-const UNUSED: [(u8, usize, &str); 17] = [
+const UNUSED: [(u8, usize, &str); 20] = [
     (0, 6, "an enrol with c, alone"),
     (0, 8, "an enrol with d, alone"),
     (0, 10, "an enrol with data, alone"),
@@ -31,6 +31,9 @@ const UNUSED: [(u8, usize, &str); 17] = [
     (4, 8, "an audit with d, alone"),
     (4, 10, "an audit with data, alone"),
     (5, 10, "a restore with data, alone"),
+    (6, 6, "a retirement with c, alone"),
+    (6, 8, "a retirement with d, alone"),
+    (6, 10, "a retirement with data, alone"),
 ];
 
 /// From the first call that is none to the end.
@@ -56,7 +59,7 @@ fn faults(rest: &[u8]) -> Vec<&'static str> {
     let mut faults: Vec<&str> = unused.map(|(_, _, name)| *name).collect();
     let others = [
         (SECOND, head[1] != 0),
-        (UNKNOWN, head[0] > 5),
+        (UNKNOWN, head[0] > 6),
         (EARLY, data_bytes(head) > data.len()),
     ];
     faults.extend(others.into_iter().filter(|(_, has)| *has).map(|(n, _)| n));
@@ -166,7 +169,7 @@ pub fn numbers(playing: &Playing, seen: &Seen) -> Vec<(&'static str, u16)> {
 }
 
 /// Of a list that was played.
-pub fn played(playing: &Playing, seen: &Seen) -> [Shape; 18] {
+pub fn played(playing: &Playing, seen: &Seen) -> [Shape; 17] {
     let answered = answered(playing, seen);
     let refused = |answer: &[u8]| refusal(answer) != 0;
     let first_refused = answered.iter().position(|(_, answer)| refused(answer));
@@ -193,7 +196,6 @@ pub fn played(playing: &Playing, seen: &Seen) -> [Shape; 18] {
         ),
         ("a backup that took blocks", any(|a| a[0] == 1 && a[3] > 0)),
         ("a number above 255", any(|a| a[0] == 1 && a[6] > 0)),
-        ("a collection that freed", any(|a| a[0] == 2 && a[1] > 0)),
         ("a block", any(|a| a[0] == 3)),
         ("a run of no block", any(|a| a[..] == [5, 0, 0])),
         ("a run of one block", any(|a| a[..3] == [5, 1, 0])),
@@ -203,5 +205,25 @@ pub fn played(playing: &Playing, seen: &Seen) -> [Shape; 18] {
         ("an audit's no", any(|a| a[..] == [4, 0, 0])),
         ("a backup without data", data(|length| length == 0)),
         ("data above 65,535 bytes", data(|length| length > 65_535)),
+    ]
+}
+
+/// Of the collections and retirements in it, whose answers have one number.
+pub fn told(playing: &Playing, seen: &Seen) -> [Shape; 4] {
+    let answered = answered(playing, seen);
+    let any = |name: &str, is: fn(&[u8]) -> bool| {
+        let mut of_name = answered.iter().filter(|(call, _)| call_name(call) == name);
+        of_name.any(|(_, answer)| is(answer))
+    };
+    let some = |a: &[u8]| a[0] == 2 && a[1..] != [0, 0];
+    let none = |a: &[u8]| a == [2, 0, 0];
+    [
+        ("a collection that freed", any("collect", some)),
+        ("a retirement of cells", any("retire", some)),
+        ("a retirement without cells", any("retire", none)),
+        (
+            "a retirement refused by 5",
+            any("retire", |answer| refusal(answer) == 5),
+        ),
     ]
 }

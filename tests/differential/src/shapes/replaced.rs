@@ -1,4 +1,5 @@
-//! Shapes of the blocks that an accepted backup replaced, by the days that they wait for.
+//! Shapes of the blocks that an accepted backup replaced or an accepted retirement unmapped, by the
+//! days that they wait for.
 
 use reference::keeping::last_day;
 use reference::layout::{Book, Header, Pbn, Record, Slot, UNMAPPED};
@@ -10,7 +11,7 @@ type View<'a> = Book<&'a [u8]>;
 pub struct Replaced<'a> {
     before: &'a View<'a>,
     after: &'a View<'a>,
-    /// The blocks that it replaced.
+    /// The blocks that it replaced or unmapped.
     blocks: Vec<Pbn>,
     /// The volume's slots before it.
     slots: Vec<Slot>,

@@ -39,13 +39,14 @@ impl Restored {
         let (run, view) = (restoring.run, Book::over(&restoring.stored.book[..]));
         let volume = run.volume.min(7) as u8;
         let slots = view.used_slots_of(volume);
+        let newest = view.backup_slots_of(volume).len();
         let later = slots.get(usize::from(run.number)..).unwrap_or(&[]);
         Restored {
             number,
             run,
             lbns: view.sizes().lbns.into(),
             room: restoring.output.len(),
-            newest: usize::from(run.number) == slots.len(),
+            newest: usize::from(run.number) == newest,
             days: Days::new(&view, volume, run.number),
             cells: cells(&view, volume, run, later),
         }
@@ -132,6 +133,10 @@ impl Restored {
 
     pub fn day_shapes(&self) -> [Shape; 6] {
         days::shapes(self.days.as_ref(), self.number)
+    }
+
+    pub fn retired_shapes(&self) -> [Shape; 6] {
+        days::retired_shapes(self.days.as_ref(), self.number)
     }
 
     /// By 21: the end, the room, or both.

@@ -1,6 +1,7 @@
 //! Shapes of the calls that show a book.
 
 use reference::layout::{Book, Header};
+use reference::store::NO_END;
 use reference::view::View;
 
 use super::Shape;
@@ -35,12 +36,26 @@ pub fn volume(volume: u16, number: u16) -> [Shape; 3] {
     ]
 }
 
+/// The rows that an accepted call wrote.
+fn rows_of<'a>(viewed: &Viewed, seen: &'a Seen) -> &'a [u8] {
+    let (exact, output) = (viewed.view.output_bytes(viewed.book), seen.content(1));
+    &output[..exact.min(output.len())]
+}
+
+/// Of an accepted call on a retired volume.
+pub fn retired(viewed: &Viewed, seen: &Seen) -> Vec<Shape> {
+    match viewed.view {
+        View::Volume { .. } => retired_facts(seen).into(),
+        View::Backups { volume } => {
+            retired_backups(viewed.book, volume, rows_of(viewed, seen)).into()
+        }
+        _ => Vec::new(),
+    }
+}
+
 /// Of an accepted call.
 pub fn shown(viewed: &Viewed, seen: &Seen) -> Vec<Shape> {
-    let rows = || {
-        let (exact, output) = (viewed.view.output_bytes(viewed.book), seen.content(1));
-        &output[..exact.min(output.len())]
-    };
+    let rows = || rows_of(viewed, seen);
     match viewed.view {
         View::Sizes => sizes(seen).into(),
         View::Used => used(viewed.book, seen).into(),
@@ -88,14 +103,23 @@ fn facts(seen: &Seen) -> [Shape; 5] {
     ]
 }
 
+fn retired_facts(seen: &Seen) -> [Shape; 5] {
+    let [_, backups, retired] = std::array::from_fn(|index| seen.answer(index));
+    let is_retired = retired != u32::from(NO_END);
+    [
+        ("not retired", !is_retired),
+        ("retired", is_retired && backups > 0),
+        ("retired without backups", is_retired && backups == 0),
+        ("retired on day 0", retired == 0),
+        ("retired on day 60,000", retired == 60_000),
+    ]
+}
+
 fn backups(book: &[u8], volume: u16, rows: &[u8]) -> [Shape; 11] {
     let book = Book::over(book);
     let book_day = u32::from(book.header(Header::Day));
     let retention = u32::from(book.retention(volume as u8));
-    let rows: Vec<[u16; 4]> = rows
-        .chunks_exact(8)
-        .map(|row| numbers(row).try_into().expect("four numbers"))
-        .collect();
+    let rows = backup_rows(rows);
     let (newest, older) = match rows.split_last() {
         Some((newest, older)) => (Some(newest), older),
         None => (None, &rows[..]),
@@ -104,6 +128,7 @@ fn backups(book: &[u8], volume: u16, rows: &[u8]) -> [Shape; 11] {
     let ended_on = |day: u32| older.iter().any(|row| u32::from(row[2]) == day);
     let reaches = |row: &[u16; 4]| u32::from(row[0]) + retention >= book_day;
     let gone = || rows.windows(2).filter(|pair| pair[0][3] == 0);
+    let is_retired = book.retired_on(volume as u8).is_some();
     [
         ("a volume without backups", rows.is_empty()),
         ("the newest", newest.is_some()),
@@ -121,10 +146,38 @@ fn backups(book: &[u8], volume: u16, rows: &[u8]) -> [Shape; 11] {
         ),
         (
             "the newest, long after",
-            newest.is_some_and(|row| !reaches(row)),
+            !is_retired && newest.is_some_and(|row| !reaches(row)),
         ),
         ("one without changes", any(|row| row[1] == 0)),
         ("one of 1,024 changes", any(|row| row[1] == 1_024)),
+    ]
+}
+
+fn backup_rows(rows: &[u8]) -> Vec<[u16; 4]> {
+    let rows = rows.chunks_exact(8);
+    rows.map(|row| numbers(row).try_into().expect("four numbers"))
+        .collect()
+}
+
+/// The backups of a retired volume.
+fn retired_backups(book: &[u8], volume: u16, rows: &[u8]) -> [Shape; 4] {
+    let book = Book::over(book);
+    let is_retired = book.retired_on(volume as u8).is_some();
+    let rows = backup_rows(rows);
+    let newest = rows.last().filter(|_| is_retired);
+    let is = |kept: u16| newest.is_some_and(|row| row[3] == kept);
+    let last_day = newest.is_some_and(|row| row[2] == book.header(Header::Day));
+    [
+        (
+            "a retired volume without backups",
+            is_retired && rows.is_empty(),
+        ),
+        ("the newest of a retired volume", is(1)),
+        (
+            "the newest of a retired volume on its last day",
+            is(1) && last_day,
+        ),
+        ("the newest of a retired volume, not kept any more", is(0)),
     ]
 }
 

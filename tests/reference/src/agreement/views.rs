@@ -1,6 +1,7 @@
 //! What a host is shown of the box, as far as the plain store knows it: it has no records of a
 //! single backup, no counts and no expiries.
 
+use crate::keeping::Backups;
 use crate::layout::get_u16;
 use crate::plain::Plain;
 use crate::refusal::Refusal;
@@ -46,12 +47,15 @@ fn view_agrees(plain: &Plain, view: View, answers: &[u32], rows: &[u8]) -> Resul
             answers == [backups as u32, changes as u32, plain.day().into()]
         }
         View::Volume { volume } => {
-            let (retention, days) = plain.volume(volume)?;
-            answers == [retention.into(), days.len() as u32]
+            let facts = plain.volume(volume)?;
+            let retired = facts.retired.unwrap_or(NO_END);
+            let number = facts.days.len() as u32;
+            answers == [facts.retention.into(), number, retired.into()]
         }
         View::Backups { volume } => {
-            let days = plain.volume(volume)?.1;
-            answers == [days.len() as u32] && backups_agree(plain, volume, &days, rows)?
+            let facts = plain.volume(volume)?;
+            let alike = backups_agree(plain, volume, &facts, rows)?;
+            alike && answers == [facts.days.len() as u32]
         }
         View::Cells { volume } => {
             plain.volume(volume)?;
@@ -66,12 +70,18 @@ fn view_agrees(plain: &Plain, view: View, answers: &[u32], rows: &[u8]) -> Resul
 
 /// Each backup has its day, is kept to the last day in its row and no longer, and is said to be
 /// kept if it is.
-fn backups_agree(plain: &Plain, volume: u16, days: &[u16], rows: &[u8]) -> Result<bool, Refusal> {
+fn backups_agree(
+    plain: &Plain,
+    volume: u16,
+    facts: &Backups,
+    rows: &[u8],
+) -> Result<bool, Refusal> {
+    let days = &facts.days;
     for (number, row) in (1..=days.len()).zip(rows.chunks_exact(8)) {
         let [day, until, kept] = [0, 4, 6].map(|at| get_u16(row, at));
         let is_kept = |day| plain.is_kept(volume, number, day);
         let ends = match until {
-            NO_END => number == days.len(),
+            NO_END => number == days.len() && facts.retired.is_none(),
             _ => is_kept(until)? && !is_kept(until + 1)?,
         };
         if day != days[number - 1] || !ends || kept != u16::from(is_kept(plain.day())?) {

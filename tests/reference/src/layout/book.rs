@@ -2,6 +2,8 @@
 
 use std::ops::{Deref, DerefMut};
 
+use crate::keeping::Backups;
+
 use super::{
     get_u16, put_u16, retention_at, Entry, Header, Lbn, Pbn, Places, Record, Sizes, Slot,
     FINGERPRINT_BYTES, PAST_COUNT_BYTES,
@@ -72,7 +74,7 @@ impl<B: Deref<Target = [u8]>> Book<B> {
         let at = self.places.slot_at(slot);
         Slot {
             volume: self.bytes[at],
-            zero: self.bytes[at + 1],
+            kind: self.bytes[at + 1],
             day: get_u16(&self.bytes, at + 2),
             first: get_u16(&self.bytes, at + 4),
             number: get_u16(&self.bytes, at + 6),
@@ -100,16 +102,35 @@ impl<B: Deref<Target = [u8]>> Book<B> {
         (0..usize::from(self.header(Header::SlotsUsed))).map(|slot| self.slot(slot))
     }
 
+    /// A volume's backups in order, and its retirement after them.
     pub fn used_slots_of(&self, volume: u8) -> Vec<Slot> {
         self.used_slots()
             .filter(|slot| slot.volume == volume)
             .collect()
     }
 
-    /// The days of a volume's backups.
-    pub fn days_of(&self, volume: u8) -> Vec<u16> {
-        let slots = self.used_slots().filter(|slot| slot.volume == volume);
-        slots.map(|slot| slot.day).collect()
+    /// The slots of a volume's backups; the k-th is that of number k.
+    pub fn backup_slots_of(&self, volume: u8) -> Vec<Slot> {
+        let mut slots = self.used_slots_of(volume);
+        slots.retain(|slot| !slot.is_retirement());
+        slots
+    }
+
+    /// The day on which a volume was retired; none while it isn't.
+    pub fn retired_on(&self, volume: u8) -> Option<u16> {
+        let mut slots = self.used_slots();
+        let retirement = slots.find(|slot| slot.volume == volume && slot.is_retirement());
+        retirement.map(|slot| slot.day)
+    }
+
+    /// What the rule of keeping looks at in a volume.
+    pub fn backups_of(&self, volume: u8) -> Backups {
+        let slots = self.backup_slots_of(volume);
+        Backups {
+            days: slots.iter().map(|slot| slot.day).collect(),
+            retention: self.retention(volume),
+            retired: self.retired_on(volume),
+        }
     }
 
     pub fn map(&self, volume: u8) -> Vec<Pbn> {
@@ -145,7 +166,7 @@ impl<B: DerefMut<Target = [u8]>> Book<B> {
     pub fn set_slot(&mut self, slot: usize, value: Slot) {
         let at = self.places.slot_at(slot);
         self.bytes[at] = value.volume;
-        self.bytes[at + 1] = value.zero;
+        self.bytes[at + 1] = value.kind;
         put_u16(&mut self.bytes, at + 2, value.day);
         put_u16(&mut self.bytes, at + 4, value.first);
         put_u16(&mut self.bytes, at + 6, value.number);

@@ -139,7 +139,8 @@ fn held_fingerprints_differ(book: &Book<&[u8]>) -> bool {
 }
 
 /// Neither the current map nor a kept backup names a free block. Goes back from the
-/// current map; undoing a backup's records from the last leaves the first one's before.
+/// current map; undoing a slot's records from the last leaves the first one's before. The newest
+/// backup is the current map, or what is left once a retirement is undone.
 fn named_blocks_are_held(book: &Book<&[u8]>, volume: u8, is_kept: IsKept) -> bool {
     let is_held = |&cell: &Pbn| cell == UNMAPPED || book.entry(cell).state != FREE;
     let mut map = book.map(volume);
@@ -147,13 +148,13 @@ fn named_blocks_are_held(book: &Book<&[u8]>, volume: u8, is_kept: IsKept) -> boo
         return false;
     }
     let slots = book.used_slots_of(volume);
-    let (days, day) = (book.days_of(volume), book.header(Header::Day));
+    let (backups, day) = (book.backups_of(volume), book.header(Header::Day));
     for number in (1..slots.len()).rev() {
         for index in slots[number].records().rev() {
             let record = book.record(index);
             map[record.lbn.index()] = record.before;
         }
-        let kept = is_kept(&days, number, book.retention(volume), day);
+        let kept = is_kept(&backups, number, day);
         if kept && !map.iter().all(is_held) {
             return false;
         }

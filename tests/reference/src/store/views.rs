@@ -6,7 +6,8 @@ use crate::keeping::{is_kept, kept_until};
 use crate::layout::{Header, Sizes, HELD};
 use crate::refusal::{require, Refusal};
 
-/// The last day on which the newest backup is kept: none.
+/// In place of a day: the newest backup of a volume that isn't retired has no last day on which it is
+/// kept, and the volume none on which it was retired.
 pub const NO_END: u16 = 65_535;
 
 /// How much of a book is used.
@@ -21,6 +22,8 @@ pub struct Used {
 pub struct VolumeFacts {
     pub retention: u16,
     pub backups: u16,
+    /// The day on which it was retired.
+    pub retired: Option<u16>,
 }
 
 pub fn sizes(book: &[u8]) -> Result<Sizes, Refusal> {
@@ -39,10 +42,10 @@ pub fn used(book: &[u8]) -> Result<Used, Refusal> {
 pub fn volume(book: &[u8], volume: u16) -> Result<VolumeFacts, Refusal> {
     let book = form::check(book)?;
     let volume = enrolled(&book, volume)?;
-    let slots = book.used_slots().filter(|slot| slot.volume == volume);
     Ok(VolumeFacts {
         retention: book.retention(volume),
-        backups: slots.count() as u16,
+        backups: book.backups_of(volume).days.len() as u16,
+        retired: book.retired_on(volume),
     })
 }
 
@@ -51,13 +54,12 @@ pub fn volume(book: &[u8], volume: u16) -> Result<VolumeFacts, Refusal> {
 pub fn backups(book: &[u8], volume: u16, output: &mut [u8]) -> Result<u16, Refusal> {
     let book = form::check(book)?;
     let volume = enrolled(&book, volume)?;
-    let slots = book.used_slots_of(volume);
-    let days: Vec<u16> = slots.iter().map(|slot| slot.day).collect();
-    let (retention, day) = (book.retention(volume), book.header(Header::Day));
+    let slots = book.backup_slots_of(volume);
+    let (backups, day) = (book.backups_of(volume), book.header(Header::Day));
     let mut rows = Vec::new();
     for (number, slot) in (1..).zip(&slots) {
-        let until = kept_until(&days, number, retention).unwrap_or(NO_END);
-        let kept = is_kept(&days, number, retention, day);
+        let until = kept_until(&backups, number).unwrap_or(NO_END);
+        let kept = is_kept(&backups, number, day);
         push(&mut rows, &[slot.day, slot.number, until, kept.into()]);
     }
     write(&rows, output)?;

@@ -3,13 +3,13 @@ use Prim.Native.Nat.{_-_, _≤_}
 use mathlib.Core.Path.{_≡_, refl, sym, _∙_}
 use native.Mathlib.Omega.{arith}
 use Rattle.book.specs.Layout.{bookOf, told}
-use Rattle.model.specs.JournalAt.{backupsFrom}
+use Rattle.model.specs.JournalAt.{ownFrom}
 use Rattle.claims.proofs.kept.JournalAtLaws.{from-other}
 use Rattle.calendar.proofs.backups.next_own.Statement.{statement}
 use Rattle.calendar.proofs.backups.next_own.Tie as tie
 
 abbrev Inv-loop : tie.InvT-loop
-Inv-loop book v q used r₀ r = (q ≤ r) × (backupsFrom (bookOf book) v q ≡ backupsFrom (bookOf book) v r)
+Inv-loop book v q used r₀ r = (q ≤ r) × (ownFrom (bookOf book) v q ≡ ownFrom (bookOf book) v r)
 
 abbrev μ-loop : tie.MeasureT-loop
 μ-loop book v q used r₀ r = used - r

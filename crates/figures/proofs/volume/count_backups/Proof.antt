@@ -26,14 +26,14 @@ slot-at-requires c κs = (c .before .before .before .before .pre, omega arith)
 
 loop-again : tie.Need-loop-again Inv-loop μ-loop
 loop-again c =
-    let k = c .before .before in
+    let k = c .before .before .before in
     let l = k .before .before .loop in
     let h : l .q < length (told (k .before .before .before .before .before .args .book) .slots) = omega arith in
     let t = k .slot-at .result in
     let s = k .slot-at .ensures in
     ⊎-elim
-    (λ w. (omega arith, rw (w .1) (passed-own _ _ (l .q) (l .count) (l .inv .1) t s h (omega arith))))
-    (λ w. (omega arith, rw (w .1) (passed-other _ _ (l .q) (l .count) (l .inv .1) t s h (λ e. omega arith))))
+    (λ w. (omega arith, rw (w .1) (passed-own _ _ (l .q) t s h (l .count) (l .inv .1) (w .0 .taken))))
+    (λ w. (omega arith, rw (w .1) (passed-other _ _ (l .q) t s h (l .count) (l .inv .1) (w .0 .left))))
     (c .if1 .came)
 
 returns : tie.Need-returns Inv-loop μ-loop

@@ -18,7 +18,7 @@ holds c =
     holds-form _ (λ i. c .before .before .shared-slice-known .given i .fits) (passed-enrolled _ _ (passed c) .form)
 
 returns : tie.Need-returns
-returns c = volume-refused _ _ _ _ refl refl (c .before .enrolled-number .ensures) (c .if1 .taken)
+returns c = volume-refused _ _ _ _ _ refl refl refl (c .before .enrolled-number .ensures) (c .if1 .taken)
 
 retention-requires : tie.Need-retention-requires
 retention-requires c κs = (holds c, passed-enrolled _ _ (passed c) .inside)
@@ -26,10 +26,15 @@ retention-requires c κs = (holds c, passed-enrolled _ _ (passed c) .inside)
 count-backups-requires : tie.Need-count-backups-requires
 count-backups-requires c κs = holds (c .before)
 
+retired-on-requires : tie.Need-retired-on-requires
+retired-on-requires c κs = holds (c .before .before)
+
 returns-2 : tie.Need-returns-2
 returns-2 c =
-    let k = c .before in
-    volume-told _ _ _ _ (passed (k .before)) (k .retention .ensures) (c .count-backups .ensures)
+    let n = c .before in
+    let k = n .before in
+    volume-told _ _ _ _ _ (passed (k .before)) (k .retention .ensures) (n .count-backups .ensures) (c .retired-on .ensures)
 
 pub volume-spec : {M : Type 1} → statement M
-volume-spec = tie.close (tie.spec (λ c κs. search needs) returns retention-requires count-backups-requires returns-2)
+volume-spec =
+    tie.close (tie.spec (λ c κs. search needs) returns retention-requires count-backups-requires retired-on-requires returns-2)

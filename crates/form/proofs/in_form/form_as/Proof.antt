@@ -68,7 +68,7 @@ returns-4 c =
 journal-ok-requires : tie.Need-journal-ok-requires
 journal-ok-requires c κs =
     let h = c .before .before .before .before in
-    (layout-facts _ _ (laid (h .before .before)), head-facts _ (head h))
+    (layout-facts _ _ (laid (h .before .before)), (head-facts _ (head h), slots c))
 
 returns-5 : tie.Need-returns-5
 returns-5 c =

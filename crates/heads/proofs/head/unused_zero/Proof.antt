@@ -1,7 +1,7 @@
 -- `heads::head::unused_zero`: a case for each kind.
 use Prim.Native.Nat.{ℕ}
 use mathlib.Core.Path.{_≡_, sym, _∙_}
-use mathlib.Core.Bool.{false}
+use mathlib.Core.Bool.{false, _&&_}
 use native.Mathlib.Omega.{arith}
 use lib.Dec.{eqb}
 use borrow.Author.Tests.{eq-eqb, ne-eqb}
@@ -55,7 +55,9 @@ returns-5 c = let k = kind (c .before) in
 
 -- nor audit's
 past : (c : tie.Else5) (a b x d size : ℕ)
-    → (let k = kind (c .before) in unusedZero k a b x d size ≡ (if eqb k 5 then eqb size 0 else false))
+    → (let k = kind (c .before) in
+    unusedZero k a b x d size
+    ≡ (if eqb k 5 then eqb size 0 else if eqb k 6 then eqb x 0 && eqb d 0 && eqb size 0 else false))
 unfolding unusedZero
 past c a b x d size = let k = kind (c .before) in
     rw (
@@ -70,7 +72,16 @@ returns-6 : tie.Need-returns-6
 returns-6 c = sym (past (c .before) _ _ _ _ _ ∙ rw (eq-eqb (kind (c .before .before)) 5 (omega arith)))
 
 returns-7 : tie.Need-returns-7
-returns-7 c = sym (past (c .before) _ _ _ _ _ ∙ rw (ne-eqb (kind (c .before .before)) 5 (c .if6 .left)))
+returns-7 c =
+    let if6 = c .before in
+    let k = kind (if6 .before .before) in
+    sym (past (if6 .before) _ _ _ _ _ ∙ rw (ne-eqb k 5 (if6 .if6 .left), eq-eqb k 6 (c .if7 .taken)))
+
+returns-8 : tie.Need-returns-8
+returns-8 c =
+    let if6 = c .before in
+    let k = kind (if6 .before .before) in
+    sym (past (if6 .before) _ _ _ _ _ ∙ rw (ne-eqb k 5 (if6 .if6 .left), ne-eqb k 6 (c .if7 .left)))
 
 pub unused-zero-spec : {M : Type 1} → statement M
-unused-zero-spec = tie.close (tie.spec returns returns-2 returns-3 returns-4 returns-5 returns-6 returns-7)
+unused-zero-spec = tie.close (tie.spec returns returns-2 returns-3 returns-4 returns-5 returns-6 returns-7 returns-8)

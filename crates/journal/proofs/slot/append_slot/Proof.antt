@@ -31,7 +31,7 @@ returns c =
     let used = counted (found k) .used-slots in
     let at = found k .slot-offset in
     let a = s .args in
-    is-slot (s .pre .0) (record { volume = a .volume; day = a .day; first = a .first; number = a .number })
+    is-slot (s .pre .0) (record { volume = a .volume; retire = a .retire; day = a .day; first = a .first; number = a .number })
     (at .result) _ (s .pre .1 .0)
     (at .ensures .0 ∙ ap (λ (q : ℕ). slotOffset (bookOf (a .book .now) .sizes) q) (used .ensures))
     (omega arith)

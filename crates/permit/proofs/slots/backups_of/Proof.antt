@@ -9,10 +9,10 @@ use Rattle.permit.proofs.slots.backups_of.Statement.{statement}
 use Rattle.permit.proofs.slots.backups_of.Tie as tie
 
 abbrev Inv-loop : tie.InvT-loop
-Inv-loop book v used count₀ last₀ q₀ count last q = (q ≤ used) × (count ≤ q) × Passed (bookOf book) v q count last
+Inv-loop book v used count₀ last₀ retired₀ q₀ count last retired q = (q ≤ used) × (count ≤ q) × Passed (bookOf book) v q count last retired
 
 abbrev μ-loop : tie.MeasureT-loop
-μ-loop book v used count₀ last₀ q₀ count last q = used - q
+μ-loop book v used count₀ last₀ retired₀ q₀ count last retired q = used - q
 
 used-slots-requires : tie.Need-used-slots-requires Inv-loop μ-loop
 used-slots-requires c κs = c .before .pre
@@ -34,19 +34,19 @@ loop-again c =
     (λ w. (
       omega arith,
       omega arith,
-      rw (w .1, w .2) (passed-own _ _ (l .q) (l .count) (l .last) (l .inv .2) t s h (omega arith)),
+      rw (w .2, w .3, w .4) (passed-own _ _ (l .q) (l .count) (l .last) (l .retired) (l .inv .2) t s h (omega arith)),
     ))
     (λ w. (
       omega arith,
       omega arith,
-      rw (w .1, w .2) (passed-other _ _ (l .q) (l .count) (l .last) (l .inv .2) t s h (λ e. omega arith)),
+      rw (w .1, w .2, w .3) (passed-other _ _ (l .q) (l .count) (l .last) (l .retired) (l .inv .2) t s h (λ e. omega arith)),
     ))
     (c .if1 .came)
 
 returns : tie.Need-returns Inv-loop μ-loop
 returns c =
     let l = c .before .loop in
-    passed-all _ _ (l .q) (l .count) (l .last) (l .inv .2) (omega arith)
+    passed-all _ _ (l .q) (l .count) (l .last) (l .retired) (l .inv .2) (omega arith)
 
 pub backups-of-spec : {M : Type 1} → statement M
 backups-of-spec =

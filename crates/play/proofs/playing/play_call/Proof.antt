@@ -5,11 +5,12 @@ use native.Mathlib.Omega.{arith}
 use lib.ListN.{length}
 use borrow.Author.Needs.{needs}
 use Rattle.words.specs.Numbers.{num}
-use Rattle.model.specs.Calls.{read, audit}
+use Rattle.model.specs.Calls.{retire, read, audit}
 use Rattle.calls.specs.Asked.{listed, restore}
 use Rattle.calls.specs.Answers.{longestReply}
 use Rattle.calls.specs.Coding.{dataSize, callAt}
-use Rattle.calls.proofs.ReadingLaws.{call-inside, call-enrol, call-backup, call-collect, call-read, call-restore, call-audit}
+use Rattle.calls.proofs.ReadingLaws.{call-inside, call-enrol, call-backup, call-collect, call-read, call-restore}
+use Rattle.calls.proofs.ReadingLaws.{call-retire, call-audit}
 use Rattle.play.proofs.playing.play_call.Statement.{statement}
 use Rattle.play.proofs.playing.play_call.Tie as tie
 
@@ -132,13 +133,24 @@ is-restore c =
     let if1 = if2 .before in
     call-restore _ _ (if1 .if1 .left) (if2 .if2 .left) (if3 .if3 .left) (if4 .if4 .left) (c .if5 .taken)
 
-is-audit : (c : tie.Else5) → (let a = other (c .before) .args in callAt (a .calls .now) (a .at) ≡ listed audit)
-is-audit c =
-    let if4 = c .before in
+is-retire : (c : tie.Then6)
+    → (let a = other (c .before .before) .args in
+    let b = a .calls .now in
+    callAt b (a .at) ≡ listed (retire (num b (a .at + 2)) (num b (a .at + 4))))
+is-retire c =
+    let if4 = c .before .before in
     let if3 = if4 .before in
     let if2 = if3 .before in
     let if1 = if2 .before in
-    call-audit _ _ (if1 .if1 .left) (if2 .if2 .left) (if3 .if3 .left) (if4 .if4 .left) (c .if5 .left)
+    call-retire _ _ (if1 .if1 .left) (if2 .if2 .left) (if3 .if3 .left) (if4 .if4 .left) (c .before .if5 .left) (c .if6 .taken)
+
+is-audit : (c : tie.Else6) → (let a = other (c .before .before) .args in callAt (a .calls .now) (a .at) ≡ listed audit)
+is-audit c =
+    let if4 = c .before .before in
+    let if3 = if4 .before in
+    let if2 = if3 .before in
+    let if1 = if2 .before in
+    call-audit _ _ (if1 .if1 .left) (if2 .if2 .left) (if3 .if3 .left) (if4 .if4 .left) (c .before .if5 .left) (c .if6 .left)
 
 answer-read-requires : tie.Need-answer-read-requires
 answer-read-requires c κs =
@@ -192,19 +204,39 @@ returns-5 c =
     )
     (answer-restore .answer-restore .ensures (length (a .spare .now)))
 
-answer-audit-requires : tie.Need-answer-audit-requires
-answer-audit-requires c κs =
-    let if5 = c .before .before in
-    let s = other (if5 .before) in
-    let e = ap longestReply (is-audit if5) in
+answer-retire-requires : tie.Need-answer-retire-requires
+answer-retire-requires c κs =
+    let if6 = c .before .before .before in
+    let s = other (if6 .before .before) in
+    let e = ap longestReply (is-retire if6) in
     omega (arith, s .pre .1)
 
 returns-6 : tie.Need-returns-6
 returns-6 c =
+    let spare = c .before .before .before in
+    let answer-retire = spare .before .before .before in
+    let if6 = answer-retire .before .before .before .before in
+    let if4 = if6 .before .before in
+    let u16-at3 = if4 .before .before .before .before in
+    let u16-at2 = u16-at3 .before in
+    let u16-at = u16-at2 .before in
+    let a = entry u16-at3 .args in
+    rw (is-retire if6, ← u16-at .u16-at .ensures, ← u16-at2 .u16-at2 .ensures)
+    (answer-retire .answer-retire .ensures (a .pool .now))
+
+answer-audit-requires : tie.Need-answer-audit-requires
+answer-audit-requires c κs =
+    let if6 = c .before .before in
+    let s = other (if6 .before .before) in
+    let e = ap longestReply (is-audit if6) in
+    omega (arith, s .pre .1)
+
+returns-7 : tie.Need-returns-7
+returns-7 c =
     let answer-audit = c .before .before in
-    let if5 = answer-audit .before .before .before in
-    let a = other (if5 .before) .args in
-    rw (is-audit if5) (answer-audit .answer-audit .ensures (length (a .spare .now)) (a .pool .now))
+    let if6 = answer-audit .before .before .before in
+    let a = other (if6 .before .before) .args in
+    rw (is-audit if6) (answer-audit .answer-audit .ensures (length (a .spare .now)) (a .pool .now))
 
 pub play-call-spec : {M : Type 1} → statement M
 play-call-spec =
@@ -213,4 +245,5 @@ play-call-spec =
     (λ c. search needs) (λ c. search needs) (λ c. search needs) (λ c. search needs) returns-2 answer-collect-requires
     (λ c. search needs) (λ c. search needs) returns-3 answer-read-requires (λ c. search needs) (λ c. search needs)
     (λ c. search needs) returns-4 add-u16-at-4 u16-at-requires-4 answer-restore-requires (λ c. search needs)
-    (λ c. search needs) (λ c. search needs) returns-5 answer-audit-requires (λ c. search needs) (λ c. search needs) returns-6)
+    (λ c. search needs) (λ c. search needs) returns-5 answer-retire-requires (λ c. search needs) (λ c. search needs)
+    (λ c. search needs) returns-6 answer-audit-requires (λ c. search needs) (λ c. search needs) returns-7)

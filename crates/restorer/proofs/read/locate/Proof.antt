@@ -31,7 +31,7 @@ returns c =
     (c .before .buffers-number .result) (c .before .buffers-number .ensures) (c .if1 .taken)
 
 kept-backup-requires : tie.Need-kept-backup-requires
-kept-backup-requires c κs = ready c .holds
+kept-backup-requires c κs = ready c
 
 block-before-requires : tie.Need-block-before-requires
 block-before-requires c κs =

@@ -1,0 +1,4 @@
+pub mod Contracts
+pub mod Clearing
+pub mod Allowing
+pub mod Closing
