@@ -114,7 +114,7 @@ static void take_backup(struct box *box, const struct past *past, unsigned volum
 /* All slots but one are used: the rest of the records are changes of volume 0, a few each day, that never touch its LBN 0. */
 static void few_changes_daily(struct box *box, const struct past *past)
 {
-    unsigned days = SLOTS - 1 - AIDS, records = past->records - FIRST_RECORDS;
+    unsigned days = SLOTS - 1 - AIDS, records = past->records - FIRST_RECORDS + CELLS - past->cells;
     for (unsigned q = 0; q < days; q++) {
         unsigned changes = records * (q + 1) / days - records * q / days;
         unsigned lbn = 1 + 37 * q % (CELLS - 1 - changes);
@@ -127,7 +127,7 @@ static void live_through(struct box *box, const struct past *past)
     for (uint16_t v = 0; v < AIDS; v++)
         accepted("enrol", aspen_enrol(book, box->book_len, v, RETENTION));
     for (unsigned v = 0; v < AIDS; v++)
-        take_backup(box, past, v, 0, CELLS, v * CELLS, past->held);
+        take_backup(box, past, v, 0, v == AIDS - 1 ? past->cells : CELLS, v * CELLS, past->held);
     if (!past->left)
         few_changes_daily(box, past);
     for (unsigned v = 0; past->left && v < AIDS; v++)
@@ -141,7 +141,7 @@ static void live_through(struct box *box, const struct past *past)
 static bool same_past(const struct past *a, const struct past *b)
 {
     return same_alike(a->alike, b->alike) && a->used == b->used && a->left == b->left && a->blocks == b->blocks && a->held == b->held
-           && a->records == b->records;
+           && a->records == b->records && a->cells == b->cells;
 }
 
 static const uint8_t *copy_of(const uint8_t *bytes, size_t len)

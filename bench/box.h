@@ -24,6 +24,7 @@ struct past {
     unsigned blocks;  /* n */
     unsigned held;    /* the first blocks, each with the bytes of its number */
     unsigned records; /* used, at least FIRST_RECORDS */
+    unsigned cells;   /* mapped in the last aid's volume; all are in the others */
 };
 
 enum { KEPT = 64 };

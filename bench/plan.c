@@ -5,6 +5,7 @@
 #define ROOM .blocks = ASPEN_MAX_BLOCKS, .records = RECORDS - CELLS
 
 #define BACKUP_OF(n, where) .call = BACKUP, .finds = where, .changes = n, ROOM
+#define RETIRE_OF(n) .call = RETIRE, .changes = n, ROOM
 #define WRITE_OF(n) .call = WRITE_LIST, .fresh = true, .changes = n, FULL
 #define RESTORE_OF(n) .call = RESTORE, .oldest = true, .changes = n, FULL
 #define LEFT .left = true, .blocks = ASPEN_MAX_BLOCKS, .records = 2 * FIRST_RECORDS
@@ -39,6 +40,9 @@ const struct row rows[ROWS] = {
     { "backup, 64 changes, alike, misses", { BACKUP_OF(64, NOWHERE), FIRST_14 } },
     { "backup, 1,024 changes, alike, misses", { BACKUP_OF(1024, NOWHERE), FIRST_14 } },
     { "backup, 1,024 changes, alike ends, hits last", { BACKUP_OF(1024, LAST_BLOCKS), LAST_14 } },
+    { "retire, 1 cell mapped", { RETIRE_OF(1) } },
+    { "retire, 64 cells mapped", { RETIRE_OF(64) } },
+    { "retire, 1,024 cells mapped", { RETIRE_OF(1024) } },
     { "collect, nothing to free", { .call = COLLECT, FULL } },
     { "collect, 4,032 blocks to free", { .call = COLLECT, LEFT } },
     { "read, newest backup", { .call = READ, FULL } },

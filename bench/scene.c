@@ -59,7 +59,7 @@ static bool converts(const struct scene *scene)
     return scene->call == CONVERT_1_2 || scene->call == CONVERT_2_1 || scene->call == CONVERT_2_3;
 }
 
-/* Layout 2 has the bytes of today's but for the number; expiries that are those of today don't matter to a converter. */
+/* Layout 2 has the bytes of today's but for the number where no volume is retired; expiries that are those of today don't matter to a converter. */
 static void set_older(const struct stage *stage)
 {
     memcpy(wide, stage->box.book, stage->box.book_len);
@@ -76,7 +76,8 @@ void stage_set(struct stage *stage, const struct scene *scene)
                          .left = scene->left,
                          .blocks = scene->blocks,
                          .held = stage->held,
-                         .records = scene->records };
+                         .records = scene->records,
+                         .cells = scene->call == RETIRE ? scene->changes : CELLS };
     box_make(&stage->box, &past);
     if (scene->call == WRITE_LIST)
         set_volume(stage);
@@ -84,7 +85,7 @@ void stage_set(struct stage *stage, const struct scene *scene)
         set_list(stage);
     else if (converts(scene))
         set_older(stage);
-    stage->volume = scene->call == ENROL ? AIDS : 0;
+    stage->volume = scene->call == ENROL ? AIDS : scene->call == RETIRE ? AIDS - 1 : 0;
     stage->day = (uint16_t)(stage->box.day + (scene->call == COLLECT ? RETENTION + 1 : 1));
     stage->number = scene->oldest ? 1 : stage->box.newest;
 }
@@ -109,6 +110,8 @@ uint16_t stage_call(struct stage *stage, const struct side *side)
     case BACKUP:
         return side->backup(box->book, box->book_len, box->pool, box->pool_len, box->spare, box->book_len, stage->volume, stage->day, list,
                             stage->list_len, &answers[0], &answers[1], &answers[2]);
+    case RETIRE:
+        return side->retire(box->book, box->book_len, box->spare, box->book_len, stage->volume, stage->day, &answers[0]);
     case COLLECT:
         return side->collect(box->book, box->book_len, stage->day, &answers[0]);
     case READ:
@@ -143,17 +146,19 @@ void stage_move(struct stage *stage)
         memcpy(box->room, box->pool, aspen_run_size(scene->changes));
     if (converts(scene))
         memcpy(box->room, box->spare, scene->call == CONVERT_2_3 ? box->book_len : narrow_len(stage));
+    if (scene->call == BACKUP || scene->call == RETIRE)
+        memcpy(box->book, box->spare, box->book_len);
     if (scene->call != BACKUP)
         return;
-    memcpy(box->book, box->spare, box->book_len);
     uint8_t *to = scene->finds == NOWHERE ? box->pool + aspen_pool_size(stage->held) : box->room;
     memcpy(to, list + aspen_list_size(runs_of(scene->changes), 0) + ASPEN_PRINT_SIZE * scene->changes, aspen_pool_size(scene->changes));
 }
 
 static void fail(const struct stage *stage, const char *what, const struct side *side)
 {
-    static const char *const names[] = { "form",    "format", "enrol",       "backup",      "collect",     "read",
-                                         "restore", "audit",  "convert_1_2", "convert_2_1", "convert_2_3", "write_list" };
+    static const char *const names[] = { "form", "format",  "enrol", "backup",      "retire",      "collect",
+                                         "read", "restore", "audit", "convert_1_2", "convert_2_1", "convert_2_3",
+                                         "write_list" };
     const struct scene *scene = &stage->scene;
     fprintf(stderr, "\nbench: %s with N = %u, U = %u, n = %u: %s %s\n", names[scene->call], scene->blocks, scene->records, scene->changes,
             side->name, what);

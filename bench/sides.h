@@ -12,6 +12,7 @@ struct side {
     uint16_t (*enrol)(uint8_t *book, size_t len, uint16_t volume, uint16_t retention);
     uint16_t (*backup)(uint8_t *book, size_t book_len, uint8_t *pool, size_t pool_len, uint8_t *spare, size_t spare_len, uint16_t volume,
                        uint16_t day, const uint8_t *list, size_t list_len, uint16_t *number, uint16_t *taken, uint16_t *touched);
+    uint16_t (*retire)(uint8_t *book, size_t book_len, uint8_t *spare, size_t spare_len, uint16_t volume, uint16_t day, uint16_t *cells);
     uint16_t (*collect)(uint8_t *book, size_t len, uint16_t day, uint16_t *freed);
     uint16_t (*read)(const uint8_t *book, size_t book_len, const uint8_t *pool, size_t pool_len, uint16_t volume, uint16_t number, uint16_t lbn,
                      uint32_t *at);

@@ -22,6 +22,8 @@ uint16_t twin_backup_scan(uint8_t *book, size_t book_len, uint8_t *pool, size_t 
 uint16_t twin_backup_hash(uint8_t *book, size_t book_len, uint8_t *pool, size_t pool_len, uint8_t *spare, size_t spare_len, uint16_t volume,
                           uint16_t day, const uint8_t *list, size_t list_len, uint16_t *number, uint16_t *taken, uint16_t *touched);
 
+uint16_t twin_retire(uint8_t *book, size_t book_len, uint8_t *spare, size_t spare_len, uint16_t volume, uint16_t day, uint16_t *cells);
+
 uint16_t twin_collect(uint8_t *book, size_t len, uint16_t day, uint16_t *freed);
 
 uint16_t twin_read(const uint8_t *book, size_t book_len, const uint8_t *pool, size_t pool_len, uint16_t volume, uint16_t number, uint16_t lbn,

@@ -3,6 +3,7 @@
 #include "twin_layout.h"
 #include "twin_list.h"
 #include "twin_prints.h"
+#include "twin_taking.h"
 
 #include <string.h>
 
@@ -12,7 +13,8 @@ struct backup {
     uint8_t *work, *record; /* the copy, and the next record in it */
     struct list list;
     struct prints *table; /* null where the entries are gone through */
-    unsigned volume, backups, until, cursor, taken, befores;
+    struct so_far so_far;
+    unsigned volume, cursor, taken, befores;
     uint16_t by[MAX_BLOCKS]; /* for a block taken, the change that took it */
     uint16_t took[MAX_LBNS]; /* the blocks taken */
 };
@@ -95,13 +97,8 @@ static uint16_t move(struct backup *b, unsigned lbn, unsigned p)
     uint8_t *cell = b->work + b->a.maps + CELL * (b->volume * b->a.l + lbn), *e = entry_of(b, p);
     unsigned before = u16_at(cell);
     if (before != UNMAPPED) {
-        uint8_t *old = entry_of(b, before);
-        unsigned count = u16_at(old + ENTRY_COUNT);
-        if (count == 0)
+        if (!lower(entry_of(b, before), b->so_far.until))
             return 13;
-        put_u16(old + ENTRY_COUNT, count - 1);
-        if (u16_at(old + ENTRY_EXPIRY) < b->until)
-            put_u16(old + ENTRY_EXPIRY, b->until);
         b->befores++;
     }
     unsigned count = u16_at(e + ENTRY_COUNT);
@@ -109,9 +106,7 @@ static uint16_t move(struct backup *b, unsigned lbn, unsigned p)
         return 14;
     put_u16(e + ENTRY_COUNT, count + 1);
     put_u16(cell, p);
-    put_u16(b->record + RECORD_LBN, lbn);
-    put_u16(b->record + RECORD_BEFORE, before);
-    put_u16(b->record + RECORD_AFTER, p);
+    put_record(b->record, lbn, before, p);
     b->record += RECORD;
     return 0;
 }
@@ -138,35 +133,11 @@ static uint16_t all_changes(struct backup *b)
 /* The slot and the header in the copy, the blocks taken into the pool, the copy into the book. */
 static void finish(struct backup *b, uint8_t *book, uint8_t *pool, unsigned day)
 {
-    unsigned slots = u16_at(book + AT_SLOTS_USED), records = u16_at(book + AT_RECORDS_USED);
-    uint8_t *slot = b->work + b->a.slots + SLOT * slots;
-    slot[SLOT_VOLUME] = (uint8_t)b->volume;
-    put_u16(slot + SLOT_DAY, day);
-    put_u16(slot + SLOT_FIRST, records);
-    put_u16(slot + SLOT_NUMBER, (unsigned)b->list.n);
-    put_u16(b->work + AT_SLOTS_USED, slots + 1);
-    put_u16(b->work + AT_RECORDS_USED, records + (unsigned)b->list.n);
-    put_u16(b->work + AT_DAY, day);
+    add_slot(b->work, &b->a, b->volume, 0, day, (unsigned)b->list.n);
     put_u16(b->work + AT_CURSOR, b->cursor);
     for (unsigned k = 0; k < b->taken; k++)
         memcpy(pool + BLOCK * b->took[k], b->list.blocks + BLOCK * b->by[b->took[k]], BLOCK);
     memcpy(book, b->work, b->a.length);
-}
-
-/* Number 7, or 0 with how many backups the volume has, and until when a block of the last one is needed; 0 is its day where there is none. */
-static uint16_t day_refused(struct backup *b, unsigned day)
-{
-    const uint8_t *slot = b->book + b->a.slots, *end = slot + SLOT * u16_at(b->book + AT_SLOTS_USED), *last = NULL;
-    b->backups = 0;
-    if (day > MAX_DAY || day < u16_at(b->book + AT_DAY))
-        return 7;
-    for (; slot < end; slot += SLOT)
-        if (slot[SLOT_VOLUME] == b->volume) {
-            last = slot;
-            b->backups++;
-        }
-    b->until = retention_of(b->book, b->volume) + (last == NULL ? 0 : u16_at(last + SLOT_DAY));
-    return last != NULL && day <= u16_at(last + SLOT_DAY) ? 7 : 0;
 }
 
 /* Numbers 1 to 10. */
@@ -181,16 +152,12 @@ static uint16_t refused_first(struct backup *b, size_t book_len, size_t pool_len
         return 3;
     if (spare_len < book_len)
         return 4;
-    if (b->volume >= VOLUMES || retention_of(b->book, b->volume) == 0)
-        return 5;
-    refused = day_refused(b, day);
+    refused = taker_refused(b->book, &b->a, b->volume, day, &b->so_far);
     if (refused != 0)
         return refused;
     if (!list_of(&b->list, list, list_len, b->a.l))
         return 8;
-    if (u16_at(b->book + AT_SLOTS_USED) == b->a.s)
-        return 9;
-    return u16_at(b->book + AT_RECORDS_USED) + b->list.n > b->a.j ? 10 : 0;
+    return room_refused(b->book, &b->a, b->list.n);
 }
 
 static uint16_t backup(struct prints *table, uint8_t *book, size_t book_len, uint8_t *pool, size_t pool_len, uint8_t *spare, size_t spare_len,
@@ -213,7 +180,7 @@ static uint16_t backup(struct prints *table, uint8_t *book, size_t book_len, uin
     if (refused != 0)
         return refused;
     finish(&b, book, pool, day);
-    *number = (uint16_t)(b.backups + 1);
+    *number = (uint16_t)(b.so_far.backups + 1);
     *taken = (uint16_t)b.taken;
     *touched = (uint16_t)(b.list.n + b.befores);
     return 0;

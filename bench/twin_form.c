@@ -60,32 +60,47 @@ static int maps_ok(const uint8_t *cells, const struct layout *a)
     return 1;
 }
 
+/* `last` has the first day that a volume's next slot may have; after a retirement that is none. `most` is the largest second byte. */
 static int slots_ok(const uint8_t *book, const struct layout *a)
 {
-    unsigned last[VOLUMES] = { 0 }, previous = 0, header_day = u16_at(book + AT_DAY);
+    unsigned last[VOLUMES] = { 0 }, previous = 0, header_day = u16_at(book + AT_DAY), most = u16_at(book + AT_LAYOUT) == LAYOUT;
     size_t at = 0, used = u16_at(book + AT_SLOTS_USED);
     const uint8_t *b = book + a->slots;
     for (size_t q = 0; q < used; q++, b += SLOT) {
         unsigned volume = b[SLOT_VOLUME], day = u16_at(b + SLOT_DAY);
-        if (volume >= VOLUMES || retention_of(book, volume) == 0 || b[SLOT_ZERO] != 0)
+        if (volume >= VOLUMES || retention_of(book, volume) == 0 || b[SLOT_RETIRES] > most)
             return 0;
         if (day > header_day || day < previous || day < last[volume] || u16_at(b + SLOT_FIRST) != at)
             return 0;
         previous = day;
-        last[volume] = day + 1;
+        last[volume] = b[SLOT_RETIRES] == 1 ? MAX_DAY + 1 : day + 1;
         at += u16_at(b + SLOT_NUMBER);
     }
     return at == u16_at(book + AT_RECORDS_USED) && all_zero(b, SLOT * (a->s - used));
 }
 
+/* Of the records up to `end`, all of one slot: an after is unmapped where it retires the volume, and a block where it doesn't. */
+static inline int slot_records_ok(const uint8_t *b, const uint8_t *end, const struct layout *a, unsigned retires)
+{
+    for (; b < end; b += RECORD) {
+        unsigned after = u16_at(b + RECORD_AFTER);
+        if (u16_at(b + RECORD_LBN) >= a->l || !pbn_ok(u16_at(b + RECORD_BEFORE), a->n) || (retires == 1 ? after != UNMAPPED : after >= a->n))
+            return 0;
+    }
+    return 1;
+}
+
+/* Where the slots are in form, so that each has the records after those of the last. */
 static int records_ok(const uint8_t *book, const struct layout *a)
 {
-    size_t used = u16_at(book + AT_RECORDS_USED);
-    const uint8_t *b = book + a->records;
-    for (size_t q = 0; q < used; q++, b += RECORD)
-        if (u16_at(b + RECORD_LBN) >= a->l || !pbn_ok(u16_at(b + RECORD_BEFORE), a->n) || u16_at(b + RECORD_AFTER) >= a->n)
+    const uint8_t *slot = book + a->slots, *end = slot + SLOT * u16_at(book + AT_SLOTS_USED), *b = book + a->records;
+    for (; slot < end; slot += SLOT) {
+        const uint8_t *next = b + RECORD * u16_at(slot + SLOT_NUMBER);
+        if (!slot_records_ok(b, next, a, slot[SLOT_RETIRES]))
             return 0;
-    return all_zero(b, RECORD * (a->j - used));
+        b = next;
+    }
+    return all_zero(b, RECORD * (a->j - u16_at(book + AT_RECORDS_USED)));
 }
 
 static uint16_t wide_form(const uint8_t *book, size_t len, unsigned layout)

@@ -1,4 +1,5 @@
-/* The book's layout, for the twin: 3, which the calls take, and what differs in 1. Layout 2 has the bytes of 3. */
+/* The book's layout, for the twin: 3, which the calls take, and what differs in 1. Layout 2 has the places of 3; only in 3 does a slot retire its
+ * volume. */
 #ifndef ASPEN_BENCH_TWIN_LAYOUT_H
 #define ASPEN_BENCH_TWIN_LAYOUT_H
 
@@ -22,7 +23,7 @@ enum { AT_LAYOUT = 0, AT_N = 2, AT_L = 4, AT_S = 6, AT_J = 8, AT_SLOTS_USED = 10
 
 /* Where the fields of an entry, a slot and a record stand within it. */
 enum { ENTRY_COUNT = 0, ENTRY_STATE = COUNT, ENTRY_EXPIRY = COUNT + 1, ENTRY_PRINT = COUNT + 3 };
-enum { SLOT_VOLUME = 0, SLOT_ZERO = 1, SLOT_DAY = 2, SLOT_FIRST = 4, SLOT_NUMBER = 6 };
+enum { SLOT_VOLUME = 0, SLOT_RETIRES = 1, SLOT_DAY = 2, SLOT_FIRST = 4, SLOT_NUMBER = 6 };
 enum { RECORD_LBN = 0, RECORD_BEFORE = 2, RECORD_AFTER = 4 };
 
 static inline unsigned u16_at(const uint8_t *b)

@@ -1,4 +1,4 @@
-/* Read: the first record of the LBN after the backup, else the map. */
+/* Read: the first record of the LBN after the backup, that of the retirement too, else the map. */
 #include "twin_slots.h"
 
 /* The before of the LBN's first record in the volume's slots from this one on, or the cell of its map. */
