@@ -121,7 +121,8 @@ module _ (x : Book) (n : ℕ) where
 
 -- ---- the call
 
-then-then : {A B C : Type 0} (o : Outcome A) (f : A → B) (g : B → C)
+-- what is made of an outcome twice is made of it at once
+pub then-then : {A B C : Type 0} (o : Outcome A) (f : A → B) (g : B → C)
     → andThen (andThen o (λ a. accepted (f a))) (λ b. accepted (g b)) ≡ andThen o (λ a. accepted (g (f a)))
 then-then (refused k) f g = refl
 then-then (accepted a) f g = refl

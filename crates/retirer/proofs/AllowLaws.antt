@@ -21,6 +21,7 @@ use Rattle.model.specs.Retire.{Retired, mappedCells, retireNumber, retired, ret
 use Rattle.model.specs.OnBytes.{spareNumber, RetiredBytes, retiredBytes, retireBytes}
 use Rattle.claims.proofs.kept.DayLaws.{good-day, last-before}
 use Rattle.permit.specs.Allowing.{dayRefused, roomNumber}
+use Rattle.permit.proofs.AllowLaws.{then-then}
 use Rattle.retirer.specs.Clearing.{clearAll}
 use Rattle.retirer.specs.Allowing.{goesOn}
 
@@ -77,11 +78,6 @@ room-facts x n e = go (leb (x .sizes .s) (length (x .slots))) (ltb (x .sizes .j)
     go false false f g z = (leb-false _ _ f, ltb-false _ _ g)
 
 -- ---- the call
-
-then-then : {A B C : Type 0} (o : Outcome A) (f : A → B) (g : B → C)
-    → andThen (andThen o (λ a. accepted (f a))) (λ b. accepted (g b)) ≡ andThen o (λ a. accepted (g (f a)))
-then-then (refused k) f g = refl
-then-then (accepted a) f g = refl
 
 module _ (b : List ℕ) (spare v t : ℕ) where
   abbrev inner : Outcome RetiredBytes
