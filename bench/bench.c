@@ -87,7 +87,7 @@ static int best_c(const struct scene *scene, const struct times *times)
 /* Which twin that is, where there are two. */
 static const char *search_of(const struct scene *scene, int column)
 {
-    return scene->call == BACKUP ? sides[column].title + 2 : "";
+    return scene->call == BACKUP ? sides[column].name + 2 : "";
 }
 
 static void print_times(const struct scene *scene, const struct times *t)

@@ -60,13 +60,6 @@ void put_print(uint8_t *print, struct alike alike, unsigned number)
         put_u16(differs, mixed(number));
 }
 
-void put_name(uint8_t *name, unsigned number)
-{
-    memset(name, 0, ASPEN_NAME_SIZE);
-    memcpy(name, "name ", 5);
-    name[5] = (uint8_t)('0' + number);
-}
-
 unsigned runs_of(unsigned changes)
 {
     return (changes + ASPEN_MAX_RUN - 1) / ASPEN_MAX_RUN;
@@ -129,15 +122,6 @@ static void few_changes_daily(struct box *box, const struct past *past)
     }
 }
 
-static void give_names(struct box *box, const struct past *past)
-{
-    uint8_t name[ASPEN_NAME_SIZE];
-    for (unsigned i = 0; i < past->names; i++) {
-        put_name(name, i);
-        accepted("name", aspen_name(book, box->book_len, spare, box->book_len, (uint16_t)past->named, 1, name, sizeof name));
-    }
-}
-
 static void live_through(struct box *box, const struct past *past)
 {
     for (uint16_t v = 0; v < AIDS; v++)
@@ -148,7 +132,6 @@ static void live_through(struct box *box, const struct past *past)
         few_changes_daily(box, past);
     for (unsigned v = 0; past->left && v < AIDS; v++)
         take_backup(box, past, v, 0, CELLS, 0, KEPT);
-    give_names(box, past);
     uint16_t sound = 0;
     accepted("audit", aspen_audit(book, box->book_len, &sound));
     if (sound != 1)
@@ -158,7 +141,7 @@ static void live_through(struct box *box, const struct past *past)
 static bool same_past(const struct past *a, const struct past *b)
 {
     return same_alike(a->alike, b->alike) && a->used == b->used && a->left == b->left && a->blocks == b->blocks && a->held == b->held
-           && a->records == b->records && a->cells == b->cells && a->names == b->names && (a->names == 0 || a->named == b->named);
+           && a->records == b->records && a->cells == b->cells;
 }
 
 static const uint8_t *copy_of(const uint8_t *bytes, size_t len)

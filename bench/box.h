@@ -25,8 +25,6 @@ struct past {
     unsigned held;    /* the first blocks, each with the bytes of its number */
     unsigned records; /* used, at least FIRST_RECORDS */
     unsigned cells;   /* mapped in the last aid's volume; all are in the others */
-    unsigned names;   /* so many, all for the first backup */
-    unsigned named;   /* of this volume */
 };
 
 enum { KEPT = 64 };
@@ -54,9 +52,6 @@ bool same_alike(struct alike a, struct alike b);
 
 /* The fingerprint of the block of this number: no other number below 65,536 has it, below 256 where 15 bytes are alike. */
 void put_print(uint8_t *print, struct alike alike, unsigned number);
-
-/* The name of this number; no other has it. */
-void put_name(uint8_t *name, unsigned number);
 
 /* How many runs a change list has for so many LBNs in a row. */
 unsigned runs_of(unsigned changes);

@@ -6,8 +6,6 @@
 
 #define BACKUP_OF(n, where) .call = BACKUP, .finds = where, .changes = n, ROOM
 #define RETIRE_OF(n) .call = RETIRE, .changes = n, ROOM
-#define NAME_OF(n) .call = NAME, .changes = n, ROOM
-#define UNNAME_OF(n) .call = UNNAME, .changes = n, .names = 1, ROOM
 #define WRITE_OF(n) .call = WRITE_LIST, .fresh = true, .changes = n, FULL
 #define RESTORE_OF(n) .call = RESTORE, .oldest = true, .changes = n, FULL
 #define LEFT .left = true, .blocks = ASPEN_MAX_BLOCKS, .records = 2 * FIRST_RECORDS
@@ -45,14 +43,6 @@ const struct row rows[ROWS] = {
     { "retire, 1 cell mapped", { RETIRE_OF(1) } },
     { "retire, 64 cells mapped", { RETIRE_OF(64) } },
     { "retire, 1,024 cells mapped", { RETIRE_OF(1024) } },
-    { "name, 1 cell mapped", { NAME_OF(1) } },
-    { "name, 64 cells mapped", { NAME_OF(64) } },
-    { "name, 1,024 cells mapped", { NAME_OF(1024) } },
-    { "name, 1,024 cells mapped, oldest backup", { .oldest = true, NAME_OF(1024) } },
-    { "unname, 1 cell mapped", { UNNAME_OF(1) } },
-    { "unname, 64 cells mapped", { UNNAME_OF(64) } },
-    { "unname, 1,024 cells mapped", { UNNAME_OF(1024) } },
-    { "unname, 1,024 cells mapped, oldest backup", { .oldest = true, UNNAME_OF(1024) } },
     { "collect, nothing to free", { .call = COLLECT, FULL } },
     { "collect, 4,032 blocks to free", { .call = COLLECT, LEFT } },
     { "read, newest backup", { .call = READ, FULL } },
@@ -62,11 +52,9 @@ const struct row rows[ROWS] = {
     { "restore, 1,024 blocks, oldest backup", { RESTORE_OF(1024) } },
     { "audit", { .call = AUDIT, FULL } },
     { "audit, alike", { .call = AUDIT, FIRST_14, FULL } },
-    { "audit, eight names for the oldest backup", { .call = AUDIT, .names = ASPEN_NAMES, FULL } },
     { "convert_1_2", { .call = CONVERT_1_2, FULL } },
     { "convert_2_1", { .call = CONVERT_2_1, FULL } },
     { "convert_2_3", { .call = CONVERT_2_3, FULL } },
-    { "convert_3_4", { .call = CONVERT_3_4, FULL } },
     { "write_list, all of 1,024 blocks marked", { WRITE_OF(1024) } },
     { "write_list, 51 of 1,024 marked here and there", { WRITE_OF(51) } },
 };

@@ -16,7 +16,7 @@ struct growth {
     struct scene scene;
 };
 
-enum { ROWS = 49, LOOKUPS = 6, ALIKES = 30, GROWTHS = 19, GROWTH_POINTS = 5 };
+enum { ROWS = 39, LOOKUPS = 6, ALIKES = 30, GROWTHS = 19, GROWTH_POINTS = 5 };
 
 extern const struct row rows[ROWS];
 

@@ -10,17 +10,9 @@ static uint8_t list[aspen_list_bound(CELLS)];
 /* The volume that write_list is given. */
 static uint8_t marks[CELLS], prints[ASPEN_PRINT_SIZE * CELLS], image[ASPEN_BLOCK_SIZE * CELLS];
 
-/* The name that is given or dropped. */
-static uint8_t text[ASPEN_NAME_SIZE];
-
-/* The box's book in layouts 2 or 3, and 1, for the converters that take it, and how long that is. */
+/* The box's book in layouts 2 and 1, for the converters that take it, and how long that is in layout 1. */
 static uint8_t wide[aspen_book_size_of(2, ASPEN_MAX_BLOCKS, CELLS, SLOTS, RECORDS)];
 static uint8_t narrow[aspen_book_size_of(1, ASPEN_MAX_BLOCKS, CELLS, SLOTS, RECORDS)];
-
-static size_t wide_len(const struct stage *stage)
-{
-    return aspen_book_size_of(2, stage->box.blocks, CELLS, SLOTS, RECORDS);
-}
 
 static size_t narrow_len(const struct stage *stage)
 {
@@ -30,7 +22,7 @@ static size_t narrow_len(const struct stage *stage)
 bool same_scene(const struct scene *a, const struct scene *b)
 {
     return a->call == b->call && same_alike(a->alike, b->alike) && a->fresh == b->fresh && a->left == b->left && a->finds == b->finds
-           && a->oldest == b->oldest && a->blocks == b->blocks && a->records == b->records && a->changes == b->changes && a->names == b->names;
+           && a->oldest == b->oldest && a->blocks == b->blocks && a->records == b->records && a->changes == b->changes;
 }
 
 static void set_list(struct stage *stage)
@@ -64,34 +56,15 @@ static void set_volume(struct stage *stage)
 
 static bool converts(const struct scene *scene)
 {
-    return scene->call >= CONVERT_1_2 && scene->call <= CONVERT_3_4;
+    return scene->call == CONVERT_1_2 || scene->call == CONVERT_2_1 || scene->call == CONVERT_2_3;
 }
 
-static bool names(const struct scene *scene)
-{
-    return scene->call == NAME || scene->call == UNNAME;
-}
-
-/* Whether the call is on the last aid's volume, whose one backup has so many cells. */
-static bool of_last_aid(const struct scene *scene)
-{
-    return scene->call == RETIRE || (names(scene) && !scene->oldest);
-}
-
-/* Layouts 2 and 3 have the bytes of today's but for the number, up to the names, where no volume is retired; expiries that are those of today don't
- * matter to a converter. */
+/* Layout 2 has the bytes of today's but for the number where no volume is retired; expiries that are those of today don't matter to a converter. */
 static void set_older(const struct stage *stage)
 {
-    memcpy(wide, stage->box.book, wide_len(stage));
+    memcpy(wide, stage->box.book, stage->box.book_len);
     wide[0] = 2;
-    aspen_convert_2_1(wide, wide_len(stage), narrow, narrow_len(stage));
-    wide[0] = stage->scene.call == CONVERT_3_4 ? 3 : 2;
-}
-
-/* How many bytes a converter writes. */
-static size_t converted_len(const struct stage *stage)
-{
-    return stage->scene.call == CONVERT_2_1 ? narrow_len(stage) : stage->scene.call == CONVERT_3_4 ? stage->box.book_len : wide_len(stage);
+    aspen_convert_2_1(wide, stage->box.book_len, narrow, narrow_len(stage));
 }
 
 void stage_set(struct stage *stage, const struct scene *scene)
@@ -104,42 +77,23 @@ void stage_set(struct stage *stage, const struct scene *scene)
                          .blocks = scene->blocks,
                          .held = stage->held,
                          .records = scene->records,
-                         .cells = of_last_aid(scene) ? scene->changes : CELLS,
-                         .names = scene->names,
-                         .named = of_last_aid(scene) ? AIDS - 1 : 0 };
+                         .cells = scene->call == RETIRE ? scene->changes : CELLS };
     box_make(&stage->box, &past);
-    put_name(text, scene->call == UNNAME ? 0 : ASPEN_NAMES);
     if (scene->call == WRITE_LIST)
         set_volume(stage);
     else if (scene->call == BACKUP)
         set_list(stage);
     else if (converts(scene))
         set_older(stage);
-    stage->volume = scene->call == ENROL ? AIDS : of_last_aid(scene) ? AIDS - 1 : 0;
+    stage->volume = scene->call == ENROL ? AIDS : scene->call == RETIRE ? AIDS - 1 : 0;
     stage->day = (uint16_t)(stage->box.day + (scene->call == COLLECT ? RETENTION + 1 : 1));
-    stage->number = scene->oldest || of_last_aid(scene) ? 1 : stage->box.newest;
+    stage->number = scene->oldest ? 1 : stage->box.newest;
 }
 
 void stage_restore(struct stage *stage)
 {
     bool takes = stage->scene.call == BACKUP && stage->scene.finds == NOWHERE;
     box_restore(&stage->box, takes ? stage->held : stage->box.blocks);
-}
-
-static uint16_t convert(struct stage *stage, const struct side *side)
-{
-    uint8_t *out = stage->box.room;
-    size_t out_len = converted_len(stage);
-    switch (stage->scene.call) {
-    case CONVERT_1_2:
-        return side->convert_1_2(narrow, narrow_len(stage), out, out_len);
-    case CONVERT_2_1:
-        return side->convert_2_1(wide, wide_len(stage), out, out_len);
-    case CONVERT_2_3:
-        return side->convert_2_3(wide, wide_len(stage), out, out_len);
-    default:
-        return side->convert_3_4(wide, wide_len(stage), out, out_len);
-    }
 }
 
 uint16_t stage_call(struct stage *stage, const struct side *side)
@@ -158,10 +112,6 @@ uint16_t stage_call(struct stage *stage, const struct side *side)
                             stage->list_len, &answers[0], &answers[1], &answers[2]);
     case RETIRE:
         return side->retire(box->book, box->book_len, box->spare, box->book_len, stage->volume, stage->day, &answers[0]);
-    case NAME:
-        return side->name(box->book, box->book_len, box->spare, box->book_len, stage->volume, stage->number, text, sizeof text);
-    case UNNAME:
-        return side->unname(box->book, box->book_len, box->spare, box->book_len, text, sizeof text);
     case COLLECT:
         return side->collect(box->book, box->book_len, stage->day, &answers[0]);
     case READ:
@@ -172,10 +122,11 @@ uint16_t stage_call(struct stage *stage, const struct side *side)
     case AUDIT:
         return side->audit(box->book, box->book_len, &answers[0]);
     case CONVERT_1_2:
+        return side->convert_1_2(narrow, narrow_len(stage), box->room, box->book_len);
     case CONVERT_2_1:
+        return side->convert_2_1(wide, box->book_len, box->room, narrow_len(stage));
     case CONVERT_2_3:
-    case CONVERT_3_4:
-        return convert(stage, side);
+        return side->convert_2_3(wide, box->book_len, box->room, box->book_len);
     case WRITE_LIST:
         return write_list(side, box->room, &stage->at);
     }
@@ -194,8 +145,8 @@ void stage_move(struct stage *stage)
     if (scene->call == RESTORE)
         memcpy(box->room, box->pool, aspen_run_size(scene->changes));
     if (converts(scene))
-        memcpy(box->room, box->spare, converted_len(stage));
-    if (scene->call == BACKUP || scene->call == RETIRE || names(scene))
+        memcpy(box->room, box->spare, scene->call == CONVERT_2_3 ? box->book_len : narrow_len(stage));
+    if (scene->call == BACKUP || scene->call == RETIRE)
         memcpy(box->book, box->spare, box->book_len);
     if (scene->call != BACKUP)
         return;
@@ -205,11 +156,12 @@ void stage_move(struct stage *stage)
 
 static void fail(const struct stage *stage, const char *what, const struct side *side)
 {
-    static const char *const calls[] = { "form",   "format",  "enrol", "backup",      "retire",      "name",        "unname",      "collect",
-                                         "read",   "restore", "audit", "convert_1_2", "convert_2_1", "convert_2_3", "convert_3_4", "write_list" };
+    static const char *const names[] = { "form", "format",  "enrol", "backup",      "retire",      "collect",
+                                         "read", "restore", "audit", "convert_1_2", "convert_2_1", "convert_2_3",
+                                         "write_list" };
     const struct scene *scene = &stage->scene;
-    fprintf(stderr, "\nbench: %s with N = %u, U = %u, n = %u: %s %s\n", calls[scene->call], scene->blocks, scene->records, scene->changes,
-            side->title, what);
+    fprintf(stderr, "\nbench: %s with N = %u, U = %u, n = %u: %s %s\n", names[scene->call], scene->blocks, scene->records, scene->changes,
+            side->name, what);
     exit(1);
 }
 

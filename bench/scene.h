@@ -5,24 +5,7 @@
 #include "box.h"
 #include "sides.h"
 
-enum call {
-    FORM,
-    FORMAT,
-    ENROL,
-    BACKUP,
-    RETIRE,
-    NAME,
-    UNNAME,
-    COLLECT,
-    READ,
-    RESTORE,
-    AUDIT,
-    CONVERT_1_2,
-    CONVERT_2_1,
-    CONVERT_2_3,
-    CONVERT_3_4,
-    WRITE_LIST
-};
+enum call { FORM, FORMAT, ENROL, BACKUP, RETIRE, COLLECT, READ, RESTORE, AUDIT, CONVERT_1_2, CONVERT_2_1, CONVERT_2_3, WRITE_LIST };
 
 /* Where a backup's blocks are found: round the held ones, from the first or up to the last. For one that finds nothing a quarter of the pool is
  * free. */
@@ -34,11 +17,10 @@ struct scene {
     bool fresh;
     bool left;
     enum finds finds;
-    bool oldest; /* read, restore, name and unname: volume 0's first backup; else its newest, or for a name that of the last aid, which has one */
+    bool oldest; /* read and restore: the volume's first backup, else its newest */
     unsigned blocks, records;
-    unsigned changes; /* of a backup; retire, name and unname: how many cells are mapped; restore: how many blocks; write_list: how many LBNs are
-                       * marked, here and there until all are */
-    unsigned names;   /* in the book before the call */
+    unsigned changes; /* of a backup; retire: how many cells are mapped; restore: how many blocks; write_list: how many LBNs are marked, here and
+                       * there until all are */
 };
 
 bool same_scene(const struct scene *a, const struct scene *b);
@@ -62,9 +44,9 @@ void stage_restore(struct stage *stage);
 /* Answers 0 or the number of the refusal. */
 uint16_t stage_call(struct stage *stage, const struct side *side);
 
-/* memcpy of what the call has to move: a backup the book into the spare and back, and its blocks; retire, name and unname the same without blocks;
- * restore the book and its blocks; a converter the book and the one that it writes; write_list as many bytes as its list has; every other call,
- * which goes through the whole book, that book. */
+/* memcpy of what the call has to move: a backup the book into the spare and back, and its blocks; retire the same without blocks; restore the
+ * book and its blocks; a converter the book and the one that it writes; write_list as many bytes as its list has; every other call, which goes
+ * through the whole book, that book. */
 void stage_move(struct stage *stage);
 
 /* Calls each side once and compares answers, book, pool and the list or the blocks that were written. A refusal or a difference ends the program

@@ -6,16 +6,13 @@
 #include <stdint.h>
 
 struct side {
-    const char *title;
+    const char *name;
     uint16_t (*form)(const uint8_t *book, size_t len);
     uint16_t (*format)(uint8_t *book, size_t len, uint16_t n, uint16_t l, uint16_t s, uint16_t j);
     uint16_t (*enrol)(uint8_t *book, size_t len, uint16_t volume, uint16_t retention);
     uint16_t (*backup)(uint8_t *book, size_t book_len, uint8_t *pool, size_t pool_len, uint8_t *spare, size_t spare_len, uint16_t volume,
                        uint16_t day, const uint8_t *list, size_t list_len, uint16_t *number, uint16_t *taken, uint16_t *touched);
     uint16_t (*retire)(uint8_t *book, size_t book_len, uint8_t *spare, size_t spare_len, uint16_t volume, uint16_t day, uint16_t *cells);
-    uint16_t (*name)(uint8_t *book, size_t book_len, uint8_t *spare, size_t spare_len, uint16_t volume, uint16_t number, const uint8_t *name,
-                     size_t name_len);
-    uint16_t (*unname)(uint8_t *book, size_t book_len, uint8_t *spare, size_t spare_len, const uint8_t *name, size_t name_len);
     uint16_t (*collect)(uint8_t *book, size_t len, uint16_t day, uint16_t *freed);
     uint16_t (*read)(const uint8_t *book, size_t book_len, const uint8_t *pool, size_t pool_len, uint16_t volume, uint16_t number, uint16_t lbn,
                      uint32_t *at);
@@ -25,7 +22,6 @@ struct side {
     uint16_t (*convert_1_2)(const uint8_t *book, size_t book_len, uint8_t *out, size_t out_len);
     uint16_t (*convert_2_1)(const uint8_t *book, size_t book_len, uint8_t *out, size_t out_len);
     uint16_t (*convert_2_3)(const uint8_t *book, size_t book_len, uint8_t *out, size_t out_len);
-    uint16_t (*convert_3_4)(const uint8_t *book, size_t book_len, uint8_t *out, size_t out_len);
     uint16_t (*write_list)(uint16_t l, const uint8_t *marks, size_t marks_len, const uint8_t *prints, size_t prints_len, const uint8_t *image,
                            size_t image_len, uint8_t *list, size_t list_len, uint32_t *written);
 };

@@ -8,8 +8,9 @@
 
 uint16_t twin_form(const uint8_t *book, size_t len);
 
-/* The same of a book in the layout of this number, for its converters. */
-uint16_t twin_form_as(const uint8_t *book, size_t len, unsigned layout);
+/* The same of a book in layout 1 and in layout 2, for their converters. */
+uint16_t twin_form_narrow(const uint8_t *book, size_t len);
+uint16_t twin_form_before(const uint8_t *book, size_t len);
 
 uint16_t twin_format(uint8_t *book, size_t len, uint16_t n, uint16_t l, uint16_t s, uint16_t j);
 
@@ -22,10 +23,6 @@ uint16_t twin_backup_hash(uint8_t *book, size_t book_len, uint8_t *pool, size_t 
                           uint16_t day, const uint8_t *list, size_t list_len, uint16_t *number, uint16_t *taken, uint16_t *touched);
 
 uint16_t twin_retire(uint8_t *book, size_t book_len, uint8_t *spare, size_t spare_len, uint16_t volume, uint16_t day, uint16_t *cells);
-
-uint16_t twin_name(uint8_t *book, size_t book_len, uint8_t *spare, size_t spare_len, uint16_t volume, uint16_t number, const uint8_t *name,
-                   size_t name_len);
-uint16_t twin_unname(uint8_t *book, size_t book_len, uint8_t *spare, size_t spare_len, const uint8_t *name, size_t name_len);
 
 uint16_t twin_collect(uint8_t *book, size_t len, uint16_t day, uint16_t *freed);
 
@@ -40,7 +37,6 @@ uint16_t twin_audit(const uint8_t *book, size_t len, uint16_t *sound);
 uint16_t twin_convert_1_2(const uint8_t *book, size_t book_len, uint8_t *out, size_t out_len);
 uint16_t twin_convert_2_1(const uint8_t *book, size_t book_len, uint8_t *out, size_t out_len);
 uint16_t twin_convert_2_3(const uint8_t *book, size_t book_len, uint8_t *out, size_t out_len);
-uint16_t twin_convert_3_4(const uint8_t *book, size_t book_len, uint8_t *out, size_t out_len);
 
 uint16_t twin_write_list(uint16_t l, const uint8_t *marks, size_t marks_len, const uint8_t *prints, size_t prints_len, const uint8_t *image,
                          size_t image_len, uint8_t *list, size_t list_len, uint32_t *written);

@@ -1,6 +1,4 @@
-/* Audit: one pass over the records for all that follows from them, then one over the maps, one back over the records for each name, and two over
- * the entries. */
-#include "twin_image.h"
+/* Audit: one pass over the records for all that follows from them, then one over the maps and two over the entries. */
 #include "twin_prints.h"
 #include "twin_slots.h"
 
@@ -65,23 +63,7 @@ static int maps_sound(const uint8_t *book, const struct layout *a, const uint16_
     return 1;
 }
 
-/* How often each block is in the named maps, once for each name. */
-static void count_named(const uint8_t *book, const struct layout *a, uint16_t *counts)
-{
-    uint16_t pbns[MAX_LBNS];
-    const uint8_t *name = book + a->names, *end = slots_end(book, a);
-    for (size_t i = 0; i < NAMES; i++, name += NAME) {
-        if (name[0] == 0)
-            continue;
-        unsigned volume = u16_at(name + NAME_VOLUME);
-        image_of(pbns, book, a, own_slot(book + a->slots, end, volume, u16_at(name + NAME_NUMBER)) + SLOT, end, volume);
-        for (size_t lbn = 0; lbn < a->l; lbn++)
-            if (pbns[lbn] != UNMAPPED)
-                counts[pbns[lbn]]++;
-    }
-}
-
-/* A free block has count 0 by form, so no map, a named one or not, names it if the counts are right. */
+/* A free block has count 0 by form, so no map names it if the counts are right. */
 static int entries_sound(const uint8_t *e, size_t n, const uint16_t *counts, const uint16_t *expiries)
 {
     for (size_t p = 0; p < n; p++, e += ENTRY)
@@ -113,7 +95,6 @@ uint16_t twin_audit(const uint8_t *book, size_t len, uint16_t *sound)
     if (refused != 0)
         return refused;
     struct layout a = layout_in(book);
-    count_named(book, &a, counts);
     *sound = records_sound(book, &a, &r) && maps_sound(book, &a, r.cells, counts) && entries_sound(book + ENTRIES, a.n, counts, r.expiries)
              && prints_differ(book + ENTRIES, a.n);
     return 0;

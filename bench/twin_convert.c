@@ -1,5 +1,5 @@
 /* The converters: one check of the form, then the parts before and after the entries are copied, and the entries one by one; to layout 3 the whole
- * book, and then the expiries; to layout 4 the whole book, and no names. */
+ * book, and then the expiries. */
 #include "twin_slots.h"
 
 #include <string.h>
@@ -14,13 +14,13 @@ static void copy_rest(uint8_t *out, const struct layout *to, const uint8_t *book
 
 uint16_t twin_convert_1_2(const uint8_t *book, size_t book_len, uint8_t *out, size_t out_len)
 {
-    uint16_t refused = twin_form_as(book, book_len, NARROW);
+    uint16_t refused = twin_form_narrow(book, book_len);
     if (refused != 0)
         return refused;
-    struct layout from = layout_as(book, NARROW), to = layout_as(book, OLDER);
+    struct layout from = narrow_in(book), to = layout_in(book);
     if (out_len < to.length)
         return 4;
-    copy_rest(out, &to, book, &from, OLDER);
+    copy_rest(out, &to, book, &from, BEFORE);
     const uint8_t *e = book + ENTRIES;
     for (uint8_t *w = out + ENTRIES; w < out + to.maps; w += ENTRY, e += NARROW_ENTRY) {
         put_u16(w, e[0]);
@@ -39,10 +39,10 @@ static int counts_fit(const uint8_t *entries, size_t n)
 
 uint16_t twin_convert_2_1(const uint8_t *book, size_t book_len, uint8_t *out, size_t out_len)
 {
-    uint16_t refused = twin_form_as(book, book_len, OLDER);
+    uint16_t refused = twin_form_before(book, book_len);
     if (refused != 0)
         return refused;
-    struct layout from = layout_as(book, OLDER), to = layout_as(book, NARROW);
+    struct layout from = layout_in(book), to = narrow_in(book);
     if (out_len < to.length)
         return 4;
     if (!counts_fit(book + ENTRIES, from.n))
@@ -73,30 +73,16 @@ static void work_out(const uint8_t *book, const struct layout *a, uint16_t *expi
 
 uint16_t twin_convert_2_3(const uint8_t *book, size_t book_len, uint8_t *out, size_t out_len)
 {
-    uint16_t expiries[MAX_BLOCKS] = { 0 }, refused = twin_form_as(book, book_len, OLDER);
+    uint16_t expiries[MAX_BLOCKS] = { 0 }, refused = twin_form_before(book, book_len);
     if (refused != 0)
         return refused;
-    struct layout a = layout_as(book, OLDER);
+    struct layout a = layout_in(book);
     if (out_len < a.length)
         return 4;
     work_out(book, &a, expiries);
     memcpy(out, book, a.length);
-    put_u16(out + AT_LAYOUT, NAMELESS);
+    put_u16(out + AT_LAYOUT, LAYOUT);
     for (size_t p = 0; p < a.n; p++)
         put_u16(out + ENTRIES + ENTRY * p + ENTRY_EXPIRY, expiries[p]);
-    return 0;
-}
-
-uint16_t twin_convert_3_4(const uint8_t *book, size_t book_len, uint8_t *out, size_t out_len)
-{
-    uint16_t refused = twin_form_as(book, book_len, NAMELESS);
-    if (refused != 0)
-        return refused;
-    struct layout to = layout_in(book);
-    if (out_len < to.length)
-        return 4;
-    memcpy(out, book, book_len);
-    put_u16(out + AT_LAYOUT, LAYOUT);
-    memset(out + to.names, 0, NAME * NAMES);
     return 0;
 }

@@ -63,7 +63,7 @@ static int maps_ok(const uint8_t *cells, const struct layout *a)
 /* `last` has the first day that a volume's next slot may have; after a retirement that is none. `most` is the largest second byte. */
 static int slots_ok(const uint8_t *book, const struct layout *a)
 {
-    unsigned last[VOLUMES] = { 0 }, previous = 0, header_day = u16_at(book + AT_DAY), most = u16_at(book + AT_LAYOUT) >= NAMELESS;
+    unsigned last[VOLUMES] = { 0 }, previous = 0, header_day = u16_at(book + AT_DAY), most = u16_at(book + AT_LAYOUT) == LAYOUT;
     size_t at = 0, used = u16_at(book + AT_SLOTS_USED);
     const uint8_t *b = book + a->slots;
     for (size_t q = 0; q < used; q++, b += SLOT) {
@@ -103,52 +103,36 @@ static int records_ok(const uint8_t *book, const struct layout *a)
     return all_zero(b, RECORD * (a->j - u16_at(book + AT_RECORDS_USED)));
 }
 
-/* How many backups each volume has, where the slots are in form. */
-static void count_backups(const uint8_t *book, const struct layout *a, unsigned *backups)
-{
-    const uint8_t *slot = book + a->slots, *end = slot + SLOT * u16_at(book + AT_SLOTS_USED);
-    for (; slot < end; slot += SLOT)
-        backups[slot[SLOT_VOLUME]] += slot[SLOT_RETIRES] == 0;
-}
-
-/* A used name differs from those before it, and is of a backup that there is. */
-static int name_ok(const uint8_t *names, size_t i, const unsigned *backups)
-{
-    const uint8_t *name = names + NAME * i;
-    unsigned volume = u16_at(name + NAME_VOLUME), number = u16_at(name + NAME_NUMBER);
-    for (size_t k = 0; k < i; k++)
-        if (memcmp(names + NAME * k, name, NAME_TEXT) == 0)
-            return 0;
-    return volume < VOLUMES && number >= 1 && number <= backups[volume];
-}
-
-/* Where the slots are in form. A book without names, as most are, needs no pass over them. */
-static int names_ok(const uint8_t *book, const struct layout *a)
-{
-    unsigned backups[VOLUMES] = { 0 };
-    const uint8_t *names = book + a->names;
-    if (all_zero(names, a->length - a->names))
-        return 1;
-    count_backups(book, a, backups);
-    for (size_t i = 0; i < NAMES; i++)
-        if (names[NAME * i] == 0 ? !all_zero(names + NAME * i, NAME) : !name_ok(names, i, backups))
-            return 0;
-    return 1;
-}
-
-uint16_t twin_form_as(const uint8_t *book, size_t len, unsigned layout)
+static uint16_t wide_form(const uint8_t *book, size_t len, unsigned layout)
 {
     if (len < HEADER || u16_at(book + AT_LAYOUT) != layout)
         return 1;
-    struct layout a = layout_as(book, layout);
+    struct layout a = layout_in(book);
     if (!layout_ok(&a, len))
         return 1;
-    if (!header_ok(book, &a) || !(layout == NARROW ? narrow_entries_ok : entries_ok)(book + ENTRIES, a.n) || !maps_ok(book + a.maps, &a))
+    if (!header_ok(book, &a) || !entries_ok(book + ENTRIES, a.n) || !maps_ok(book + a.maps, &a))
         return 2;
-    return slots_ok(book, &a) && records_ok(book, &a) && names_ok(book, &a) ? 0 : 2;
+    return slots_ok(book, &a) && records_ok(book, &a) ? 0 : 2;
 }
 
 uint16_t twin_form(const uint8_t *book, size_t len)
 {
-    return twin_form_as(book, len, LAYOUT);
+    return wide_form(book, len, LAYOUT);
+}
+
+uint16_t twin_form_before(const uint8_t *book, size_t len)
+{
+    return wide_form(book, len, BEFORE);
+}
+
+uint16_t twin_form_narrow(const uint8_t *book, size_t len)
+{
+    if (len < HEADER || u16_at(book + AT_LAYOUT) != NARROW)
+        return 1;
+    struct layout a = narrow_in(book);
+    if (!layout_ok(&a, len))
+        return 1;
+    if (!header_ok(book, &a) || !narrow_entries_ok(book + ENTRIES, a.n) || !maps_ok(book + a.maps, &a))
+        return 2;
+    return slots_ok(book, &a) && records_ok(book, &a) ? 0 : 2;
 }

@@ -1,5 +1,5 @@
-/* The book's layout, for the twin: 4, which the calls take, and what differs in the others. Layouts 2 and 3 lack the names, and have its places
- * otherwise; only from 3 on does a slot retire its volume. */
+/* The book's layout, for the twin: 3, which the calls take, and what differs in 1. Layout 2 has the places of 3; only in 3 does a slot retire its
+ * volume. */
 #ifndef ASPEN_BENCH_TWIN_LAYOUT_H
 #define ASPEN_BENCH_TWIN_LAYOUT_H
 
@@ -10,13 +10,10 @@ enum { VOLUMES = 8, BLOCK = 512, PRINT = 16, UNMAPPED = 65535, MAX_DAY = 60000, 
 enum { MAX_BLOCKS = 4096, MAX_LBNS = 1024, MAX_SLOTS = 1024, MAX_RECORDS = 16384 };
 
 /* Bytes of each part. */
-enum { HEADER = 20, ENTRIES = HEADER + 2 * VOLUMES, ENTRY = 21, CELL = 2, SLOT = 8, RECORD = 6, NAME = 16 };
+enum { HEADER = 20, ENTRIES = HEADER + 2 * VOLUMES, ENTRY = 21, CELL = 2, SLOT = 8, RECORD = 6 };
 
-/* How many name cells there are, and the bytes of the name in one. */
-enum { NAMES = 8, NAME_TEXT = 12 };
-
-/* The number of the layout, of the one without names, of that without retirements either, and of that with counts of one byte. */
-enum { LAYOUT = 4, NAMELESS = 3, OLDER = 2, NARROW = 1 };
+/* The number of the layout, of the one before it, and of that with counts of one byte. */
+enum { LAYOUT = 3, BEFORE = 2, NARROW = 1 };
 
 /* In layout 1 the count has one byte, and the rest of an entry follows it as here. */
 enum { COUNT = 2, NARROW_COUNT = 1, NARROW_ENTRY = ENTRY - COUNT + NARROW_COUNT };
@@ -24,11 +21,10 @@ enum { COUNT = 2, NARROW_COUNT = 1, NARROW_ENTRY = ENTRY - COUNT + NARROW_COUNT 
 /* Where the header's fields stand. */
 enum { AT_LAYOUT = 0, AT_N = 2, AT_L = 4, AT_S = 6, AT_J = 8, AT_SLOTS_USED = 10, AT_RECORDS_USED = 12, AT_DAY = 14, AT_CURSOR = 16, AT_ZERO = 18 };
 
-/* Where the fields of an entry, a slot, a record and a name cell stand within it. */
+/* Where the fields of an entry, a slot and a record stand within it. */
 enum { ENTRY_COUNT = 0, ENTRY_STATE = COUNT, ENTRY_EXPIRY = COUNT + 1, ENTRY_PRINT = COUNT + 3 };
 enum { SLOT_VOLUME = 0, SLOT_RETIRES = 1, SLOT_DAY = 2, SLOT_FIRST = 4, SLOT_NUMBER = 6 };
 enum { RECORD_LBN = 0, RECORD_BEFORE = 2, RECORD_AFTER = 4 };
-enum { NAME_VOLUME = NAME_TEXT, NAME_NUMBER = NAME_TEXT + 2 };
 
 static inline unsigned u16_at(const uint8_t *b)
 {
@@ -44,30 +40,35 @@ static inline void put_u16(uint8_t *b, unsigned v)
 /* A book's sizes, and where its sections start. */
 struct layout {
     size_t n, l, s, j;
-    size_t maps, slots, records, names, length;
+    size_t maps, slots, records, length;
 };
 
-/* In the layout of this number. */
-static inline struct layout layout_of(unsigned layout, size_t n, size_t l, size_t s, size_t j)
+/* Of entries with so many bytes. */
+static inline struct layout layout_with(size_t entry, size_t n, size_t l, size_t s, size_t j)
 {
     struct layout a = { .n = n, .l = l, .s = s, .j = j };
-    a.maps = ENTRIES + (layout == NARROW ? NARROW_ENTRY : ENTRY) * n;
+    a.maps = ENTRIES + entry * n;
     a.slots = a.maps + CELL * VOLUMES * l;
     a.records = a.slots + SLOT * s;
-    a.names = a.records + RECORD * j;
-    a.length = a.names + (layout == LAYOUT ? NAME * NAMES : 0);
+    a.length = a.records + RECORD * j;
     return a;
 }
 
-/* Of a book at least as long as a header, by its sizes. */
-static inline struct layout layout_as(const uint8_t *book, unsigned layout)
+static inline struct layout layout_of(size_t n, size_t l, size_t s, size_t j)
 {
-    return layout_of(layout, u16_at(book + AT_N), u16_at(book + AT_L), u16_at(book + AT_S), u16_at(book + AT_J));
+    return layout_with(ENTRY, n, l, s, j);
 }
 
+/* Of a book at least as long as a header. */
 static inline struct layout layout_in(const uint8_t *book)
 {
-    return layout_as(book, LAYOUT);
+    return layout_of(u16_at(book + AT_N), u16_at(book + AT_L), u16_at(book + AT_S), u16_at(book + AT_J));
+}
+
+/* The same with the entries of layout 1. */
+static inline struct layout narrow_in(const uint8_t *book)
+{
+    return layout_with(NARROW_ENTRY, u16_at(book + AT_N), u16_at(book + AT_L), u16_at(book + AT_S), u16_at(book + AT_J));
 }
 
 static inline int layout_ok(const struct layout *a, size_t length)

@@ -6,7 +6,7 @@
 
 uint16_t twin_format(uint8_t *book, size_t len, uint16_t n, uint16_t l, uint16_t s, uint16_t j)
 {
-    struct layout a = layout_of(LAYOUT, n, l, s, j);
+    struct layout a = layout_of(n, l, s, j);
     if (!layout_ok(&a, len))
         return 1;
     memset(book, 0, a.maps);

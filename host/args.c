@@ -23,7 +23,6 @@ const struct option_name option_names[OPTION_COUNT] = {
     [OPTION_YES] = {"--yes", NULL},
     [OPTION_LATEST] = {"--latest", NULL},
     [OPTION_DATE] = {"--date", "DATE"},
-    [OPTION_NAME] = {"--name", "NAME"},
     [OPTION_LBNS] = {"--lbns", "A-B"},
     [OPTION_FORCE] = {"--force", NULL},
     [OPTION_HEAL] = {"--heal", NULL},

@@ -17,7 +17,6 @@ enum option {
     OPTION_YES,
     OPTION_LATEST,
     OPTION_DATE,
-    OPTION_NAME,
     OPTION_LBNS,
     OPTION_FORCE,
     OPTION_HEAL,

@@ -5,27 +5,17 @@
 #include "days.h"
 #include "json.h"
 #include "messages.h"
-#include "names.h"
 #include "opening.h"
 #include "refusals.h"
 #include "view.h"
 
 #include <aspen.h>
-#include <stdlib.h>
 
 /* What is to be listed of a store. */
 struct listing {
     const struct store *store;
-    struct bytes names; /* the rows of its name cells */
-    const char *date;   /* that of --date, null if it isn't given */
-    long day;           /* its day */
-};
-
-/* A volume of it. */
-struct listed {
-    uint16_t volume;
-    struct volume found;
-    struct bytes rows; /* of its backups */
+    const char *date; /* that of --date, null if it isn't given */
+    long day;         /* its day */
 };
 
 struct shown {
@@ -53,8 +43,7 @@ static void show_chosen_text(const struct listing *listing, struct bytes rows)
     if (newest > 0)
         say("  restore --latest takes backup %u", newest);
     else if (rows.length > 0)
-        say("  restore --latest takes none: %s kept any more",
-            last_kept(rows) > 0 ? "the newest backup isn't" : "no backup is");
+        say("  restore --latest takes none: no backup is kept any more");
     if (listing->date == NULL)
         return;
     number = newest_by(rows, listing->day);
@@ -64,54 +53,40 @@ static void show_chosen_text(const struct listing *listing, struct bytes rows)
         say("  restore --date %s takes none: there is no backup by then", listing->date);
 }
 
-static void show_head_text(const struct listing *listing, const struct listed *listed)
+static void show_head_text(const struct listing *listing, uint16_t volume,
+                           const struct volume *found)
 {
-    const struct volume *found = &listed->found;
     char date[DATE_TEXT];
 
     if (found->retired)
-        say("volume %u was retired on %s; its backups are kept %u days", listed->volume,
+        say("volume %u was retired on %s; its backups are kept %u days", volume,
             store_date(listing->store, found->retired_on, date), found->keep);
     else
-        say("volume %u keeps its backups %u days", listed->volume, found->keep);
+        say("volume %u keeps its backups %u days", volume, found->keep);
     if (found->backups > 0)
         say("  number  day         kept until  changed");
     else
         say("%s", found->retired ? "  no backup" : "  no backup yet");
 }
 
-/* One backup; answers whether it has a name. */
-static bool show_backup_text(const struct listing *listing, const struct listed *listed,
-                             uint16_t number)
+static void show_text(const struct listing *listing, uint16_t volume, const struct volume *found,
+                      struct bytes rows)
 {
-    struct shown shown = look_up(listing->store, listed->rows, number);
-    bool newest = number == listed->found.backups && !listed->found.retired, named;
-    char *names = names_of(listing->names, listed->volume, number);
-    const char *until = !shown.endless ? shown.until : newest ? "newest" : "named";
+    uint16_t backups = (uint16_t)(rows.length / ASPEN_BACKUP_ROW);
 
-    named = names[0] != '\0';
-    say("  %6u  %s  %-10s  %7u%s%s%s", number, shown.date, until, shown.backup.changes,
-        shown.backup.kept ? "" : "  no longer kept", named ? "  named " : "", names);
-    free(names);
-    return named;
+    show_head_text(listing, volume, found);
+    for (uint16_t number = 1; number <= backups; number++) {
+        struct shown shown = look_up(listing->store, rows, number);
+
+        say("  %6u  %s  %-10s  %7u%s", number, shown.date, shown.endless ? "newest" : shown.until,
+            shown.backup.changes, shown.backup.kept ? "" : "  no longer kept");
+    }
+    show_chosen_text(listing, rows);
 }
 
-static void show_text(const struct listing *listing, const struct listed *listed)
+static void show_backup_json(const struct store *store, struct bytes rows, uint16_t number)
 {
-    bool named = false;
-
-    show_head_text(listing, listed);
-    for (uint16_t number = 1; number <= listed->found.backups; number++)
-        named = show_backup_text(listing, listed, number) || named;
-    if (named)
-        say("  a backup with a name is kept until the name is dropped");
-    show_chosen_text(listing, listed->rows);
-}
-
-static void show_backup_json(const struct listing *listing, const struct listed *listed,
-                             uint16_t number)
-{
-    struct shown shown = look_up(listing->store, listed->rows, number);
+    struct shown shown = look_up(store, rows, number);
 
     json_open(NULL, '{');
     json_number("number", number);
@@ -123,7 +98,6 @@ static void show_backup_json(const struct listing *listing, const struct listed 
     else
         json_string("kept_until", shown.until);
     json_number("changed", shown.backup.changes);
-    names_to_json("names", listing->names, listed->volume, number);
     json_close('}');
 }
 
@@ -135,37 +109,38 @@ static void json_choice(const char *key, uint16_t number)
         json_null(key);
 }
 
-static void show_json(const struct listing *listing, const struct listed *listed)
+static void show_json(const struct listing *listing, uint16_t volume, const struct volume *found,
+                      struct bytes rows)
 {
-    const struct volume *found = &listed->found;
+    uint16_t backups = (uint16_t)(rows.length / ASPEN_BACKUP_ROW);
     char date[DATE_TEXT];
 
     json_open(NULL, '{');
-    json_number("volume", listed->volume);
+    json_number("volume", volume);
     json_number("keep", found->keep);
     if (found->retired)
         json_string("retired", store_date(listing->store, found->retired_on, date));
     json_open("backups", '[');
-    for (uint16_t number = 1; number <= found->backups; number++)
-        show_backup_json(listing, listed, number);
+    for (uint16_t number = 1; number <= backups; number++)
+        show_backup_json(listing->store, rows, number);
     json_close(']');
-    json_choice("latest_takes", newest_kept(listed->rows));
+    json_choice("latest_takes", newest_kept(rows));
     if (listing->date != NULL)
-        json_choice("date_takes", newest_by(listed->rows, listing->day));
+        json_choice("date_takes", newest_by(rows, listing->day));
     json_close('}');
 }
 
 static void show_volumes(const struct listing *listing, uint16_t first, uint16_t last)
 {
     for (uint16_t volume = first; volume <= last; volume++) {
-        struct listed listed = {.volume = volume};
+        struct volume found = view_volume(listing->store->book, volume);
+        struct bytes rows;
 
-        listed.found = view_volume(listing->store->book, volume);
-        if (!listed.found.enrolled)
+        if (!found.enrolled)
             continue;
-        listed.rows = view_backups(listing->store->book, volume);
-        (messages_json() ? show_json : show_text)(listing, &listed);
-        bytes_free(&listed.rows);
+        rows = view_backups(listing->store->book, volume);
+        (messages_json() ? show_json : show_text)(listing, volume, &found, rows);
+        bytes_free(&rows);
     }
 }
 
@@ -205,10 +180,8 @@ int run_list(const struct request *request)
         refuse(ASPEN_BAD_VOLUME, &asked);
     if (listing.date != NULL)
         listing.day = day_of_option(&store, request, OPTION_DATE);
-    listing.names = view_names(store.book);
     show(&listing, asked.volume, word != NULL ? asked.volume : ASPEN_VOLUMES - 1);
     status = status_of(&store, STATUS_DONE);
-    bytes_free(&listing.names);
     store_close(&store);
     return status;
 }

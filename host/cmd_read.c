@@ -1,6 +1,5 @@
 /* The command read: one block. */
 #include "answer.h"
-#include "choosing.h"
 #include "commands.h"
 #include "json.h"
 #include "messages.h"
@@ -33,17 +32,17 @@ static void show(const struct asked *asked, uint32_t at, bool whole)
 int run_read(const struct request *request)
 {
     struct store store;
-    struct asked asked = {.store = &store};
+    struct asked asked = {.store = &store, .volume = read_number("VOLUME", request->words[1])};
     struct bytes blocks;
     uint32_t at = 0;
     uint16_t refusal;
     bool whole;
     int status;
 
-    asked.lbn = read_number("LBN", read_choice(&asked, request));
+    asked.number = read_number("NUMBER", request->words[2]);
+    asked.lbn = read_number("LBN", request->words[3]);
     open_to_read(&store, request);
     store_load_pool(&store);
-    choose_backup(&asked, request);
     refusal = aspen_read(store.book.at, store.book.length, store.pool.at, store.pool.length,
                          asked.volume, asked.number, asked.lbn, &at);
     if (refusal != ASPEN_OK)

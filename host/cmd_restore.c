@@ -3,6 +3,8 @@
 #include "answer.h"
 #include "choosing.h"
 #include "commands.h"
+#include "dates.h"
+#include "days.h"
 #include "files.h"
 #include "json.h"
 #include "messages.h"
@@ -53,6 +55,60 @@ static void read_lbns(struct restored *restored, const char *text)
     free(first);
 }
 
+/* --latest of a retired volume all of whose backups are past their days. */
+static _Noreturn void refuse_latest(const struct asked *asked, struct bytes rows)
+{
+    const struct store *store = asked->store;
+    struct volume volume = view_volume(store->book, asked->volume);
+    char retired[DATE_TEXT], until[DATE_TEXT];
+
+    fail_refused(STATUS_REFUSED, ASPEN_NOT_KEPT,
+                 "volume %u was retired on %s and no backup of it is kept any more; the newest was "
+                 "until %s",
+                 asked->volume, store_date(store, volume.retired_on, retired),
+                 store_date(store, view_backup(rows, volume.backups).until, until));
+}
+
+/* The number of the backup that is meant: a word, or that which an option chooses. */
+static void choose_backup(struct asked *asked, const struct request *request)
+{
+    const struct store *store = asked->store;
+    const char *date = request->options[OPTION_DATE];
+    struct bytes rows;
+
+    if (date == NULL && request->options[OPTION_LATEST] == NULL) {
+        asked->number = read_number("NUMBER", request->words[2]);
+        return;
+    }
+    if (!view_volume(store->book, asked->volume).enrolled)
+        refuse(ASPEN_BAD_VOLUME, asked);
+    rows = view_backups(store->book, asked->volume);
+    asked->number = date != NULL ? newest_by(rows, day_of_option(store, request, OPTION_DATE))
+                                 : newest_kept(rows);
+    if (asked->number == 0 && rows.length > 0 && date == NULL)
+        refuse_latest(asked, rows);
+    if (asked->number == 0 && rows.length > 0)
+        fail_refused(STATUS_REFUSED, ASPEN_NO_BACKUP,
+                     "volume %u has no backup on or before %s; its first is of %s", asked->volume,
+                     date, store_date(store, view_backup(rows, 1).day, (char[DATE_TEXT]){0}));
+    bytes_free(&rows);
+}
+
+/* The word that names the output: the last one. */
+static const char *out_word(const struct request *request)
+{
+    bool chosen = request->options[OPTION_LATEST] != NULL || request->options[OPTION_DATE] != NULL;
+
+    if (request->options[OPTION_LATEST] != NULL && request->options[OPTION_DATE] != NULL)
+        fail(STATUS_USAGE, "give --latest or --date, not both");
+    if (chosen && request->words[3] != NULL)
+        fail(STATUS_USAGE,
+             "with --latest or --date there is no NUMBER; see aspenbox restore --help");
+    if (!chosen && request->words[3] == NULL)
+        fail(STATUS_USAGE, "restore wants NUMBER, --latest or --date; see aspenbox restore --help");
+    return request->words[chosen ? 2 : 3];
+}
+
 /* ---- where it goes */
 
 static bool is_standard(const char *out)
@@ -87,8 +143,7 @@ static void check_out(const char *out, bool force)
              out);
 }
 
-/* Whether it was written; if not, file_failure says why. */
-static bool write_out(const char *out, bool force, struct bytes image)
+static void write_out(const char *out, bool force, struct bytes image)
 {
     char *temporary = file_beside(out), *folder = folder_of(out);
     struct replacement how = {.temporary = temporary, .mode = 0600, .keep = force};
@@ -96,9 +151,10 @@ static bool write_out(const char *out, bool force, struct bytes image)
                     ? file_write(STDOUT_FILENO, "standard output", image.at, image.length)
                     : file_replace(out, &how, image) && folder_sync(folder);
 
+    if (!good)
+        fail(file_misnamed() ? STATUS_USAGE : STATUS_FILES, "%s", file_failure());
     free(temporary);
     free(folder);
-    return good;
 }
 
 /* ---- the work */
@@ -268,12 +324,11 @@ static void show(const struct asked *asked, const struct restored *restored, con
 
 int run_restore(const struct request *request)
 {
+    const char *out = out_word(request);
     bool force = request->options[OPTION_FORCE] != NULL;
     struct store store;
-    struct asked asked = {.store = &store};
-    const char *out = read_choice(&asked, request);
+    struct asked asked = {.store = &store, .volume = read_number("VOLUME", request->words[1])};
     struct restored restored = {.whole = true};
-    bool written;
     int status;
 
     check_out(out, force);
@@ -288,12 +343,9 @@ int run_restore(const struct request *request)
     cut_to_length(&asked, &restored);
     status = status_of(&store, restored.damaged == 0 ? STATUS_DONE : STATUS_UNSOUND);
     store_close(&store);
-    written = write_out(out, force, restored.image);
-    if (written)
-        show(&asked, &restored, out);
+    write_out(out, force, restored.image);
+    show(&asked, &restored, out);
     bytes_free(&restored.image);
     bytes_free(&restored.found);
-    if (!written)
-        fail(file_misnamed() ? STATUS_USAGE : STATUS_FILES, "%s", file_failure());
     return status;
 }

@@ -1,19 +1,19 @@
 /* The command retire: an aid has left. What that ends is worked out on a copy of the book and told
  * before anything is written. The store isn't locked while somebody thinks it over. */
-#include "asking.h"
 #include "commands.h"
 #include "dates.h"
 #include "days.h"
 #include "json.h"
 #include "messages.h"
-#include "names.h"
 #include "opening.h"
 #include "refusals.h"
 #include "view.h"
 
 #include <aspen.h>
-#include <stdlib.h>
+#include <stdio.h>
 #include <string.h>
+#include <strings.h>
+#include <unistd.h>
 
 struct retirement {
     struct asked asked;
@@ -73,31 +73,14 @@ static bool is_ended(const struct retirement *retirement, uint16_t number)
            !view_backup(retirement->after, number).kept;
 }
 
-/* Whether this backup can be read afterwards until a day; without one it has a name. */
-static bool is_kept_by_day(const struct retirement *retirement, uint16_t number)
-{
-    struct backup backup = view_backup(retirement->after, number);
-
-    return backup.kept && backup.until != ASPEN_NO_END;
-}
-
-/* The oldest backup that can be read afterwards until a day, 0 if there is none. All later ones can
- * be read too, until a day or until their names are dropped: each has as many days. */
-static uint16_t first_by_day(const struct retirement *retirement)
+/* The oldest backup that can be read afterwards, 0 if there is none. The later ones can be too:
+ * each is kept for as many days. */
+static uint16_t first_kept(const struct retirement *retirement)
 {
     for (uint16_t number = 1; number <= backups_of(retirement); number++)
-        if (is_kept_by_day(retirement, number))
+        if (view_backup(retirement->after, number).kept)
             return number;
     return 0;
-}
-
-static uint16_t last_by_day(const struct retirement *retirement)
-{
-    uint16_t number = backups_of(retirement);
-
-    while (number > 0 && !is_kept_by_day(retirement, number))
-        number--;
-    return number;
 }
 
 /* ---- what is told of it */
@@ -113,61 +96,30 @@ static void note_ended(const struct retirement *retirement, uint16_t number)
          store_date(asked->store, backup.until, until));
 }
 
-/* The backups that have a name, each with its names; answers how many. */
-static unsigned note_named(const struct retirement *retirement)
-{
-    uint16_t volume = retirement->asked.volume;
-    struct bytes rows = view_names(retirement->book);
-    unsigned named = 0;
-
-    for (uint16_t number = 1; number <= backups_of(retirement); number++) {
-        char *names = names_of(rows, volume, number);
-
-        if (names[0] != '\0') {
-            note("once volume %u is retired, backup %u, named %s, can be read as long as it has a "
-                 "name",
-                 volume, number, names);
-            named++;
-        }
-        free(names);
-    }
-    bytes_free(&rows);
-    return named;
-}
-
-/* The backups that are kept for some days more. */
-static void note_days(const struct retirement *retirement)
-{
-    const struct asked *asked = &retirement->asked;
-    uint16_t first = first_by_day(retirement), last = last_by_day(retirement);
-    const char *newest = last == backups_of(retirement) ? ", the newest," : "";
-    char date[DATE_TEXT], until[DATE_TEXT];
-
-    store_date(asked->store, view_backup(retirement->after, last).until, until);
-    if (first == last)
-        note("once volume %u is retired, backup %u%s can be read until %s", asked->volume, last,
-             newest, until);
-    else
-        note("once volume %u is retired, backups %u to %u can be read until their days end: %u "
-             "until %s, and %u%s until %s",
-             asked->volume, first, last, first,
-             store_date(asked->store, view_backup(retirement->after, first).until, date), last,
-             newest, until);
-}
-
 static void note_kept(const struct retirement *retirement)
 {
-    uint16_t volume = retirement->asked.volume;
-    bool days = first_by_day(retirement) > 0;
+    const struct asked *asked = &retirement->asked;
+    uint16_t first = first_kept(retirement), newest = backups_of(retirement);
+    char date[DATE_TEXT], until[DATE_TEXT];
 
-    if (backups_of(retirement) == 0) {
-        note("volume %u has no backup", volume);
+    if (newest == 0) {
+        note("volume %u has no backup", asked->volume);
         return;
     }
-    if (days)
-        note_days(retirement);
-    if (note_named(retirement) == 0 && !days)
-        note("once volume %u is retired, no backup of it can be read", volume);
+    if (first == 0) {
+        note("once volume %u is retired, no backup of it can be read", asked->volume);
+        return;
+    }
+    store_date(asked->store, view_backup(retirement->after, newest).until, until);
+    if (first == newest)
+        note("once volume %u is retired, backup %u, the newest, can be read until %s",
+             asked->volume, newest, until);
+    else
+        note("once volume %u is retired, backups %u to %u can be read until their days end: %u "
+             "until %s, and %u, the newest, until %s",
+             asked->volume, first, newest, first,
+             store_date(asked->store, view_backup(retirement->after, first).until, date), newest,
+             until);
 }
 
 static void tell(const struct retirement *retirement)
@@ -183,15 +135,36 @@ static void tell(const struct retirement *retirement)
 
 /* ---- asking */
 
+/* Somebody is there who reads what is told, and answers. */
+static bool can_ask(void)
+{
+    return !messages_json() && isatty(STDIN_FILENO) && isatty(STDERR_FILENO);
+}
+
+static bool answers_yes(void)
+{
+    char line[8];
+
+    if (fgets(line, sizeof line, stdin) == NULL) {
+        fprintf(stderr, "\n");
+        return false;
+    }
+    line[strcspn(line, "\n")] = '\0';
+    return strcasecmp(line, "y") == 0 || strcasecmp(line, "yes") == 0;
+}
+
 static void ask(const struct asked *asked, const char *folder, const char *date)
 {
     if (!can_ask())
         fail(STATUS_USAGE,
-             "retiring volume %u can't be undone; nothing was written; restore or name what is "
-             "still wanted of it, and then give --yes",
+             "retiring volume %u can't be undone; nothing was written; restore what is still "
+             "wanted of it, and then give --yes",
              asked->volume);
-    if (!is_agreed("Retire volume %u of %s on %s? This can't be undone.", asked->volume, folder,
-                   date))
+    notes_now();
+    fprintf(stderr, "Retire volume %u of %s on %s? This can't be undone. [y/N] ", asked->volume,
+            folder, date);
+    fflush(stderr);
+    if (!answers_yes())
         fail(STATUS_USAGE, "volume %u stays as it is; nothing was written", asked->volume);
 }
 
@@ -245,10 +218,7 @@ static void show_backups_json(const struct retirement *retirement)
             continue;
         json_open(NULL, '{');
         json_number("number", number);
-        if (backup.until == ASPEN_NO_END)
-            json_null("kept_until");
-        else
-            json_string("kept_until", store_date(retirement->asked.store, backup.until, until));
+        json_string("kept_until", store_date(retirement->asked.store, backup.until, until));
         json_close('}');
     }
     json_close(']');

@@ -3,7 +3,6 @@
 #include "dates.h"
 #include "json.h"
 #include "messages.h"
-#include "names.h"
 #include "opening.h"
 #include "refusals.h"
 #include "view.h"
@@ -24,9 +23,8 @@ struct summary {
     struct figures figures;
     uint16_t held, waiting;
     struct fill fills[3];
-    struct bytes names; /* the rows of the name cells */
-    unsigned percent;   /* what counts as nearly full */
-    long older;         /* days after which a backup is old, -1 if none is */
+    unsigned percent; /* what counts as nearly full */
+    long older;       /* days after which a backup is old, -1 if none is */
     unsigned warnings;
 };
 
@@ -74,7 +72,6 @@ static void summarize(struct summary *summary, const struct request *request)
     uint32_t references = 0;
 
     summary->figures = view_figures(store->book);
-    summary->names = view_names(store->book);
     number = aspen_count(store->book.at, store->book.length, &blocks, &summary->held,
                          &summary->waiting, &references);
     if (number != ASPEN_OK)
@@ -129,8 +126,7 @@ static void show_retired_text(const struct store *store, uint16_t volume,
         say("volume %u: retired on %s, %u backup%s, the newest of %s %s kept until %s", volume,
             retired, newest->volume.backups, newest->volume.backups == 1 ? "" : "s",
             store_date(store, newest->backup.day, date), newest->backup.kept ? "is" : "was",
-            newest->backup.until == ASPEN_NO_END ? "its name is dropped"
-                                                 : store_date(store, newest->backup.until, until));
+            store_date(store, newest->backup.until, until));
 }
 
 static void show_volume_text(const struct store *store, uint16_t volume,
@@ -149,31 +145,6 @@ static void show_volume_text(const struct store *store, uint16_t volume,
             labs(newest->age) == 1 ? "" : "s", newest->age < 0 ? "ahead of the clock" : "ago");
 }
 
-/* The backup that a name names. */
-static struct backup backup_of(const struct store *store, const struct named *named)
-{
-    struct bytes rows = view_backups(store->book, named->volume);
-    struct backup backup = view_backup(rows, named->number);
-
-    bytes_free(&rows);
-    return backup;
-}
-
-/* Names are dropped when their time has come, so that eight of them are no cause for a warning. */
-static void show_names_text(const struct summary *summary)
-{
-    say("%-8s %5u of %5d given", "names", names_used(summary->names), ASPEN_NAMES);
-    for (unsigned place = 0; place < ASPEN_NAMES; place++) {
-        struct named named = view_named(summary->names, place);
-        char date[DATE_TEXT], name[NAME_TEXT];
-
-        if (named.used)
-            say("  \"%s\" is backup %u of volume %u, of %s", name_shown(named.name, name),
-                named.number, named.volume,
-                store_date(summary->store, backup_of(summary->store, &named).day, date));
-    }
-}
-
 static void show_text(const struct summary *summary)
 {
     const struct store *store = summary->store;
@@ -187,7 +158,6 @@ static void show_text(const struct summary *summary)
     for (size_t i = 0; i < 3; i++)
         say("%-8s %5u of %5u %s, %3u %%", summary->fills[i].name, summary->fills[i].used,
             summary->fills[i].room, summary->fills[i].what, percent_of(&summary->fills[i]));
-    show_names_text(summary);
     say("%u of the held blocks wait for a collection", summary->waiting);
     for (uint16_t volume = 0; volume < ASPEN_VOLUMES; volume++) {
         struct newest newest = newest_of(store, volume);
@@ -212,37 +182,11 @@ static void show_volume_json(const struct store *store, uint16_t volume,
     json_number("backups", newest->volume.backups);
     if (newest->volume.backups > 0) {
         json_string("newest", store_date(store, newest->backup.day, date));
-        if (!newest->volume.retired)
-            json_number("age", newest->age);
-        else if (newest->backup.until == ASPEN_NO_END)
-            json_null("kept_until");
-        else
+        if (newest->volume.retired)
             json_string("kept_until", store_date(store, newest->backup.until, date));
+        else
+            json_number("age", newest->age);
     }
-    json_close('}');
-}
-
-static void show_names_json(const struct summary *summary)
-{
-    json_open("names", '{');
-    json_number("used", names_used(summary->names));
-    json_number("room", ASPEN_NAMES);
-    json_open("given", '[');
-    for (unsigned place = 0; place < ASPEN_NAMES; place++) {
-        struct named named = view_named(summary->names, place);
-        char date[DATE_TEXT], name[NAME_TEXT];
-
-        if (!named.used)
-            continue;
-        json_open(NULL, '{');
-        json_string("name", name_shown(named.name, name));
-        json_number("volume", named.volume);
-        json_number("number", named.number);
-        json_string("date",
-                    store_date(summary->store, backup_of(summary->store, &named).day, date));
-        json_close('}');
-    }
-    json_close(']');
     json_close('}');
 }
 
@@ -265,7 +209,6 @@ static void show_json(const struct summary *summary)
         json_number("percent", percent_of(&summary->fills[i]));
         json_close('}');
     }
-    show_names_json(summary);
     json_number("waiting", summary->waiting);
     json_open("volumes", '[');
     for (uint16_t volume = 0; volume < ASPEN_VOLUMES; volume++) {
@@ -317,8 +260,6 @@ static void show_metrics(const struct summary *summary)
     metric("room", "Places that the pool, the slots and the journal have.");
     for (size_t i = 0; i < 3; i++)
         say("aspenbox_room{part=\"%s\"} %u", summary->fills[i].name, summary->fills[i].room);
-    metric("names", "Names that are given, of 8.");
-    say("aspenbox_names %u", names_used(summary->names));
     metric("waiting_blocks", "Held blocks that wait for a collection.");
     say("aspenbox_waiting_blocks %u", summary->waiting);
     metric("warnings", "What aspenbox status warns of.");
@@ -342,7 +283,6 @@ int run_status(const struct request *request)
     else
         (request->options[OPTION_PROMETHEUS] != NULL ? show_metrics : show_text)(&summary);
     status = status_of(&store, summary.warnings == 0 ? STATUS_DONE : STATUS_UNSOUND);
-    bytes_free(&summary.names);
     store_close(&store);
     return status;
 }

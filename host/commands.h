@@ -12,8 +12,6 @@ int run_enrol(const struct request *request);
 int run_backup(const struct request *request);
 int run_collect(const struct request *request);
 int run_retire(const struct request *request);
-int run_name(const struct request *request);
-int run_unname(const struct request *request);
 int run_read(const struct request *request);
 int run_restore(const struct request *request);
 int run_list(const struct request *request);

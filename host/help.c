@@ -49,7 +49,7 @@ static void add_commands(void)
         add("  ");
         add_synopsis(c);
     }
-    add("\nVOLUME is 0 to 7, an aid each. A DATE is like 2026-01-31, a NAME has up to 12 bytes.\n"
+    add("\nVOLUME is 0 to 7, an aid each. A DATE is like 2026-01-31.\n"
         "aspenbox COMMAND --help tells more, and so does man aspenbox.\n");
 }
 

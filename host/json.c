@@ -2,7 +2,6 @@
 
 #include "answer.h"
 #include "memory.h"
-#include "utf8.h"
 
 #include <stdio.h>
 #include <string.h>
@@ -15,13 +14,43 @@ static void add_text(const char *added)
     bytes_add(&text, added, strlen(added));
 }
 
+/* How many bytes the UTF-8 character here has, 0 if it is none. */
+static size_t character_size(const unsigned char *at)
+{
+    static const struct {
+        unsigned char mask, lead, low, high;
+        size_t size;
+    } kinds[] = {
+        /* low and high bound the second byte: no overlong forms, no surrogates */
+        {0xE0, 0xC0, 0x80, 0xBF, 2}, {0xFF, 0xE0, 0xA0, 0xBF, 3}, {0xFF, 0xED, 0x80, 0x9F, 3},
+        {0xF0, 0xE0, 0x80, 0xBF, 3}, {0xFF, 0xF0, 0x90, 0xBF, 4}, {0xFF, 0xF4, 0x80, 0x8F, 4},
+        {0xFC, 0xF0, 0x80, 0xBF, 4},
+    };
+
+    if (*at < 0x80)
+        return 1;
+    if (*at == 0xC0 || *at == 0xC1)
+        return 0;
+    for (size_t k = 0; k < sizeof kinds / sizeof kinds[0]; k++) {
+        if ((*at & kinds[k].mask) != kinds[k].lead)
+            continue;
+        if (at[1] < kinds[k].low || at[1] > kinds[k].high)
+            return 0;
+        for (size_t i = 2; i < kinds[k].size; i++)
+            if ((at[i] & 0xC0) != 0x80)
+                return 0;
+        return kinds[k].size;
+    }
+    return 0;
+}
+
 static void add_quoted(const char *value)
 {
     const unsigned char *at = (const unsigned char *)value;
 
     add_text("\"");
     while (*at != 0) {
-        size_t size = utf8_size(at);
+        size_t size = character_size(at);
         char escape[8];
 
         if (size == 0) {

@@ -13,7 +13,6 @@ struct step {
 static const struct step steps[] = {
     {1, 2, aspen_convert_1_2},
     {2, 3, aspen_convert_2_3},
-    {3, 4, aspen_convert_3_4},
 };
 
 /* The last layout by whose rule a backup's days counted from the day of the next one. Since then

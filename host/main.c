@@ -32,34 +32,22 @@ const struct command commands[] = {
      "backup any more, and its number is never used again. What ends is told first. Then it asks\n"
      "on a terminal, and elsewhere needs --yes. Days are given as for backup.",
      run_retire},
-    {"name", "DIR VOLUME [NUMBER] NAME", 3, 4, 0, OPTION(LATEST) | OPTION(DATE),
-     "Gives a name to the volume's backup of this number, to the newest (--latest), or to the\n"
-     "newest on or before DATE. It is then kept until the name is dropped, whatever its days are.\n"
-     "A name has 1 to 12 bytes of UTF-8. A store has eight, for all its volumes together.",
-     run_name},
-    {"unname", "DIR NAME", 2, 2, 0, OPTION(YES),
-     "Drops a name. A backup that is past its days, isn't the newest and has no other name can't\n"
-     "be read any more then. That is told first, and it asks on a terminal, and elsewhere needs\n"
-     "--yes.",
-     run_unname},
-    {"read", "DIR [VOLUME NUMBER] LBN", 2, 4, 0, OPTION(NAME),
+    {"read", "DIR VOLUME NUMBER LBN", 4, 4, 0, 0,
      "Writes to standard output the block that the volume had at this LBN in its backup of\n"
-     "this number, or the block of the backup that has this name.",
+     "this number.",
      run_read},
-    {"restore", "DIR [VOLUME [NUMBER]] OUT", 2, 4, 0,
-     OPTION(LATEST) | OPTION(DATE) | OPTION(NAME) | OPTION(LBNS) | OPTION(FORCE),
+    {"restore", "DIR VOLUME [NUMBER] OUT", 3, 4, 0,
+     OPTION(LATEST) | OPTION(DATE) | OPTION(LBNS) | OPTION(FORCE),
      "Writes to the file OUT the image as it was in the volume's backup of this number, in the\n"
-     "newest (--latest), or in the newest on or before DATE; or in the backup that has this NAME,\n"
-     "which says its volume too. With --lbns only these blocks of it. OUT - is standard output. A\n"
-     "file that is there and not empty is only replaced with --force.",
+     "newest (--latest), or in the newest on or before DATE; with --lbns only these blocks of it.\n"
+     "OUT - is standard output. A file that is there and not empty is only replaced with --force.",
      run_restore},
     {"list", "DIR [VOLUME]", 1, 2, 0, OPTION(DATE),
-     "Lists the backups of a volume, or of all: number, date, kept until, changed blocks, names;\n"
-     "and which of them restore takes with --latest, and with --date DATE.",
+     "Lists the backups of a volume, or of all: number, date, kept until, changed blocks; and\n"
+     "which of them restore takes with --latest, and with --date DATE.",
      run_list},
     {"status", "DIR", 1, 1, 0, OPTION(WARN) | OPTION(OLDER) | OPTION(PROMETHEUS),
-     "Tells how full the store is, which names are given, how old the newest backups are, and\n"
-     "whether the book is sound.\n"
+     "Tells how full the store is, how old the newest backups are, and whether the book is sound.\n"
      "Ends with 1 if a part is PERCENT full, by default 90, or a newest backup is older than "
      "DAYS.\n"
      "--prometheus prints it for a node exporter.",

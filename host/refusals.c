@@ -2,7 +2,6 @@
 
 #include "dates.h"
 #include "messages.h"
-#include "names.h"
 #include "view.h"
 
 #include <aspen.h>
@@ -165,10 +164,8 @@ static _Noreturn void refuse_room(uint16_t number, const struct asked *asked)
 static _Noreturn void refuse_block(const struct asked *asked)
 {
     bool larger = view_figures(asked->store->book).blocks < ASPEN_MAX_BLOCKS;
-    struct bytes names = view_names(asked->store->book);
 
-    fail_refused(STATUS_REFUSED, ASPEN_NO_BLOCK, "no free block; collect, %sor %s",
-                 names_used(names) > 0 ? "drop a name that isn't needed any more, " : "",
+    fail_refused(STATUS_REFUSED, ASPEN_NO_BLOCK, "no free block; collect, or %s",
                  larger ? "enlarge the pool: format a store with more blocks"
                         : "format a second store");
 }
@@ -187,14 +184,14 @@ static _Noreturn void refuse_change(uint16_t number, const struct asked *asked)
         refuse_block(asked);
     case ASPEN_COUNT_ZERO:
         fail_refused(STATUS_STORE, number,
-                     "the count of a %s block is 0, so the book is damaged; run aspenbox audit %s, "
-                     "and put back a copy of the store",
-                     asked->name != NULL ? "named" : "replaced", folder);
+                     "the count of a replaced block is 0, so the book is damaged; run aspenbox "
+                     "audit %s, and put back a copy of the store",
+                     folder);
     case ASPEN_COUNT_FULL:
         fail_refused(STATUS_STORE, number,
-                     "the count of a block is 65,535%s, so the book is damaged; run aspenbox audit "
+                     "the count of a block is 65,535, so the book is damaged; run aspenbox audit "
                      "%s, and put back a copy of the store",
-                     asked->name != NULL ? ", or a block of this backup is free" : "", folder);
+                     folder);
     case ASPEN_BAD_LIST:
         fail_refused(STATUS_REFUSED, number, "the box doesn't take this change list");
     default: /* numbers of calls that the host doesn't make */
@@ -245,36 +242,6 @@ static _Noreturn void refuse_read(uint16_t number, const struct asked *asked)
                  asked->number, volume, asked->lbn);
 }
 
-/* 23: the name is taken, or nothing has it. A text that is no name is told as such. */
-static _Noreturn void refuse_name(const struct asked *asked)
-{
-    struct bytes rows = view_names(asked->store->book);
-    unsigned place = names_find(rows, asked->name);
-    uint8_t name[ASPEN_NAME_SIZE];
-
-    if (place < ASPEN_NAMES) {
-        struct named named = view_named(rows, place);
-
-        fail_refused(STATUS_REFUSED, ASPEN_BAD_NAME,
-                     "backup %u of volume %u has the name \"%s\" already; take another, or drop "
-                     "that one with aspenbox unname",
-                     named.number, named.volume, asked->name);
-    }
-    name_read(asked->name, name);
-    fail_refused(STATUS_REFUSED, ASPEN_BAD_NAME,
-                 "no backup has the name \"%s\"; aspenbox status %s shows the names that are given",
-                 asked->name, asked->store->folder);
-}
-
-static _Noreturn void refuse_cell(const struct asked *asked)
-{
-    fail_refused(
-        STATUS_REFUSED, ASPEN_NO_NAME_CELL,
-        "all %d names are given; aspenbox status %s shows them; drop one that isn't needed "
-        "any more with aspenbox unname",
-        ASPEN_NAMES, asked->store->folder);
-}
-
 void refuse(uint16_t number, const struct asked *asked)
 {
     if (number <= ASPEN_SHORT_SPARE)
@@ -287,9 +254,5 @@ void refuse(uint16_t number, const struct asked *asked)
         refuse_room(number, asked);
     if ((number >= ASPEN_NO_BACKUP && number <= ASPEN_UNMAPPED) || number == ASPEN_BAD_RUN)
         refuse_read(number, asked);
-    if (number == ASPEN_BAD_NAME)
-        refuse_name(asked);
-    if (number == ASPEN_NO_NAME_CELL)
-        refuse_cell(asked);
     refuse_change(number, asked);
 }

@@ -9,8 +9,7 @@ struct asked {
     const struct store *store;
     uint16_t volume, day, changes; /* for backup, retire and collect */
     bool retiring;                 /* for retire */
-    uint16_t number, lbn;          /* for read, name, and for restore with the first LBN */
-    const char *name;              /* for name and unname, and where a name chooses the backup */
+    uint16_t number, lbn;          /* for read, and for restore with the first LBN */
 };
 
 /* 1, 2, 3: the store itself is at fault. */

@@ -76,9 +76,8 @@ static bool is_sound(struct bytes book)
 }
 
 /* Looks over the book that was read. The audit takes a book of today's layout alone: an older one
- * is audited as the converters leave it. That from layout 2 to 3 works out afresh until when blocks
- * are needed, so that of a book of layout 1 or 2 the audit answers for maps, counts and held
- * blocks, and not for these days. */
+ * is audited as the converters leave it. They work out afresh until when blocks are needed, so that
+ * of an older book the audit answers for maps, counts and held blocks, and not for these days. */
 static uint16_t look_over(struct store *store)
 {
     uint16_t number = layouts_renew(&store->book);

@@ -44,7 +44,7 @@ uint16_t store_write_blocks(const struct store *store, struct bytes marks);
 void store_replace_book(const struct store *store);
 
 /* The same where the book on disk has an older layout. The old book is kept beside it until the new
- * one lasts and was read back, under the name of its layout: book.1, book.2, book.3. */
+ * one lasts and was read back, under the name of its layout: book.1, book.2. */
 void store_upgrade_book(const struct store *store);
 /* Removes an old book that is still kept; answers whether there was one. */
 bool store_drop_old(const struct store *store);

@@ -54,27 +54,6 @@ struct backup view_backup(struct bytes rows, uint16_t number)
     return backup;
 }
 
-struct bytes view_names(struct bytes book)
-{
-    struct bytes rows = bytes_new(ASPEN_NAMES_SIZE);
-
-    expect_done(aspen_names(book.at, book.length, rows.at, rows.length));
-    return rows;
-}
-
-struct named view_named(struct bytes rows, unsigned place)
-{
-    const uint8_t *row = rows.at + (size_t)ASPEN_NAME_ROW * place;
-    struct named named = {
-        .used = row[0] != 0,
-        .name = row,
-        .volume = aspen_u16(row + ASPEN_NAME_SIZE),
-        .number = aspen_u16(row + ASPEN_NAME_SIZE + 2),
-    };
-
-    return named;
-}
-
 struct bytes view_cells(struct bytes book, uint16_t volume)
 {
     struct bytes rows = bytes_new(aspen_cells_size(view_figures(book).cells));

@@ -22,15 +22,8 @@ struct volume {
 
 struct backup {
     uint16_t day, changes;
-    uint16_t until; /* the last day on which it is kept, ASPEN_NO_END if there is none: of the
-                       newest of a volume that isn't retired, and of one with a name */
+    uint16_t until; /* the last day on which it is kept, ASPEN_NO_END if there is none */
     bool kept;
-};
-
-struct named {
-    bool used;           /* whether the cell has a name; only then is there: */
-    const uint8_t *name; /* ASPEN_NAME_SIZE bytes, in the rows */
-    uint16_t volume, number;
 };
 
 struct figures view_figures(struct bytes book);
@@ -39,10 +32,6 @@ struct volume view_volume(struct bytes book, uint16_t volume);
 /* The rows of a volume's backups, which is enrolled, and backup `number` of them. */
 struct bytes view_backups(struct bytes book, uint16_t volume);
 struct backup view_backup(struct bytes rows, uint16_t number);
-
-/* The rows of the name cells, ASPEN_NAMES of them, and the cell at a place. */
-struct bytes view_names(struct bytes book);
-struct named view_named(struct bytes rows, unsigned place);
 
 /* The current map of a volume, which is enrolled, and the block at an LBN or
  * ASPEN_UNMAPPED_PBN. */

@@ -4,11 +4,9 @@
  * An aid writes the list of its changed blocks (aspen_write_list). The box takes such a list as
  * a backup (aspen_backup), keeps equal blocks once, frees what no kept backup needs
  * (aspen_collect), and reads old backups, a block (aspen_read) or a run of blocks (aspen_restore).
- * A backup that has a name (aspen_name) is kept until the name is dropped (aspen_unname).
  * When the aid leaves the clinic, its volume is retired (aspen_retire).
  * aspen_play makes a whole list of such calls that is stored as bytes. A book of an earlier layout
- * becomes one that these calls take by converters (aspen_convert_1_2, then aspen_convert_2_3 and
- * aspen_convert_3_4).
+ * becomes one that these calls take by converters (aspen_convert_1_2, then aspen_convert_2_3).
  *
  * Memory. The box lives in two buffers of the caller's: the book, which notes what each volume
  * held and when, and the pool, which holds the blocks. The library allocates nothing and keeps
@@ -20,8 +18,7 @@
  *
  * Results. Each function returns ASPEN_OK or the number of its refusal. Checks are made in the
  * order of the numbers and the first that fails decides; 11 to 14 are checked change by change, or
- * LBN by LBN for a retirement and for names. Out of that order are 21, which is checked before 18,
- * 14 after 24 for a name, and 13 after 23 for one that is dropped.
+ * LBN by LBN for a retirement, and 21 before 18.
  * A refused call leaves every buffer but the spare as it was and writes no answer. A byte
  * buffer may hold any bytes and have any length: what doesn't fit is refused.
  *
@@ -29,9 +26,9 @@
  * may calls that only read the same ones. While a call writes a buffer nothing else may use it;
  * to have one writer at a time is the caller's duty.
  *
- * Stack. On x86-64 aspen_play takes 49,840 bytes of it, aspen_audit 49,712, aspen_backup 25,152,
- * aspen_convert_2_3 8,640, aspen_restore and aspen_name 2,512 and aspen_unname 2,496, nearly all
- * for tables that live for one call; every other function takes 496 at most.
+ * Stack. On x86-64 aspen_play takes 49,832 bytes of it, aspen_audit 49,480, aspen_backup 24,968,
+ * aspen_convert_2_3 8,456 and aspen_restore 2,312, nearly all for tables that live for one call;
+ * every other function takes 296 at most.
  */
 #ifndef ASPEN_H
 #define ASPEN_H
@@ -44,9 +41,9 @@ extern "C" {
 #endif
 
 /* The version of the library, as text and in numbers. */
-#define ASPEN_VERSION "0.5.0"
+#define ASPEN_VERSION "0.4.0"
 #define ASPEN_VERSION_MAJOR 0
-#define ASPEN_VERSION_MINOR 5
+#define ASPEN_VERSION_MINOR 4
 #define ASPEN_VERSION_PATCH 0
 
 /* Limits. The numbers of blocks, slots and records, the blocks of a run, and the retention, are 1
@@ -59,26 +56,20 @@ extern "C" {
 #define ASPEN_MAX_RUN 64          /* blocks of one run of a change list */
 #define ASPEN_MAX_SLOTS 1024      /* s: backups and retirements that the book has room for */
 #define ASPEN_MAX_RECORDS 16384   /* j: changes that the book has room for */
-#define ASPEN_NAMES 8             /* names of backups that a book has room for */
-#define ASPEN_NAME_SIZE 12        /* bytes of a name */
 #define ASPEN_MAX_RETENTION 5000  /* days */
 #define ASPEN_MAX_DAY 60000
 
 /* The layout of the books that aspen_format makes and that the calls take. Converters take and
  * write others. */
-#define ASPEN_LAYOUT 4
+#define ASPEN_LAYOUT 3
 
 /* Sizes in bytes. Constant expressions where the arguments are; each argument is used once, but for
- * the layout of aspen_book_size_of and what aspen_list_bound is given, which are used twice. */
-
-/* Name cells of a book, from layout 4 on; aspen_names writes as much. */
-#define ASPEN_NAME_ROW 16         /* bytes for a name cell */
-#define ASPEN_NAMES_SIZE (ASPEN_NAME_ROW * ASPEN_NAMES)
+ * that of aspen_list_bound, which is used twice. */
 
 /* The book of n pool blocks, l logical blocks a volume, s slots and j records, in this layout. */
 #define aspen_book_size_of(layout, n, l, s, j) \
     ((size_t)36 + (size_t)((layout) == 1 ? 20 : 21) * (n) + (size_t)16 * (l) + (size_t)8 * (s) + \
-     (size_t)6 * (j) + (size_t)((layout) < 4 ? 0 : ASPEN_NAMES_SIZE))
+     (size_t)6 * (j))
 
 /* The same in the layout that the calls take. */
 #define aspen_book_size(n, l, s, j) aspen_book_size_of(ASPEN_LAYOUT, n, l, s, j)
@@ -109,8 +100,8 @@ extern "C" {
 
 /* Numbers that stand for none. */
 #define ASPEN_UNMAPPED_PBN 65535  /* no pool block at this LBN; ASPEN_UNMAPPED is a refusal */
-#define ASPEN_NO_END 65535        /* no last day: a volume isn't retired, and its newest backup, or
-                                     one that has a name, is always kept */
+#define ASPEN_NO_END 65535        /* no last day: a volume isn't retired, and its newest backup is
+                                     always kept */
 
 /* A call in a list for aspen_play starts with a head of so many bytes. */
 #define ASPEN_CALL_HEAD 14
@@ -131,15 +122,12 @@ enum aspen_call {
     ASPEN_CALL_READ = 3,     /* a is the volume, b the backup's number, c the LBN */
     ASPEN_CALL_AUDIT = 4,    /* none */
     ASPEN_CALL_RESTORE = 5,  /* a and b as for a read, c the first LBN, d the length */
-    ASPEN_CALL_RETIRE = 6,   /* a is the volume, b the day */
-    ASPEN_CALL_NAME = 7,     /* a is the volume, b the backup's number; the data is the name */
-    ASPEN_CALL_UNNAME = 8    /* none; the data is the name */
+    ASPEN_CALL_RETIRE = 6    /* a is the volume, b the day */
 };
 
 /* The tags of the answers to a list, with what follows each. */
 enum aspen_answer {
-    ASPEN_ANSWER_NUMBER = 0,  /* the number of the call's refusal; ASPEN_OK for an enrol, a name and
-                                 an unname */
+    ASPEN_ANSWER_NUMBER = 0,  /* the number of the call's refusal; ASPEN_OK for an enrol */
     ASPEN_ANSWER_BACKED = 1,  /* of a backup: number, taken, touched */
     ASPEN_ANSWER_FREED = 2,   /* one number: of a collect freed, of a retire cells */
     ASPEN_ANSWER_BLOCK = 3,   /* of a read: the ASPEN_BLOCK_SIZE bytes of the block */
@@ -165,20 +153,16 @@ enum aspen_result {
                                  left */
     ASPEN_OTHER_BYTES = 11,   /* the held block with this fingerprint has other bytes */
     ASPEN_NO_BLOCK = 12,      /* no block of the pool is free */
-    ASPEN_COUNT_ZERO = 13,    /* the block has count 0, which can't fall: the book is damaged */
-    ASPEN_COUNT_FULL = 14,    /* the block's count is 65,535 already, or the block to name is free:
-                                 the book is damaged */
+    ASPEN_COUNT_ZERO = 13,    /* the replaced block has count 0: the book is damaged */
+    ASPEN_COUNT_FULL = 14,    /* the block's count is 65,535 already: the book is damaged */
     ASPEN_NO_BACKUP = 15,     /* the volume has no backup of this number */
-    ASPEN_NOT_KEPT = 16,      /* that backup's days have run out, and it has no name */
+    ASPEN_NOT_KEPT = 16,      /* that backup's days have run out */
     ASPEN_BAD_LBN = 17,       /* the LBN is l or more */
     ASPEN_UNMAPPED = 18,      /* that backup has no block at this LBN */
     ASPEN_BAD_INPUT = 19,     /* writer: a wrong l, mark or length; play: no list of calls */
     ASPEN_SHORT_OUTPUT = 20,  /* the output is shorter than what is to be written, or may be */
     ASPEN_BAD_RUN = 21,       /* the run ends after the volume, or the output is too short for it */
-    ASPEN_COUNT_WIDE = 22,    /* a count is above 255, for which layout 1 has no room */
-    ASPEN_BAD_NAME = 23,      /* not ASPEN_NAME_SIZE bytes or the first is 0; taken already, or to
-                                 drop, no name in the book */
-    ASPEN_NO_NAME_CELL = 24   /* the book has ASPEN_NAMES names already */
+    ASPEN_COUNT_WIDE = 22     /* a count is above 255, for which layout 1 has no room */
 };
 
 /*
@@ -192,9 +176,9 @@ uint16_t aspen_format(uint8_t *book, size_t book_len, uint16_t n, uint16_t l, ui
 
 /*
  * Enrols a volume, 0 to 7. A backup of it is kept for `retention` days from the day on which it was
- * taken; the newest one is always kept while the volume isn't retired, and one that has a name as
- * long as it has it. So after a pause longer than that the backup before is past its days as soon as
- * the next one is taken. A retired volume can't be enrolled again.
+ * taken; the newest one is always kept while the volume isn't retired. So after a pause longer than
+ * that the backup before is past its days as soon as the next one is taken. A retired volume can't
+ * be enrolled again.
  *
  * Returns ASPEN_OK, ASPEN_BAD_LAYOUT, ASPEN_BAD_FORM, ASPEN_BAD_VOLUME or ASPEN_BAD_RETENTION.
  */
@@ -228,7 +212,7 @@ uint16_t aspen_backup(uint8_t *book, size_t book_len, uint8_t *pool, size_t pool
  * and not before the book's day. No LBN has a block any more, and the volume takes no more backups.
  * Its old backups are read until their days run out, and the newest isn't exempt any more: where
  * that one's days have run out already, it is gone at once, and the next collection frees its
- * blocks; unless it has a name. A volume without backups can be retired too.
+ * blocks. A volume without backups can be retired too.
  *
  * A retirement takes one of the backup slots, and a record for each LBN that has a block. It is no
  * backup, and has no number. The spare is as for aspen_backup; the pool isn't needed.
@@ -243,45 +227,9 @@ uint16_t aspen_retire(uint8_t *book, size_t book_len, uint8_t *spare, size_t spa
                       uint16_t volume, uint16_t day, uint16_t *cells);
 
 /*
- * Gives a name to a volume's backup of this number, which has to be kept. It is kept until the name
- * is dropped from then on, whatever its days are, also after the volume is retired. A retired
- * volume's backup can be named too. A backup may have several names, and is kept as long as it has
- * one. The name takes the first of the book's ASPEN_NAMES cells that has none; names are shared by
- * all volumes.
- *
- * A name has ASPEN_NAME_SIZE bytes, of which the first isn't 0; a shorter text is filled up with
- * zeros by the caller. By ASPEN_BAD_NAME the call is refused if it isn't such a name, or if the book
- * has it already; this comes before ASPEN_NO_NAME_CELL.
- *
- * For each LBN at which the backup has a block, that block's count rises by 1; expiries stay. The
- * spare is as for aspen_backup; the pool isn't needed. ASPEN_COUNT_FULL comes last and never in a
- * book that calls made: it is damaged then.
- *
- * Returns ASPEN_OK, ASPEN_BAD_LAYOUT, ASPEN_BAD_FORM, ASPEN_SHORT_SPARE, ASPEN_BAD_VOLUME,
- * ASPEN_NO_BACKUP, ASPEN_NOT_KEPT, ASPEN_BAD_NAME, ASPEN_NO_NAME_CELL or ASPEN_COUNT_FULL.
- */
-uint16_t aspen_name(uint8_t *book, size_t book_len, uint8_t *spare, size_t spare_len,
-                    uint16_t volume, uint16_t number, const uint8_t *name, size_t name_len);
-
-/*
- * Drops a name. Its cell becomes zero, and the counts that it raised fall again. The backup is kept
- * by its days from then on: where they have run out, it is gone at once, and the next collection
- * frees the blocks that nothing else needs. Whoever knows a name can drop it: no volume is asked for.
- * Dropping a name just after it was given leaves the book as it was, byte for byte.
- *
- * ASPEN_BAD_NAME comes for bytes that are no name, too: zeros find no cell. ASPEN_COUNT_ZERO comes
- * last and never in a book that calls made: it is damaged then.
- *
- * Returns ASPEN_OK, ASPEN_BAD_LAYOUT, ASPEN_BAD_FORM, ASPEN_SHORT_SPARE, ASPEN_BAD_NAME or
- * ASPEN_COUNT_ZERO.
- */
-uint16_t aspen_unname(uint8_t *book, size_t book_len, uint8_t *spare, size_t spare_len,
-                      const uint8_t *name, size_t name_len);
-
-/*
  * Frees every held block with count 0 whose days ended before this day: in a book that calls made,
- * exactly those that no volume's current state and no backup kept on this day, by its days or by a
- * name, needs. The day may not be before the book's, and becomes it.
+ * exactly those that no volume's current state and no backup kept on this day needs. The day may
+ * not be before the book's, and becomes it.
  *
  * Answer: *freed, how many.
  *
@@ -319,8 +267,8 @@ uint16_t aspen_restore(const uint8_t *book, size_t book_len, const uint8_t *pool
                        uint8_t *out, size_t out_len);
 
 /*
- * Replays the book's journal and compares: the maps, the counts, those by names too, the days until
- * which blocks are needed, that held fingerprints differ, and that nothing needed is free.
+ * Replays the book's journal and compares: the maps, the counts, the days until which blocks are
+ * needed, that held fingerprints differ, and that nothing needed is free.
  *
  * Answer: *sound, 1 if all of it agrees, else 0.
  *
@@ -330,8 +278,8 @@ uint16_t aspen_audit(const uint8_t *book, size_t book_len, uint16_t *sound);
 
 /*
  * Checks that the book is in form, as every call on a book but aspen_format does first: that
- * every field is in its range, backups stand in order, names differ and are of backups that there
- * are, and unused places are zero. A book in form may still be unsound; see aspen_audit.
+ * every field is in its range, backups stand in order and unused places are zero. A book in form
+ * may still be unsound; see aspen_audit.
  *
  * Returns ASPEN_OK, ASPEN_BAD_LAYOUT or ASPEN_BAD_FORM.
  */
@@ -393,7 +341,7 @@ uint16_t aspen_volume(const uint8_t *book, size_t book_len, uint16_t volume, uin
  *   0  the backup's day
  *   2  how many changes it has
  *   4  the last day on which it is kept, its day plus the retention; ASPEN_NO_END for the newest of
- *      a volume that isn't retired, and for one that has a name
+ *      a volume that isn't retired
  *   6  1 if it is kept at the book's day, else 0
  * aspen_backups_size(backups) bytes are enough, with the backups that aspen_volume answers.
  *
@@ -417,8 +365,7 @@ uint16_t aspen_cells(const uint8_t *book, size_t book_len, uint16_t volume, uint
  * Lists the blocks of the pool. A row of ASPEN_BLOCK_ROW bytes has three numbers and the
  * fingerprint:
  *   0  1 if the block is held, 0 if it is free
- *   2  its count: the cells that have it in current maps, and in the maps of named backups once for
- *      each name
+ *   2  its count: the cells of current maps that name it
  *   4  its expiry: once its count is 0, the last day on which a backup needs it
  *   6  its fingerprint of ASPEN_PRINT_SIZE bytes, all 0 if it is free
  * aspen_blocks_size(n) bytes are enough.
@@ -428,27 +375,15 @@ uint16_t aspen_cells(const uint8_t *book, size_t book_len, uint16_t volume, uint
 uint16_t aspen_blocks(const uint8_t *book, size_t book_len, uint8_t *out, size_t out_len);
 
 /*
- * Lists the names, a row for each of the ASPEN_NAMES cells as they stand in the book. A row of
- * ASPEN_NAME_ROW bytes has the name and two numbers:
- *    0  the name of ASPEN_NAME_SIZE bytes; the first is 0 if the cell is unused
- *   12  the volume of the backup that it names
- *   14  that backup's number
- * A row of an unused cell is all 0. ASPEN_NAMES_SIZE bytes are enough.
- *
- * Returns ASPEN_OK, ASPEN_BAD_LAYOUT, ASPEN_BAD_FORM or ASPEN_SHORT_OUTPUT.
- */
-uint16_t aspen_names(const uint8_t *book, size_t book_len, uint8_t *out, size_t out_len);
-
-/*
  * Plays a list of calls that is stored as bytes, as a host would make them: one after the other,
  * each as by its function, on this book, pool and spare. A call that is refused is answered by its
  * number, and the list goes on. Bytes that are no list are refused as a whole.
  *
  * A call in bytes is a head of ASPEN_CALL_HEAD bytes and then its data:
- *    0  its kind in one byte, from ASPEN_CALL_ENROL to ASPEN_CALL_UNNAME
+ *    0  its kind in one byte, from ASPEN_CALL_ENROL to ASPEN_CALL_RETIRE
  *    1  a zero byte
  *    2  four numbers of two bytes, a, b, c and d; what its kind doesn't use is 0
- *   10  how many bytes of data follow, in four bytes; 0 unless it is a backup, a name or an unname
+ *   10  how many bytes of data follow, in four bytes; 0 unless it is a backup
  * A list is calls one after the other to the end of the bytes; it may have none.
  *
  * The answers stand one after the other at the front of `answers`, each a tag of one byte, from
@@ -494,8 +429,7 @@ uint16_t aspen_write_list(uint16_t l, const uint8_t *marks, size_t marks_len,
  * Between layouts 1 and 2 every field stays equal but the layout number: the count of a block has
  * one byte in layout 1 and two in layout 2. Layout 3 has the same places as layout 2 and another rule
  * of what is kept: in layouts 1 and 2 a backup was kept for its days after that of the next backup.
- * Only from layout 3 on are there retirements. Layout 4 has ASPEN_NAMES_SIZE bytes more at the end,
- * for names.
+ * Only in layout 3 are there retirements.
  */
 
 /*
@@ -526,14 +460,6 @@ uint16_t aspen_convert_2_1(const uint8_t *book, size_t book_len, uint8_t *out, s
  */
 uint16_t aspen_convert_2_3(const uint8_t *book, size_t book_len, uint8_t *out, size_t out_len);
 
-/*
- * Writes a book of layout 3 in layout 4. Every field stays equal but the layout number, and no name
- * is there yet. There is no way back.
- *
- * Returns ASPEN_OK, ASPEN_BAD_LAYOUT, ASPEN_BAD_FORM or ASPEN_SHORT_SPARE.
- */
-uint16_t aspen_convert_3_4(const uint8_t *book, size_t book_len, uint8_t *out, size_t out_len);
-
 /* A short text for a number that a function returned. */
 static inline const char *aspen_text(uint16_t number)
 {
@@ -551,8 +477,8 @@ static inline const char *aspen_text(uint16_t number)
         "not enough records left",
         "a held block with this fingerprint has other bytes",
         "no block of the pool is free",
-        "the block has count 0, which can't fall: the book is damaged",
-        "the block's count is 65,535 already, or it is free: the book is damaged",
+        "a replaced block has count 0: the book is damaged",
+        "the block's count is 65,535 already: the book is damaged",
         "the volume has no backup of this number",
         "the backup isn't kept any more",
         "the volume has no such LBN",
@@ -560,9 +486,7 @@ static inline const char *aspen_text(uint16_t number)
         "wrong inputs of the writer, or no list of calls",
         "the output is too short",
         "the run ends after the volume, or the output is too short",
-        "a count is above 255, for which layout 1 has no room",
-        "no name, a name that is taken, or to drop, one that isn't in the book",
-        "the book has no room for another name"
+        "a count is above 255, for which layout 1 has no room"
     };
 
     return number < sizeof texts / sizeof texts[0] ? texts[number] : "no number of the box";

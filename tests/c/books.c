@@ -3,7 +3,6 @@
 #include <string.h>
 
 enum { HEADER = 36, ENTRY = 21, CELL = 2, SLOT = 8, RECORD = 6, VOLUMES = 8, PRINT = 16 };
-enum { NAME = 16, NAMES = 8 };
 
 size_t case_entry(unsigned pbn)
 {
@@ -23,11 +22,6 @@ size_t case_slot(unsigned slot)
 size_t case_record(unsigned record)
 {
     return case_slot(CASE_S) + RECORD * record;
-}
-
-size_t case_name(unsigned cell)
-{
-    return case_record(CASE_J) + NAME * cell;
 }
 
 size_t slot_in(const uint8_t *book, unsigned slot)
@@ -55,18 +49,12 @@ void put_u16(uint8_t *bytes, size_t at, unsigned value)
 
 void book_fresh(uint8_t *book, unsigned n, unsigned l, unsigned s, unsigned j)
 {
-    book_fresh_in(4, book, n, l, s, j);
-}
-
-void book_fresh_in(unsigned layout, uint8_t *book, unsigned n, unsigned l, unsigned s, unsigned j)
-{
     size_t maps = HEADER + ENTRY * (size_t)n;
     size_t slots = maps + CELL * VOLUMES * (size_t)l;
-    size_t names = slots + SLOT * (size_t)s + RECORD * (size_t)j;
 
-    memset(book, 0, names + (layout < 4 ? 0 : NAME * NAMES));
+    memset(book, 0, slots + SLOT * (size_t)s + RECORD * (size_t)j);
     memset(book + maps, 255, slots - maps);
-    put_u16(book, AT_LAYOUT, layout);
+    put_u16(book, AT_LAYOUT, 3);
     put_u16(book, AT_N, n);
     put_u16(book, AT_L, l);
     put_u16(book, AT_S, s);
@@ -104,8 +92,9 @@ static void put_record(uint8_t *book, unsigned record, unsigned lbn, unsigned be
     put_u16(at, RECORD_AFTER, after);
 }
 
-static void put_after_d(uint8_t *book)
+void book_after_d(uint8_t *book)
 {
+    book_fresh(book, CASE_N, CASE_L, CASE_S, CASE_J);
     put_u16(book, AT_SLOTS_USED, 4);
     put_u16(book, AT_RECORDS_USED, 5);
     put_u16(book, AT_DAY, 9);
@@ -129,22 +118,10 @@ static void put_after_d(uint8_t *book)
     put_record(book, 4, 3, 0, 1);
 }
 
-void book_after_d(uint8_t *book)
-{
-    book_fresh(book, CASE_N, CASE_L, CASE_S, CASE_J);
-    put_after_d(book);
-}
-
-void book_after_d_in_3(uint8_t *book)
-{
-    book_fresh_in(3, book, CASE_N, CASE_L, CASE_S, CASE_J);
-    put_after_d(book);
-}
-
 void book_after_d_in_2(uint8_t *book)
 {
-    book_fresh_in(2, book, CASE_N, CASE_L, CASE_S, CASE_J);
-    put_after_d(book);
+    book_after_d(book);
+    put_u16(book, AT_LAYOUT, 2);
     put_u16(book, case_entry(0) + ENTRY_EXPIRY, 18);
 }
 

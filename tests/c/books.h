@@ -5,9 +5,8 @@
 #include <stddef.h>
 #include <stdint.h>
 
-/* The sizes of the cases, and the length of their book; and those of layouts 2 and 3, and of 1. */
-enum { CASE_N = 4, CASE_L = 4, CASE_S = 6, CASE_J = 8 };
-enum { CASE_BOOK = 408, CASE_OLDER = 280, CASE_NARROW = 276 };
+/* The sizes of the cases, and the length of their book; and that of layout 1. */
+enum { CASE_N = 4, CASE_L = 4, CASE_S = 6, CASE_J = 8, CASE_BOOK = 280, CASE_NARROW = 276 };
 
 /* Header fields. */
 enum {
@@ -24,11 +23,10 @@ enum {
     AT_RETENTIONS = 20
 };
 
-/* Fields of an entry, of a slot, of a record and of a name cell. */
+/* Fields of an entry and of a slot. */
 enum { ENTRY_COUNT = 0, ENTRY_STATE = 2, ENTRY_EXPIRY = 3, ENTRY_PRINT = 5 };
 enum { SLOT_VOLUME = 0, SLOT_KIND = 1, SLOT_DAY = 2, SLOT_FIRST = 4, SLOT_NUMBER = 6 };
 enum { RECORD_LBN = 0, RECORD_BEFORE = 2, RECORD_AFTER = 4 };
-enum { NAME_TEXT = 0, NAME_VOLUME = 12, NAME_NUMBER = 14 };
 
 enum { PBN_UNMAPPED = 65535 };
 
@@ -37,7 +35,6 @@ size_t case_entry(unsigned pbn);
 size_t case_cell(unsigned volume, unsigned lbn);
 size_t case_slot(unsigned slot);
 size_t case_record(unsigned record);
-size_t case_name(unsigned cell);
 /* Where a slot and a record start in a book of any sizes. */
 size_t slot_in(const uint8_t *book, unsigned slot);
 size_t record_in(const uint8_t *book, unsigned record);
@@ -45,12 +42,10 @@ size_t record_in(const uint8_t *book, unsigned record);
 unsigned get_u16(const uint8_t *bytes, size_t at);
 void put_u16(uint8_t *bytes, size_t at, unsigned value);
 
-/* A fresh book of these sizes; and one in layout 2 or 3. */
+/* A fresh book of these sizes. */
 void book_fresh(uint8_t *book, unsigned n, unsigned l, unsigned s, unsigned j);
-void book_fresh_in(unsigned layout, uint8_t *book, unsigned n, unsigned l, unsigned s, unsigned j);
-/* The book of the cases after case d; and as the same calls left it in layouts 3 and 2. */
+/* The book of the cases after case d; and as the same calls left it in layout 2. */
 void book_after_d(uint8_t *book);
-void book_after_d_in_3(uint8_t *book);
 void book_after_d_in_2(uint8_t *book);
 /* The fields of a book in layout 1; of a count it has the low byte. */
 void book_narrow(uint8_t *narrow, const uint8_t *book, size_t length);

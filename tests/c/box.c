@@ -58,14 +58,6 @@ struct buffer list_of(unsigned lbn, const char *prints, const char *blocks)
     return list;
 }
 
-struct buffer name_of(const char *text)
-{
-    struct buffer name = buffer_filled(ASPEN_NAME_SIZE, 0);
-
-    memcpy(name.bytes, text, strlen(text));
-    return name;
-}
-
 void check_pool(const struct box *box, const char *letters)
 {
     uint8_t block[ASPEN_BLOCK_SIZE];

@@ -29,9 +29,6 @@ void box_free(struct box *box);
 /* A list of one run from this LBN, with a letter for each fingerprint and for each block. */
 struct buffer list_of(unsigned lbn, const char *prints, const char *blocks);
 
-/* The bytes of a text, filled up with zeros to the 12 of a name. */
-struct buffer name_of(const char *text);
-
 /* The bytes of the pool's blocks, a letter for each. */
 void check_pool(const struct box *box, const char *letters);
 
@@ -40,10 +37,6 @@ void call_enrol(struct box *box, uint16_t volume, uint16_t retention, uint16_t e
 struct backed_up call_backup(struct box *box, uint16_t volume, uint16_t day, struct buffer list,
                              uint16_t expected);
 uint16_t call_retire(struct box *box, uint16_t volume, uint16_t day, uint16_t expected);
-/* Both free the name. */
-void call_name(struct box *box, uint16_t volume, uint16_t number, struct buffer name,
-               uint16_t expected);
-void call_unname(struct box *box, struct buffer name, uint16_t expected);
 uint16_t call_collect(struct box *box, uint16_t day, uint16_t expected);
 uint32_t call_read(const struct box *box, uint16_t volume, uint16_t number, uint16_t lbn,
                    uint16_t expected);

@@ -102,39 +102,6 @@ uint16_t call_retire(struct box *box, uint16_t volume, uint16_t day, uint16_t ex
     return cells[1];
 }
 
-void call_name(struct box *box, uint16_t volume, uint16_t number, struct buffer name,
-               uint16_t expected)
-{
-    struct box before = copied(box);
-    struct buffer given = buffer_copy(&name);
-    uint16_t refusal = aspen_name(box->book.bytes, box->book.length, box->spare.bytes,
-                                  box->spare.length, volume, number, name.bytes, name.length);
-
-    CHECK_EQ(refusal, expected);
-    check_unchanged(&name, &given);
-    CHECK_GUARDS(&name);
-    check_unchanged(&box->pool, &before.pool);
-    check_after(box, &before, refusal == ASPEN_OK);
-    buffer_free(&given);
-    buffer_free(&name);
-}
-
-void call_unname(struct box *box, struct buffer name, uint16_t expected)
-{
-    struct box before = copied(box);
-    struct buffer given = buffer_copy(&name);
-    uint16_t refusal = aspen_unname(box->book.bytes, box->book.length, box->spare.bytes,
-                                    box->spare.length, name.bytes, name.length);
-
-    CHECK_EQ(refusal, expected);
-    check_unchanged(&name, &given);
-    CHECK_GUARDS(&name);
-    check_unchanged(&box->pool, &before.pool);
-    check_after(box, &before, refusal == ASPEN_OK);
-    buffer_free(&given);
-    buffer_free(&name);
-}
-
 uint16_t call_collect(struct box *box, uint16_t day, uint16_t expected)
 {
     struct box before = copied(box);

@@ -10,7 +10,7 @@ units_of() {
     aid) printf '%s\n' aid sizes texts writer pieces writing ;;
     engine)
         printf '%s\n' engine form cases format_audit count views refusals lists changes alike \
-            restore retire name name_cells convert convert_2_3 convert_3_4 converting play
+            restore retire convert convert_2_3 converting play
         ;;
     esac
     printf '%s\n' check buffer books box calls

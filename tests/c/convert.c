@@ -32,7 +32,7 @@ static struct both both_of(struct buffer wide)
 
 static struct both both_after_d(void)
 {
-    struct buffer book = buffer_new(CASE_OLDER);
+    struct buffer book = buffer_new(CASE_BOOK);
 
     book_after_d_in_2(book.bytes);
     return both_of(book);
@@ -67,7 +67,7 @@ static void test_rooms(void)
     CHECK_EQ(both.narrow.length, CASE_NARROW);
     for (room = 0; room < CASE_NARROW; room++)
         refuses(aspen_convert_2_1, &both.wide, room, ASPEN_SHORT_SPARE);
-    for (room = 0; room < CASE_OLDER; room++)
+    for (room = 0; room < CASE_BOOK; room++)
         refuses(aspen_convert_1_2, &both.narrow, room, ASPEN_SHORT_SPARE);
     for (room = 0; room < 10; room++)
         check_both(&both, room);
@@ -97,7 +97,7 @@ static void test_counts(void)
         for (i = 0; i < sizeof wide / sizeof wide[0]; i++) {
             set_count(&both, pbn, wide[i]);
             refuses(aspen_convert_2_1, &both.wide, CASE_NARROW, ASPEN_COUNT_WIDE);
-            refuses(aspen_convert_2_1, &both.wide, CASE_OLDER, ASPEN_COUNT_WIDE);
+            refuses(aspen_convert_2_1, &both.wide, CASE_BOOK, ASPEN_COUNT_WIDE);
         }
         set_count(&both, pbn, before);
     }
@@ -107,11 +107,12 @@ static void test_counts(void)
 /* The smallest and the largest book, with numbers at the ends of their ranges. */
 static void check_sizes(uint16_t n, uint16_t l, uint16_t s, uint16_t j)
 {
-    struct buffer book = buffer_new(aspen_book_size_of(2, n, l, s, j));
+    struct buffer book = buffer_new(aspen_book_size(n, l, s, j));
     struct both both;
     unsigned pbn;
 
-    book_fresh_in(2, book.bytes, n, l, s, j);
+    book_fresh(book.bytes, n, l, s, j);
+    put_u16(book.bytes, AT_LAYOUT, 2);
     put_u16(book.bytes, AT_DAY, ASPEN_MAX_DAY);
     put_u16(book.bytes, AT_CURSOR, n - 1u);
     put_u16(book.bytes, AT_RETENTIONS + 2 * 7, ASPEN_MAX_RETENTION);
@@ -147,12 +148,12 @@ static void test_order(void)
     put_u16(both.wide.bytes, case_entry(2) + ENTRY_COUNT, 256);
     refuses(aspen_convert_2_1, &both.wide, CASE_NARROW, ASPEN_COUNT_WIDE);
     refuses(aspen_convert_2_1, &both.wide, CASE_NARROW - 1, ASPEN_SHORT_SPARE);
-    refuses(aspen_convert_1_2, &both.narrow, CASE_OLDER - 1, ASPEN_SHORT_SPARE);
+    refuses(aspen_convert_1_2, &both.narrow, CASE_BOOK - 1, ASPEN_SHORT_SPARE);
     put_u16(both.wide.bytes, AT_ZERO, 1);
     put_u16(both.narrow.bytes, AT_ZERO, 1);
     refuses(aspen_convert_2_1, &both.wide, 0, ASPEN_BAD_FORM);
     refuses(aspen_convert_1_2, &both.narrow, 0, ASPEN_BAD_FORM);
-    buffer_resize(&both.wide, CASE_OLDER + 1);
+    buffer_resize(&both.wide, CASE_BOOK + 1);
     buffer_resize(&both.narrow, CASE_NARROW + 1);
     refuses(aspen_convert_2_1, &both.wide, 0, ASPEN_BAD_LAYOUT);
     refuses(aspen_convert_1_2, &both.narrow, 0, ASPEN_BAD_LAYOUT);
@@ -205,7 +206,7 @@ static void check_form_1(const char *about, size_t at, unsigned value, uint16_t 
     put_u16(both.wide.bytes, at, value);
     changed = both_of(both.wide);
     buffer_free(&both.narrow);
-    converts(aspen_convert_1_2, &changed.narrow, CASE_OLDER, &changed.wide, expected);
+    converts(aspen_convert_1_2, &changed.narrow, CASE_BOOK, &changed.wide, expected);
     converts(aspen_convert_2_1, &changed.wide, CASE_NARROW, &changed.narrow, expected);
     both_free(&changed);
 }
@@ -245,7 +246,6 @@ static void check_shown(struct box *box)
     CHECK_EQ(aspen_backups(book, length, 0, out, room, &a), ASPEN_BAD_LAYOUT);
     CHECK_EQ(aspen_cells(book, length, 0, out, room), ASPEN_BAD_LAYOUT);
     CHECK_EQ(aspen_blocks(book, length, out, room), ASPEN_BAD_LAYOUT);
-    CHECK_EQ(aspen_names(book, length, out, room), ASPEN_BAD_LAYOUT);
     CHECK_EQ(aspen_play(box->book.bytes, length, box->pool.bytes, box->pool.length, out, room,
                         audit, sizeof audit, answer, sizeof answer, &wide), ASPEN_OK);
     CHECK_EQ(answer[0], ASPEN_ANSWER_NUMBER);
@@ -262,9 +262,6 @@ static void check_calls(const char *about, struct buffer book)
     box.book = book;
     call_enrol(&box, 7, 1, ASPEN_BAD_LAYOUT);
     call_backup(&box, 0, 10, list_of(0, "A", "A"), ASPEN_BAD_LAYOUT);
-    call_retire(&box, 0, 10, ASPEN_BAD_LAYOUT);
-    call_name(&box, 0, 1, name_of("first"), ASPEN_BAD_LAYOUT);
-    call_unname(&box, name_of("first"), ASPEN_BAD_LAYOUT);
     call_collect(&box, 19, ASPEN_BAD_LAYOUT);
     call_read(&box, 0, 1, 0, ASPEN_BAD_LAYOUT);
     call_restore(&box, 0, 1, 0, 1, ASPEN_BLOCK_SIZE, "", ASPEN_BAD_LAYOUT);
@@ -276,35 +273,29 @@ static void check_calls(const char *about, struct buffer book)
 static void test_calls(void)
 {
     struct both both = both_after_d();
-    struct buffer third = buffer_new(CASE_OLDER);
 
-    book_after_d_in_3(third.bytes);
     check_calls("calls on a book of layout 1", both.narrow);
     check_calls("calls on a book of layout 2", both.wide);
-    check_calls("calls on a book of layout 3", third);
 }
 
 /* A clinic that met 14: its book goes on in today's layout, by way of layout 2, from which it can go
- * back as long as no count has passed 255, and of layout 3. */
+ * back as long as no count has passed 255. */
 static void test_going_on(void)
 {
     struct box box = box_after_d();
     struct both both = both_after_d();
-    struct buffer third = buffer_new(CASE_OLDER);
 
     check_about("a count of 255 goes on");
     set_count(&both, 2, 255);
-    CHECK_EQ(aspen_convert_1_2(both.narrow.bytes, CASE_NARROW, box.spare.bytes, CASE_OLDER),
+    CHECK_EQ(aspen_convert_1_2(both.narrow.bytes, CASE_NARROW, box.spare.bytes, CASE_BOOK),
              ASPEN_OK);
-    CHECK_BYTES(box.spare.bytes, both.wide.bytes, CASE_OLDER);
-    CHECK_EQ(aspen_convert_2_3(both.wide.bytes, CASE_OLDER, third.bytes, CASE_OLDER), ASPEN_OK);
-    CHECK_EQ(aspen_convert_3_4(third.bytes, CASE_OLDER, box.book.bytes, CASE_BOOK), ASPEN_OK);
+    CHECK_BYTES(box.spare.bytes, both.wide.bytes, CASE_BOOK);
+    CHECK_EQ(aspen_convert_2_3(both.wide.bytes, CASE_BOOK, box.book.bytes, CASE_BOOK), ASPEN_OK);
     call_backup(&box, 0, 10, list_of(2, "C", "C"), ASPEN_OK);
     CHECK_EQ(get_u16(box.book.bytes, case_entry(2) + ENTRY_COUNT), 256);
     set_count(&both, 2, 256);
     refuses(aspen_convert_2_1, &both.wide, CASE_NARROW, ASPEN_COUNT_WIDE);
     refuses(aspen_convert_2_1, &box.book, CASE_NARROW, ASPEN_BAD_LAYOUT);
-    buffer_free(&third);
     both_free(&both);
     box_free(&box);
 }

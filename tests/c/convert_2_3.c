@@ -17,17 +17,17 @@ static void refuses(const struct buffer *book, size_t room, uint16_t expected)
 
 static struct buffer after_d_in_2(void)
 {
-    struct buffer book = buffer_new(CASE_OLDER);
+    struct buffer book = buffer_new(CASE_BOOK);
 
     book_after_d_in_2(book.bytes);
     return book;
 }
 
-static struct buffer after_d_in_3(void)
+static struct buffer after_d(void)
 {
-    struct buffer book = buffer_new(CASE_OLDER);
+    struct buffer book = buffer_new(CASE_BOOK);
 
-    book_after_d_in_3(book.bytes);
+    book_after_d(book.bytes);
     return book;
 }
 
@@ -81,13 +81,13 @@ static void check_worked_out(const struct buffer *book, size_t more)
 
 static void test_rooms(void)
 {
-    struct buffer book = after_d_in_2(), wanted = after_d_in_3();
+    struct buffer book = after_d_in_2(), wanted = after_d();
     size_t room;
 
     check_about("2 to 3, room for the book to write");
-    for (room = 0; room < CASE_OLDER; room++)
+    for (room = 0; room < CASE_BOOK; room++)
         refuses(&book, room, ASPEN_SHORT_SPARE);
-    for (room = CASE_OLDER; room < CASE_OLDER + 10; room++)
+    for (room = CASE_BOOK; room < CASE_BOOK + 10; room++)
         converts(aspen_convert_2_3, &book, room, &wanted, ASPEN_OK);
     converts(aspen_convert_2_3, &book, 5000, &wanted, ASPEN_OK);
     buffer_free(&book);
@@ -98,7 +98,7 @@ static void test_rooms(void)
 static void test_expiries(void)
 {
     static const unsigned expiries[] = { 0, 1, 9, 14, 15, 16, 18, 255, 256, 65000 };
-    struct buffer book = after_d_in_2(), wanted = after_d_in_3();
+    struct buffer book = after_d_in_2(), wanted = after_d();
     unsigned pbn;
     size_t i;
 
@@ -106,7 +106,7 @@ static void test_expiries(void)
     for (pbn = 0; pbn < CASE_N; pbn++)
         for (i = 0; i < sizeof expiries / sizeof expiries[0]; i++) {
             put_u16(book.bytes, case_entry(pbn) + ENTRY_EXPIRY, expiries[i]);
-            converts(aspen_convert_2_3, &book, CASE_OLDER, &wanted, ASPEN_OK);
+            converts(aspen_convert_2_3, &book, CASE_BOOK, &wanted, ASPEN_OK);
         }
     buffer_free(&book);
     buffer_free(&wanted);
@@ -117,13 +117,13 @@ static void test_expiries(void)
 static void check_before(unsigned record, unsigned before, unsigned of_0, unsigned pbn,
                          unsigned expiry)
 {
-    struct buffer book = after_d_in_2(), wanted = after_d_in_3();
+    struct buffer book = after_d_in_2(), wanted = after_d();
 
     put_u16(book.bytes, case_record(record) + RECORD_BEFORE, before);
     put_u16(wanted.bytes, case_record(record) + RECORD_BEFORE, before);
     put_u16(wanted.bytes, case_entry(0) + ENTRY_EXPIRY, of_0);
     put_u16(wanted.bytes, case_entry(pbn) + ENTRY_EXPIRY, expiry);
-    converts(aspen_convert_2_3, &book, CASE_OLDER, &wanted, ASPEN_OK);
+    converts(aspen_convert_2_3, &book, CASE_BOOK, &wanted, ASPEN_OK);
     buffer_free(&book);
     buffer_free(&wanted);
 }
@@ -151,7 +151,7 @@ static void check_field(const char *about, size_t at, unsigned value, uint16_t e
     check_about(about);
     put_u16(book.bytes, at, value);
     wanted = worked_out(&book);
-    converts(aspen_convert_2_3, &book, CASE_OLDER, &wanted, expected);
+    converts(aspen_convert_2_3, &book, CASE_BOOK, &wanted, expected);
     buffer_free(&book);
     buffer_free(&wanted);
 }
@@ -177,11 +177,12 @@ static void test_fields(void)
 /* Slots one after the other for all volumes, so many days apart, with so many records each. */
 static struct buffer full_book(uint16_t n, uint16_t l, uint16_t s, uint16_t j, unsigned apart)
 {
-    struct buffer book = buffer_new(aspen_book_size_of(2, n, l, s, j));
+    struct buffer book = buffer_new(aspen_book_size(n, l, s, j));
     const unsigned none = PBN_UNMAPPED;
     unsigned each = j / s, i, slot, record;
 
-    book_fresh_in(2, book.bytes, n, l, s, j);
+    book_fresh(book.bytes, n, l, s, j);
+    put_u16(book.bytes, AT_LAYOUT, 2);
     put_u16(book.bytes, AT_SLOTS_USED, s);
     put_u16(book.bytes, AT_RECORDS_USED, s * each);
     put_u16(book.bytes, AT_DAY, ASPEN_MAX_DAY);
@@ -239,10 +240,10 @@ static void test_order(void)
     struct buffer book = after_d_in_2();
 
     check_about("2 to 3, checks in order");
-    refuses(&book, CASE_OLDER - 1, ASPEN_SHORT_SPARE);
+    refuses(&book, CASE_BOOK - 1, ASPEN_SHORT_SPARE);
     put_u16(book.bytes, AT_ZERO, 1);
     refuses(&book, 0, ASPEN_BAD_FORM);
-    buffer_resize(&book, CASE_OLDER + 1);
+    buffer_resize(&book, CASE_BOOK + 1);
     refuses(&book, 0, ASPEN_BAD_LAYOUT);
     buffer_free(&book);
 }
@@ -252,13 +253,13 @@ static void test_layouts(void)
 {
     static const unsigned numbers[] = { 0, 1, 3, 4, 257, 258, 514, 65535 };
     static const size_t lengths[] = { 0, 1, 2, 10, 19, 20, 36, 276, 279, 281 };
-    struct buffer book = after_d_in_2(), narrow = buffer_new(CASE_NARROW), next = after_d_in_3();
+    struct buffer book = after_d_in_2(), narrow = buffer_new(CASE_NARROW), today = after_d();
     size_t i;
 
     check_about("2 to 3, other layouts");
-    book_narrow(narrow.bytes, book.bytes, CASE_OLDER);
+    book_narrow(narrow.bytes, book.bytes, CASE_BOOK);
     refuses(&narrow, 1000, ASPEN_BAD_LAYOUT);
-    refuses(&next, 1000, ASPEN_BAD_LAYOUT);
+    refuses(&today, 1000, ASPEN_BAD_LAYOUT);
     put_u16(narrow.bytes, AT_LAYOUT, 2);
     refuses(&narrow, 1000, ASPEN_BAD_LAYOUT);
     for (i = 0; i < sizeof numbers / sizeof numbers[0]; i++) {
@@ -274,20 +275,18 @@ static void test_layouts(void)
     }
     buffer_free(&book);
     buffer_free(&narrow);
-    buffer_free(&next);
+    buffer_free(&today);
 }
 
-/* The box after d, converted with a field of its old book changed; and then to today's layout. */
+/* The box after d, converted with a field of its old book changed. */
 static struct box converted_box(size_t at, unsigned value)
 {
     struct box box = box_after_d();
-    struct buffer book = after_d_in_2(), third = buffer_new(CASE_OLDER);
+    struct buffer book = after_d_in_2();
 
     put_u16(book.bytes, at, value);
-    CHECK_EQ(aspen_convert_2_3(book.bytes, CASE_OLDER, third.bytes, CASE_OLDER), ASPEN_OK);
-    CHECK_EQ(aspen_convert_3_4(third.bytes, CASE_OLDER, box.book.bytes, CASE_BOOK), ASPEN_OK);
+    CHECK_EQ(aspen_convert_2_3(book.bytes, CASE_BOOK, box.book.bytes, CASE_BOOK), ASPEN_OK);
     buffer_free(&book);
-    buffer_free(&third);
     return box;
 }
 

@@ -16,11 +16,8 @@ int main(void)
     test_alike();
     test_restore();
     test_retire();
-    test_name();
-    test_name_cells();
     test_convert();
     test_convert_2_3();
-    test_convert_3_4();
     test_play();
     return check_report();
 }

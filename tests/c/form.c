@@ -52,9 +52,8 @@ static void test_fresh(void)
 /* The cases' book cut off or gone on with zeros. */
 static void test_lengths(void)
 {
-    static const size_t lengths[] = { 0,   1,   2,   19,  20,  35,  36,  87,
-                                      276, 280, 392, 407, 409, 424, 816 };
-    struct buffer whole = buffer_filled(816, 0);
+    static const size_t lengths[] = { 0, 1, 2, 19, 20, 35, 36, 87, 276, 279, 281, 560 };
+    struct buffer whole = buffer_filled(560, 0);
     size_t i;
 
     book_after_d(whole.bytes);
@@ -87,9 +86,8 @@ static void test_header(void)
     check_field("layout", AT_LAYOUT, 0, ASPEN_BAD_LAYOUT);
     check_field("layout", AT_LAYOUT, 1, ASPEN_BAD_LAYOUT);
     check_field("layout", AT_LAYOUT, 2, ASPEN_BAD_LAYOUT);
-    check_field("layout", AT_LAYOUT, 3, ASPEN_BAD_LAYOUT);
-    check_field("layout", AT_LAYOUT, 5, ASPEN_BAD_LAYOUT);
-    check_field("layout", AT_LAYOUT, 260, ASPEN_BAD_LAYOUT);
+    check_field("layout", AT_LAYOUT, 4, ASPEN_BAD_LAYOUT);
+    check_field("layout", AT_LAYOUT, 259, ASPEN_BAD_LAYOUT);
     check_field("layout", AT_LAYOUT, ASPEN_LAYOUT, ASPEN_OK);
     check_field("N", AT_N, 5, ASPEN_BAD_LAYOUT);
     check_field("L", AT_L, 5, ASPEN_BAD_LAYOUT);

@@ -39,7 +39,6 @@ void test_format(void)
     check_format(CASE_BOOK - 1, CASE_N, CASE_L, CASE_S, CASE_J, ASPEN_BAD_LAYOUT);
     check_format(CASE_BOOK + 1, CASE_N, CASE_L, CASE_S, CASE_J, ASPEN_BAD_LAYOUT);
     check_format(CASE_NARROW, CASE_N, CASE_L, CASE_S, CASE_J, ASPEN_BAD_LAYOUT);
-    check_format(CASE_OLDER, CASE_N, CASE_L, CASE_S, CASE_J, ASPEN_BAD_LAYOUT);
     check_format(0, CASE_N, CASE_L, CASE_S, CASE_J, ASPEN_BAD_LAYOUT);
     check_about("format, sizes out of range");
     check_format_fit(0, 1, 1, 1, ASPEN_BAD_LAYOUT);

@@ -134,36 +134,7 @@ static void test_cases_as_a_list(void)
     box_free(&box);
 }
 
-static void add_name(struct buffer *calls, unsigned volume, unsigned number, const char *text)
-{
-    struct buffer name = name_of(text);
-
-    add(calls, ASPEN_CALL_NAME, volume, number, 0, &name);
-    buffer_free(&name);
-}
-
-static void add_unname(struct buffer *calls, const char *text)
-{
-    struct buffer name = name_of(text);
-
-    add(calls, ASPEN_CALL_UNNAME, 0, 0, 0, &name);
-    buffer_free(&name);
-}
-
-/* One call of each kind, as the box after case d takes them; where each starts, and how far its
- * numbers go. */
-enum { KINDS = 9, LONG_HEAD = ASPEN_CALL_HEAD + ASPEN_NAME_SIZE };
-static const size_t places[KINDS] = { 0,
-                                      ASPEN_CALL_HEAD,
-                                      2 * ASPEN_CALL_HEAD,
-                                      3 * ASPEN_CALL_HEAD,
-                                      4 * ASPEN_CALL_HEAD,
-                                      5 * ASPEN_CALL_HEAD,
-                                      6 * ASPEN_CALL_HEAD,
-                                      6 * ASPEN_CALL_HEAD + LONG_HEAD,
-                                      6 * ASPEN_CALL_HEAD + 2 * LONG_HEAD };
-static const size_t used[KINDS] = { 6, 4, 8, 2, 10, 6, 6, 2, 6 };
-
+/* One call of each kind, as the box after case d takes them. */
 static struct buffer one_of_each(void)
 {
     struct buffer calls = buffer_new(0);
@@ -174,8 +145,6 @@ static struct buffer one_of_each(void)
     add(&calls, ASPEN_CALL_AUDIT, 0, 0, 0, NULL);
     add_four(&calls, ASPEN_CALL_RESTORE, 0, 1, 0, 2, NULL);
     add(&calls, ASPEN_CALL_RETIRE, 1, 10, 0, NULL);
-    add_name(&calls, 0, 2, "pre-surgery");
-    add_unname(&calls, "pre-surgery");
     add_backup(&calls, 0, 10, 2, "D", "D");
     return calls;
 }
@@ -183,24 +152,13 @@ static struct buffer one_of_each(void)
 /* Room for their longest answers. */
 static size_t room_of_each(void)
 {
-    return aspen_answers_bound(1, 1, 6) + aspen_runs_bound(1, 2);
-}
-
-/* Whether a call starts here. */
-static int is_place(size_t at)
-{
-    size_t call;
-
-    for (call = 0; call < KINDS; call++)
-        if (places[call] == at)
-            return 1;
-    return 0;
+    return aspen_answers_bound(1, 1, 4) + aspen_runs_bound(1, 2);
 }
 
 static void test_cut(void)
 {
     struct buffer calls = one_of_each();
-    size_t room = room_of_each();
+    size_t room = room_of_each(), last = 6 * ASPEN_CALL_HEAD;
 
     check_about("lists cut off");
     check_play(&calls, room, ASPEN_OK);
@@ -208,7 +166,8 @@ static void test_cut(void)
         size_t length = calls.length - 1;
 
         buffer_resize(&calls, length);
-        check_play(&calls, room, is_place(length) ? ASPEN_OK : ASPEN_BAD_INPUT);
+        check_play(&calls, room,
+                   length <= last && length % ASPEN_CALL_HEAD == 0 ? ASPEN_OK : ASPEN_BAD_INPUT);
     }
     buffer_free(&calls);
 }
@@ -226,13 +185,14 @@ static void check_head(size_t at, uint8_t byte, uint16_t expected)
 
 static void test_heads(void)
 {
+    static const size_t used[] = { 6, 4, 8, 2, 10, 6, 6 };
     size_t call, at;
 
     check_about("heads of calls");
-    for (call = 0; call < KINDS; call++) {
-        size_t place = places[call];
+    for (call = 0; call < 7; call++) {
+        size_t place = call * ASPEN_CALL_HEAD;
 
-        check_head(place, 9, ASPEN_BAD_INPUT);
+        check_head(place, 7, ASPEN_BAD_INPUT);
         check_head(place, 255, ASPEN_BAD_INPUT);
         check_head(place + 1, 1, ASPEN_BAD_INPUT);
         for (at = 2; at < used[call]; at++)
@@ -246,7 +206,7 @@ static void test_heads(void)
 static void check_data(uint32_t length)
 {
     struct buffer calls = one_of_each();
-    uint8_t *head = calls.bytes + places[KINDS - 1];
+    uint8_t *head = calls.bytes + 6 * ASPEN_CALL_HEAD;
 
     put_u16(head, 10, (unsigned)(length & 0xFFFF));
     put_u16(head, 12, (unsigned)(length >> 16));
@@ -263,7 +223,7 @@ static void test_data(void)
     check_data(right - 1);
     check_data(right + 1);
     check_data(65536 + right);
-    for (less = 0; less < places[KINDS - 1]; less++)
+    for (less = 0; less < 6 * ASPEN_CALL_HEAD; less++)
         check_data(0xFFFFFFFFu - less);
 }
 
@@ -285,9 +245,9 @@ static void test_room(void)
 /* A list goes on after a refused call, and knows the lengths of pool and spare. */
 static void test_refused_calls(void)
 {
-    static const uint8_t expected[] = { 0, 5, 0, 2, 0, 0, 0, 3, 0, 4, 1, 0, 0, 3,
-                                        0, 2, 1, 0, 0, 0, 0, 0, 0, 0, 0, 3, 0 };
-    static const uint8_t short_spare[] = { 0, 4, 0, 0, 4, 0, 0, 4, 0, 0, 4, 0 };
+    static const uint8_t expected[] = { 0, 5, 0, 2, 0, 0, 0, 3, 0, 4, 1,
+                                        0, 0, 3, 0, 2, 1, 0, 0, 3, 0 };
+    static const uint8_t short_spare[] = { 0, 4, 0, 0, 4, 0 };
     struct buffer calls = one_of_each(), answers = buffer_filled(room_of_each(), OUT_BYTE);
     struct box box = box_after_d();
 
@@ -299,7 +259,7 @@ static void test_refused_calls(void)
     box_free(&box);
     box = box_after_d();
     buffer_resize(&box.spare, box.spare.length - 1);
-    CHECK_EQ(play(&box, &calls, &answers, ASPEN_OK), 3 + 3 + 513 + 3 + 1027 + 4 * 3);
+    CHECK_EQ(play(&box, &calls, &answers, ASPEN_OK), 3 + 3 + 513 + 3 + 1027 + 3 + 3);
     CHECK_BYTES(answers.bytes + 1549, short_spare, sizeof short_spare);
     box_free(&box);
     buffer_free(&calls);
@@ -335,27 +295,14 @@ static void test_restores(void)
     buffer_free(&answers);
 }
 
-/* The answers to a list on the box after case d, with a byte behind them that stays, in room that is
- * enough and not in one byte less. Frees the list. */
-static void check_answers(struct buffer *calls, size_t room, const uint8_t *expected, size_t size)
-{
-    struct buffer answers = buffer_filled(room, OUT_BYTE);
-    struct box box = box_after_d();
-
-    CHECK_EQ(play(&box, calls, &answers, ASPEN_OK), size - 1);
-    CHECK_BYTES(answers.bytes, expected, size);
-    check_play(calls, room - 1, ASPEN_SHORT_OUTPUT);
-    box_free(&box);
-    buffer_free(calls);
-    buffer_free(&answers);
-}
-
 /* Retirements in a list: of two cells, refused, of one, and what is left. */
 static void test_retirements(void)
 {
     static const uint8_t expected[] = { 0, 7, 0, 2, 2, 0, 0, 5, 0, 0, 5, 0, 0, 5, 0,
                                         2, 1, 0, 0, 16, 0, 2, 3, 0, 4, 1, 0, OUT_BYTE };
-    struct buffer calls = buffer_new(0);
+    size_t room = aspen_answers_bound(0, 1, 8), length = sizeof expected - 1;
+    struct buffer calls = buffer_new(0), answers = buffer_filled(room, OUT_BYTE);
+    struct box box = box_after_d();
 
     check_about("retirements in a list");
     add(&calls, ASPEN_CALL_RETIRE, 0, 8, 0, NULL);
@@ -367,43 +314,12 @@ static void test_retirements(void)
     add(&calls, ASPEN_CALL_READ, 0, 2, 0, NULL);
     add(&calls, ASPEN_CALL_COLLECT, 20, 0, 0, NULL);
     add(&calls, ASPEN_CALL_AUDIT, 0, 0, 0, NULL);
-    check_answers(&calls, aspen_answers_bound(0, 1, 8), expected, sizeof expected);
-}
-
-/* Adds a name or an unname whose data has so many bytes. */
-static void add_long_name(struct buffer *calls, enum aspen_call kind, size_t length)
-{
-    struct buffer name = buffer_filled(length, 'x');
-
-    add(calls, kind, 0, kind == ASPEN_CALL_NAME ? 1 : 0, 0, &name);
-    buffer_free(&name);
-}
-
-/* Names in a list: of any length, taken, dropped, and what is kept by them. */
-static void test_names(void)
-{
-    static const uint8_t expected[] = { 0, 0, 0, 0, 23, 0, 0, 23, 0, 0, 23, 0, 0, 23, 0, 0, 23, 0,
-                                        0, 0, 0, 2, 0, 0, 4, 1, 0, 0, 0, 0, 0, 16, 0, 0, 0, 0,
-                                        2, 1, 0, 0, 16, 0, 4, 1, 0, OUT_BYTE };
-    struct buffer calls = buffer_new(0);
-
-    check_about("names in a list");
-    add_name(&calls, 0, 1, "one");
-    add_name(&calls, 1, 2, "one");
-    add_long_name(&calls, ASPEN_CALL_NAME, 0);
-    add_long_name(&calls, ASPEN_CALL_NAME, ASPEN_NAME_SIZE - 1);
-    add_long_name(&calls, ASPEN_CALL_NAME, ASPEN_NAME_SIZE + 1);
-    add_long_name(&calls, ASPEN_CALL_UNNAME, 1000);
-    add_long_name(&calls, ASPEN_CALL_NAME, ASPEN_NAME_SIZE);
-    add(&calls, ASPEN_CALL_COLLECT, ASPEN_MAX_DAY, 0, 0, NULL);
-    add(&calls, ASPEN_CALL_AUDIT, 0, 0, 0, NULL);
-    add_unname(&calls, "one");
-    add_name(&calls, 1, 1, "one");
-    add_long_name(&calls, ASPEN_CALL_UNNAME, ASPEN_NAME_SIZE);
-    add(&calls, ASPEN_CALL_COLLECT, ASPEN_MAX_DAY, 0, 0, NULL);
-    add(&calls, ASPEN_CALL_READ, 0, 1, 0, NULL);
-    add(&calls, ASPEN_CALL_AUDIT, 0, 0, 0, NULL);
-    check_answers(&calls, aspen_answers_bound(0, 1, 14), expected, sizeof expected);
+    CHECK_EQ(play(&box, &calls, &answers, ASPEN_OK), length);
+    CHECK_BYTES(answers.bytes, expected, sizeof expected);
+    check_play(&calls, room - 1, ASPEN_SHORT_OUTPUT);
+    box_free(&box);
+    buffer_free(&calls);
+    buffer_free(&answers);
 }
 
 /* Restores that ask in all for 390 bytes more than four bytes can tell. */
@@ -432,6 +348,5 @@ void test_play(void)
     test_refused_calls();
     test_restores();
     test_retirements();
-    test_names();
     test_wrapping_room();
 }

@@ -272,10 +272,8 @@ static void check_form(const char *about, size_t at, unsigned value, uint16_t ex
     call_retire(&box, 0, 10, ASPEN_OK);
     put_u16(book, at, value);
     CHECK_EQ(aspen_form(book, CASE_BOOK), expected);
-    put_u16(book, AT_LAYOUT, 3);
-    CHECK_EQ(aspen_convert_3_4(book, CASE_OLDER, box.spare.bytes, CASE_BOOK), expected);
     put_u16(book, AT_LAYOUT, 2);
-    CHECK_EQ(aspen_convert_2_3(book, CASE_OLDER, box.spare.bytes, CASE_BOOK), ASPEN_BAD_FORM);
+    CHECK_EQ(aspen_convert_2_3(book, CASE_BOOK, box.spare.bytes, CASE_BOOK), ASPEN_BAD_FORM);
     box_free(&box);
 }
 

@@ -7,7 +7,6 @@
 /* Sizes are constant expressions. */
 enum {
     SMALLEST_BOOK = aspen_book_size(1, 1, 1, 1),
-    SMALLEST_OLDER = aspen_book_size_of(3, 1, 1, 1, 1),
     SMALLEST_NARROW = aspen_book_size_of(1, 1, 1, 1, 1),
     LARGEST_LIST = aspen_list_bound(ASPEN_MAX_LBNS),
     LARGEST_ROWS = aspen_blocks_size(ASPEN_MAX_BLOCKS),
@@ -15,43 +14,30 @@ enum {
 };
 
 typedef uint8_t list_of_two_runs[aspen_list_bound(ASPEN_MAX_RUN + 1)];
-typedef uint8_t names_of_a_book[ASPEN_NAMES_SIZE];
 
-/* Books in all layouts. */
-static void test_layouts(void)
-{
-    uint16_t layout;
-
-    check_about("sizes of books by layout");
-    CHECK_EQ(ASPEN_LAYOUT, 4);
-    CHECK_EQ(SMALLEST_NARROW, 86);
-    CHECK_EQ(SMALLEST_OLDER, 87);
-    CHECK_EQ(aspen_book_size_of(1, 4, 4, 6, 8), 276);
-    CHECK_EQ(aspen_book_size_of(2, 4, 4, 6, 8), 280);
-    CHECK_EQ(aspen_book_size_of(3, 4, 4, 6, 8), 280);
-    CHECK_EQ(aspen_book_size_of(4, 4, 4, 6, 8), 408);
-    CHECK_EQ(aspen_book_size_of(2 - 1, 4096, 1024, 1024, 16384), 204836);
-    CHECK_EQ(aspen_book_size_of(2 + 1, 4096, 1024, 1024, 16384), 208932);
-    for (layout = 2; layout <= 3; layout++)
-        CHECK_EQ(aspen_book_size_of(layout, 4096, 1024, 1024, 16384), 208932);
-    CHECK_EQ(aspen_book_size_of(layout, 4096, 1024, 1024, 16384), 209060);
-}
-
-/* No argument but the layout is used twice. */
+/* Books in all layouts; no argument is used twice. */
 static void test_books(void)
 {
-    uint16_t n = ASPEN_MAX_BLOCKS, l = ASPEN_MAX_LBNS;
+    uint16_t layout = 1, n = ASPEN_MAX_BLOCKS, l = ASPEN_MAX_LBNS;
     uint16_t s = ASPEN_MAX_SLOTS, j = ASPEN_MAX_RECORDS;
 
     check_about("sizes of books");
-    CHECK_EQ(SMALLEST_BOOK, 215);
-    CHECK_EQ(aspen_book_size(4, 4, 6, 8), 408);
-    CHECK_EQ(aspen_book_size(1 + 3, 2 + 2, 3 + 3, 4 + 4), 408);
-    CHECK_EQ(aspen_book_size(n, l, s, j), 209060);
-    CHECK_EQ(aspen_book_size_of(1, n++, l++, s++, j++), 204836);
+    CHECK_EQ(ASPEN_LAYOUT, 3);
+    CHECK_EQ(SMALLEST_BOOK, 87);
+    CHECK_EQ(aspen_book_size(4, 4, 6, 8), 280);
+    CHECK_EQ(aspen_book_size(1 + 3, 2 + 2, 3 + 3, 4 + 4), 280);
+    CHECK_EQ(aspen_book_size(n, l, s, j), 208932);
+    CHECK_EQ(SMALLEST_NARROW, 86);
+    CHECK_EQ(aspen_book_size_of(1, 4, 4, 6, 8), 276);
+    CHECK_EQ(aspen_book_size_of(2, 4, 4, 6, 8), 280);
+    CHECK_EQ(aspen_book_size_of(3, 4, 4, 6, 8), 280);
+    CHECK_EQ(aspen_book_size_of(2 - 1, n, l, s, j), 204836);
+    CHECK_EQ(aspen_book_size_of(layout++, n++, l++, s++, j++), 204836);
+    CHECK_EQ(layout, 2);
     CHECK_EQ(n + l + s + j, 4097 + 1025 + 1025 + 16385);
+    CHECK_EQ(aspen_book_size_of(layout, 4096, 1024, 1024, 16384), 208932);
     n = 4;
-    CHECK_EQ(aspen_book_size(n++, 4, 6, 8), 408);
+    CHECK_EQ(aspen_book_size(n++, 4, 6, 8), 280);
     CHECK_EQ(n, 5);
 }
 
@@ -82,8 +68,6 @@ static void test_rows(void)
     CHECK_EQ(ASPEN_BACKUP_ROW, 4 * 2);
     CHECK_EQ(ASPEN_CELL_ROW, 2);
     CHECK_EQ(ASPEN_BLOCK_ROW, 3 * 2 + ASPEN_PRINT_SIZE);
-    CHECK_EQ(ASPEN_NAME_ROW, ASPEN_NAME_SIZE + 2 * 2);
-    CHECK_EQ(sizeof(names_of_a_book), 128);
     CHECK_EQ(aspen_backups_size(0), 0);
     CHECK_EQ(aspen_backups_size(1 + 2), 24);
     CHECK_EQ(aspen_backups_size(ASPEN_MAX_SLOTS), 8192);
@@ -106,7 +90,6 @@ void test_sizes(void)
 {
     const uint16_t blocks = ASPEN_MAX_BLOCKS;
 
-    test_layouts();
     test_books();
     check_about("sizes");
     CHECK_EQ(aspen_pool_size(4), 2048);
@@ -116,8 +99,6 @@ void test_sizes(void)
     CHECK_EQ(ASPEN_MAX_RETENTION, 5000);
     CHECK_EQ(ASPEN_MAX_DAY, 60000);
     CHECK_EQ(ASPEN_VOLUMES, 8);
-    CHECK_EQ(ASPEN_NAMES, 8);
-    CHECK_EQ(ASPEN_NAME_SIZE, 12);
     test_bounds();
     test_rows();
 }

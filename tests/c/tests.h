@@ -21,11 +21,8 @@ void test_changes(void);
 void test_alike(void);
 void test_restore(void);
 void test_retire(void);
-void test_name(void);
-void test_name_cells(void);
 void test_convert(void);
 void test_convert_2_3(void);
-void test_convert_3_4(void);
 
 /* With libplay.a. */
 void test_play(void);

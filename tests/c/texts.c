@@ -24,7 +24,7 @@ static void test_numbers(void)
     uint16_t number, before;
 
     check_about("texts");
-    for (number = ASPEN_OK; number <= ASPEN_NO_NAME_CELL; number++) {
+    for (number = ASPEN_OK; number <= ASPEN_COUNT_WIDE; number++) {
         size_t length = strlen(aspen_text(number));
 
         CHECK_EQ(length > 5 && length < 90, 1);
@@ -37,14 +37,12 @@ static void test_numbers(void)
     check_text(ASPEN_SHORT_SPARE, "the spare is shorter than the book, "
                                   "or a converter's output than the book to write");
     check_text(ASPEN_NO_BLOCK, "no block of the pool is free");
-    check_text(ASPEN_COUNT_FULL, "the block's count is 65,535 already, or it is free: "
-                                 "the book is damaged");
+    check_text(ASPEN_COUNT_FULL, "the block's count is 65,535 already: the book is damaged");
     check_text(ASPEN_UNMAPPED, "the backup has no block at this LBN");
     check_text(ASPEN_SHORT_OUTPUT, "the output is too short");
     check_text(ASPEN_BAD_RUN, "the run ends after the volume, or the output is too short");
     check_text(ASPEN_COUNT_WIDE, "a count is above 255, for which layout 1 has no room");
-    check_text(ASPEN_NO_NAME_CELL, "the book has no room for another name");
-    check_text(ASPEN_NO_NAME_CELL + 1, other);
+    check_text(ASPEN_COUNT_WIDE + 1, other);
     check_text(256, other);
     check_text(65535, other);
 }
@@ -68,23 +66,21 @@ static void test_layouts(void)
 
     check_about("layouts");
     book_after_d(book);
-    book_narrow(narrow, book, CASE_OLDER);
+    book_narrow(narrow, book, sizeof book);
     CHECK_EQ(aspen_layout(book, sizeof book), ASPEN_LAYOUT);
     CHECK_EQ(aspen_layout(narrow, sizeof narrow), 1);
-    CHECK_EQ(aspen_layout(book, 2), 4);
+    CHECK_EQ(aspen_layout(book, 2), 3);
     CHECK_EQ(aspen_layout(book, 1), 0);
     CHECK_EQ(aspen_layout(book, 0), 0);
     CHECK_EQ(aspen_layout(last, sizeof last), 65535);
     CHECK_EQ(aspen_converted_size(1, book, sizeof book), CASE_NARROW);
-    CHECK_EQ(aspen_converted_size(2, book, sizeof book), CASE_OLDER);
-    CHECK_EQ(aspen_converted_size(3, book, sizeof book), CASE_OLDER);
-    CHECK_EQ(aspen_converted_size(4, book, sizeof book), CASE_BOOK);
-    CHECK_EQ(aspen_converted_size(4, narrow, sizeof narrow), CASE_BOOK);
-    CHECK_EQ(aspen_converted_size(2, narrow, sizeof narrow), CASE_OLDER);
-    CHECK_EQ(aspen_converted_size(2, narrow, 10), CASE_OLDER);
+    CHECK_EQ(aspen_converted_size(2, book, sizeof book), CASE_BOOK);
+    CHECK_EQ(aspen_converted_size(3, book, sizeof book), CASE_BOOK);
+    CHECK_EQ(aspen_converted_size(3, narrow, sizeof narrow), CASE_BOOK);
+    CHECK_EQ(aspen_converted_size(2, narrow, sizeof narrow), CASE_BOOK);
+    CHECK_EQ(aspen_converted_size(2, narrow, 10), CASE_BOOK);
     CHECK_EQ(aspen_converted_size(2, narrow, 9), 0);
     CHECK_EQ(aspen_converted_size(1, narrow, 0), 0);
-    CHECK_EQ(aspen_converted_size(4, last, sizeof last), 164 + (21 + 16 + 8 + 6) * 65535);
     CHECK_EQ(aspen_converted_size(2, last, sizeof last), 36 + (21 + 16 + 8 + 6) * 65535);
     CHECK_EQ(aspen_converted_size(1, last, sizeof last), 36 + (20 + 16 + 8 + 6) * 65535);
 }

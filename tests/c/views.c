@@ -8,7 +8,7 @@
 
 #include <string.h>
 
-enum view { SIZES, USED, VOLUME, BACKUPS, CELLS, BLOCKS, NAMES, VIEWS };
+enum view { SIZES, USED, VOLUME, BACKUPS, CELLS, BLOCKS, VIEWS };
 
 /* Answers before a call, a value that none has; and the bytes of the output. */
 enum { UNTOUCHED = 0xFEED, OUT_BYTE = 0xA5 };
@@ -30,17 +30,15 @@ static uint16_t call(enum view view, const struct box *box, uint16_t volume, str
         return aspen_backups(book, length, volume, out->bytes, out->length, &a[1]);
     case CELLS:
         return aspen_cells(book, length, volume, out->bytes, out->length);
-    case BLOCKS:
-        return aspen_blocks(book, length, out->bytes, out->length);
     default:
-        return aspen_names(book, length, out->bytes, out->length);
+        return aspen_blocks(book, length, out->bytes, out->length);
     }
 }
 
 /* How many answers a call has. */
 static size_t answers_of(enum view view)
 {
-    static const size_t answers[VIEWS] = { 4, 3, 3, 1, 0, 0, 0 };
+    static const size_t answers[VIEWS] = { 4, 3, 3, 1, 0, 0 };
 
     return answers[view];
 }
@@ -269,51 +267,6 @@ static void test_retired_days(void)
     box_free(&box);
 }
 
-/* The names as they stand in their cells, and no end for a backup that has one. */
-static void test_named(void)
-{
-    static const uint16_t on_16[][4] = { { 5, 2, ASPEN_NO_END, 1 }, { 8, 1, ASPEN_NO_END, 1 } };
-    static const uint16_t without[][4] = { { 5, 2, 15, 0 }, { 8, 1, ASPEN_NO_END, 1 } };
-    static const uint16_t of_1[][4] = { { 6, 1, 9, 0 }, { 9, 1, ASPEN_NO_END, 1 } };
-    static const uint16_t blocks[][3] = { { 1, 1, 15 }, { 1, 4, 0 }, { 1, 1, 0 }, { 0, 0, 0 } };
-    uint8_t rows[ASPEN_NAMES_SIZE] = { 0 };
-    struct box box = box_after_d();
-
-    check_about("names shown");
-    check_rows(NAMES, &box, 0, rows, ASPEN_NAMES_SIZE, 0);
-    call_name(&box, 0, 2, name_of("x"), ASPEN_OK);
-    call_name(&box, 0, 1, name_of("pre-surgery"), ASPEN_OK);
-    call_name(&box, 1, 2, name_of("twelve bytes"), ASPEN_OK);
-    call_unname(&box, name_of("x"), ASPEN_OK);
-    memcpy(rows + 16, "pre-surgery\0\0\0\1\0twelve bytes\1\0\2", 31);
-    check_rows(NAMES, &box, 0, rows, ASPEN_NAMES_SIZE, 0);
-    check_blocks(&box, blocks, "ABC");
-    call_collect(&box, 16, ASPEN_OK);
-    check_backups(&box, 0, on_16, 2);
-    check_backups(&box, 1, of_1, 2);
-    call_unname(&box, name_of("pre-surgery"), ASPEN_OK);
-    check_backups(&box, 0, without, 2);
-    memset(rows + 16, 0, 16);
-    check_rows(NAMES, &box, 0, rows, ASPEN_NAMES_SIZE, 0);
-    box_free(&box);
-}
-
-/* A retired volume's newest backup has no end while it has a name. */
-static void test_named_and_retired(void)
-{
-    static const uint16_t rows[][4] = { { 5, 2, 15, 0 }, { 8, 1, ASPEN_NO_END, 1 } };
-    static const uint16_t facts[] = { 10, 2, 10 };
-    struct box box = box_after_d();
-
-    check_about("names of a retired volume shown");
-    call_name(&box, 0, 2, name_of("last"), ASPEN_OK);
-    call_retire(&box, 0, 10, ASPEN_OK);
-    call_collect(&box, 19, ASPEN_OK);
-    check_backups(&box, 0, rows, 2);
-    check_answers(VOLUME, &box, 0, facts);
-    box_free(&box);
-}
-
 static int takes_volume(enum view view)
 {
     return view == VOLUME || view == BACKUPS || view == CELLS;
@@ -368,7 +321,5 @@ void test_views(void)
     test_without_backups();
     test_retired();
     test_retired_days();
-    test_named();
-    test_named_and_retired();
     test_order();
 }

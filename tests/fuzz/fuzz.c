@@ -130,14 +130,14 @@ struct side lent(const struct sent *sent)
 }
 
 /* How often each number came, printed at the end. */
-static unsigned long times[ASPEN_NO_NAME_CELL + 1];
+static unsigned long times[ASPEN_COUNT_WIDE + 1];
 
 static void print_times(void)
 {
     size_t i;
 
     fprintf(stderr, "numbers:");
-    for (i = 0; i <= ASPEN_NO_NAME_CELL; i++)
+    for (i = 0; i <= ASPEN_COUNT_WIDE; i++)
         if (times[i] != 0)
             fprintf(stderr, " %lu=%lu", (unsigned long)i, times[i]);
     fprintf(stderr, "\n");

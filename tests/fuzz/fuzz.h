@@ -10,9 +10,8 @@
  *     6  4 u16   XORed with the call's numbers
  *    14  4 i16   added to these lengths
  * The rest is the book and, past its length, the list; or else patches of 4 bytes: which buffer,
- * where (u16), and what is XORed with the byte there. For name and unname the list is the name. For
- * the writer the rest is the marks, for play the list of calls. For the converters the first number
- * asks for the book in layout 2, 1 or 3.
+ * where (u16), and what is XORed with the byte there. For the writer the rest is the marks, for play
+ * the list of calls. For the converters the first number asks for the book in layout 2 or 1.
  */
 #ifndef ASPEN_FUZZ_H
 #define ASPEN_FUZZ_H

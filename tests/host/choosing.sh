@@ -70,9 +70,7 @@ done
 expect 2 "give --latest or --date, not both" restore box 0 none --latest --date 2026-01-08
 expect 2 "with --latest or --date there is no NUMBER" restore box 0 3 none --latest
 expect 2 "with --latest or --date there is no NUMBER" restore box 0 3 none --date 2026-01-08
-expect 2 "restore wants NUMBER, --latest, --date or --name; see aspenbox restore --help" restore box 0 none
-expect 2 "restore wants DIR [VOLUME [NUMBER]] OUT; see aspenbox restore --help" restore box none
-expect 2 "restore wants DIR [VOLUME [NUMBER]] OUT" restore box none --latest
+expect 2 "restore wants NUMBER, --latest or --date" restore box 0 none
 expect 2 "--date soon is no date like 2026-01-31" restore box 0 none --date soon
 expect 2 "--date 2026-02-30 is no date" list box --date 2026-02-30
 check "nothing came of what was refused" test ! -e none

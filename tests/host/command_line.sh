@@ -35,7 +35,7 @@ expect 0 "sound" audit -- --json
 expect 0 "Every command takes" --help
 cp "$work/out" help
 commands=$(awk '/^  aspenbox / { print $2 }' help)
-check "sixteen commands" test "$(wc -w <<<"$commands")" -eq 16
+check "fourteen commands" test "$(wc -w <<<"$commands")" -eq 14
 for command in $commands; do
     expect 0 "usage: aspenbox $command" "$command" --help
     check "the synopsis of $command is that of aspenbox --help" grep -qFx -- "  $(sed -n 's/^usage: //p' "$work/out")" help

@@ -3,7 +3,6 @@
 blocks AB >aid
 small_store box
 expect 0 "backup 1" backup box 0 aid --day-number 1
-expect 0 "named backup 1" name box 0 1 old
 cp -r box whole
 fresh() {
     rm -rf box
@@ -19,9 +18,9 @@ all_say() {
     done
 }
 changing=("enrol box 2 --keep 3" "backup box 0 aid --day-number 9" "collect box --day-number 9" "scrub box --heal aid" "upgrade box"
-    "retire box 0 --day-number 9 --yes" "retire box 0 --day-number 9" "name box 0 1 kept" "unname box old" "unname box old --yes")
+    "retire box 0 --day-number 9 --yes" "retire box 0 --day-number 9")
 book_only=("audit box" "tally box" "list box" "status box" "book box")
-with_pool=("read box 0 1 0" "restore box 0 1 out" "restore box --name old -" "scrub box")
+with_pool=("read box 0 1 0" "restore box 0 1 out" "scrub box")
 
 fresh
 poke box/book 0 07
@@ -47,8 +46,7 @@ for change in -1 +1; do
     truncate -s $change box/pool
     all_say 5 "refused 3: box/pool has $((2048 + change)) bytes where the book says 2048; nothing was written" \
         "backup box 0 aid --day-number 9" "scrub box --heal aid" "${with_pool[@]}"
-    all_say 0 "" "${book_only[@]}" "enrol box 2 --keep 3" "collect box --day-number 9" "name box 0 1 kept" "unname box old" \
-        "retire box 0 --day-number 9 --yes"
+    all_say 0 "" "${book_only[@]}" "enrol box 2 --keep 3" "collect box --day-number 9" "retire box 0 --day-number 9 --yes"
 done
 fresh
 rm box/pool

@@ -25,7 +25,7 @@ expect 1 "aspenbox_sound 1" status box --prometheus --older 3
 expect 0 "sound" audit box
 expect 0 "held 3" tally box
 expect 0 "" book box
-check "the book alone" same "$(wc -c <"$work/out")" 408
+check "the book alone" same "$(wc -c <"$work/out")" 280
 expect 0 '"book":"' book box --json
 poke box/pool 3 00
 expect 1 "1 damaged" scrub box
@@ -33,28 +33,8 @@ expect 0 "has its bytes back from aid" scrub box --heal aid
 poke box/pool 3 00
 expect 0 '"healed":1' backup box 1 aid --day-number 2 --json
 expect 0 "blocks freed: 1" collect box --day-number 13
-expect 0 "it is kept until the name is dropped" name box 0 --latest "né en mai"
-expect 0 '"used":2' name box 0 2 other --json
-expect 3 "refused 23" name box 0 2 other
-expect 3 "refused 16" name box 0 1 gone
-expect 2 "has 13 bytes and 12 are the most" name box 0 2 thirteen-long
-expect 2 "isn't UTF-8" name box 0 2 $'a\xff'
-expect 0 'named "né en mai", "other"' list box 0
-expect 0 '"names":["né en mai","other"]' list box 0 --json
-expect 0 '"né en mai" is backup 2 of volume 0' status box --warn 100
-expect 0 '"used":2' status box --warn 100 --json
-expect 0 "restored backup 2 of volume 0" restore box --name "né en mai" out --force
-expect 0 "CCCC" read box --name other 1
-expect 3 "refused 23" restore box --name none out --force
-expect 0 'is still named "other"' unname box "né en mai"
-expect 0 '"kept":true' unname box other --json
-expect 3 "refused 23" unname box other
-expect 0 "named" name box 1 1 leaving
-expect 2 'named "leaving", can be read as long as it has a name' retire box 1 --day-number 13
-expect 0 '"kept":[{"number":1,"kept_until":null}]' retire box 1 --day-number 13 --yes --json
-expect 0 "kept until its name is dropped" status box --warn 100
-expect 2 "then give --yes" unname box leaving
-expect 0 "can't be read any more" unname box leaving --yes
+expect 2 "give --yes" retire box 1 --day-number 13
+expect 0 '"ended":[1]' retire box 1 --day-number 13 --yes --json
 expect 3 "refused 5: volume 1 was retired" backup box 1 aid --day-number 14
 expect 3 "refused 16" restore box 1 --latest out --force
 expect 0 "was retired on 2026-01-14" list box 1
@@ -80,7 +60,7 @@ expect 0 "enrolled" enrol box 2 --keep 3
 truncate -s -1 box/book
 expect 5 '"refused":1,' audit box --json
 # Those of older layouts, damaged and whole.
-for layout in 1 2 3; do
+for layout in 1 2; do
     rm -r box
     cp -r "$here/layout$layout/box" box
     poke box/book 36 05
@@ -88,7 +68,7 @@ for layout in 1 2 3; do
     rm -r box
     cp -r "$here/layout$layout/box" box
     expect 5 "has layout $layout" list box
-    [ $layout = 3 ] || expect 2 "that can be read now; nothing was written" upgrade box
+    expect 2 "that can be read now; nothing was written" upgrade box
     expect 0 "upgraded" upgrade box --force
     cp "$here/layout$layout/box/book" box/book.$layout
     expect 0 '"notes":' upgrade box --json

@@ -1,6 +1,6 @@
 """Flips bits of a store's files, one after the other, and runs the program on each: flips.py PROGRAM STORE IMAGE FOLDER STEP.
 
-In book and lock list, and in turn collect, backup and restore have to notice the flip, and to leave all files as they are. After one in
+In book and lock list, collect, backup and restore each have to notice the flip, and to leave all files as they are. After one in
 the pool a restore tells of it or gives the right bytes, and a backup of the image heals it. Prints a line for each kind of
 flip, which starts with `good` if all is well.
 """
@@ -19,9 +19,6 @@ NOTICING = {
     "backup": (["backup", "box", "0", IMAGE, "--day", "2026-01-03"], (5,)),
     "restore": (["restore", "box", "0", "1", "out", "--force"], (1, 3, 5)),
 }
-
-# All look at the digest alike, so each bit is for `list` and for one of these: within three bits of any place each has its turn.
-TURNS = ["collect", "backup", "restore"]
 
 
 def content(path):
@@ -88,8 +85,7 @@ class Worker:
     def in_book_or_lock(self, name, bit):
         flipped = dict(WHOLE, **{name: flip(WHOLE[name], bit)})
         self.set_file(name, flipped[name])
-        for command in ("list", TURNS[bit % len(TURNS)]):
-            arguments, statuses = NOTICING[command]
+        for command, (arguments, statuses) in NOTICING.items():
             status, said = self.run(arguments)
             kept = self.same(flipped)
             problem = status not in statuses or b"put back a copy" not in said or not kept

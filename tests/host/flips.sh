@@ -32,7 +32,7 @@ unsound() {
 flip box/book $((36 + entry * 3)) 0
 unsound "its bytes don't fit their digest"
 
-# Every bit, one after the other: list, and one of collect, backup and restore. With ASPEN_EVERY set, every so many bits.
+# Every bit, one after the other: list, collect, backup and restore. With ASPEN_EVERY set, every so many bits.
 every_bit() {
     local memory line
     store=small

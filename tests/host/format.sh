@@ -6,10 +6,10 @@ expect 0 "made the store new: 4 blocks, volumes of 4 blocks, 6 backups, 8 change
     format new "${sizes[@]}" --day-zero 2026-02-28
 check "book, pool and lock and nothing else" same "$(ls new)" $'book\nlock\npool'
 # The book, and behind it the seal.
-check "length of the book" same "$(wc -c <new/book)" $((408 + 64))
+check "length of the book" same "$(wc -c <new/book)" $((280 + 64))
 expect 0 "" book new
-check "length of the book alone" same "$(wc -c <"$work/out")" 408
-check "the file starts with the book" cmp -n 408 new/book "$work/out"
+check "length of the book alone" same "$(wc -c <"$work/out")" 280
+check "the file starts with the book" cmp -n 280 new/book "$work/out"
 check "length of the pool" same "$(wc -c <new/pool)" 2048
 check "lock" same "$(head -2 new/lock)" $'aspenbox 1\nday-zero 2026-02-28'
 check "the lock's last line is the digest of those before it" same "$(tail -1 new/lock)" \
@@ -68,5 +68,5 @@ for pair in 2024-02-28:2024-02-29 2000-02-28:2000-02-29 2100-02-28:2100-03-01 20
 done
 store=largest
 expect 0 "made the store" format largest --blocks 4096 --cells 1024 --slots 1024 --journal 16384
-check "length of the largest book" same "$(wc -c <largest/book)" $((209060 + 64))
+check "length of the largest book" same "$(wc -c <largest/book)" $((208932 + 64))
 rm -r largest

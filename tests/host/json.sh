@@ -10,7 +10,7 @@ expect_json 0 'o == {"volume": 0, "number": 1, "day": 5, "date": "2026-01-06", "
 (blocks A && printf 'a short block') >aid
 expect_json 0 'o == {"volume": 0, "number": 2, "day": 6, "date": "2026-01-07", "bytes": 525, "blocks": 2, "sent": 1, "taken": 1, "touched": 2, "healed": 0}' \
     backup box 0 aid --day 2026-01-07
-expect_json 0 'o == {"day": 6, "date": "2026-01-07", "volumes": [{"volume": 0, "keep": 10, "backups": [{"number": 1, "day": 5, "date": "2026-01-06", "kept": True, "kept_until": "2026-01-16", "changed": 2, "names": []}, {"number": 2, "day": 6, "date": "2026-01-07", "kept": True, "kept_until": None, "changed": 1, "names": []}], "latest_takes": 2}]}' \
+expect_json 0 'o == {"day": 6, "date": "2026-01-07", "volumes": [{"volume": 0, "keep": 10, "backups": [{"number": 1, "day": 5, "date": "2026-01-06", "kept": True, "kept_until": "2026-01-16", "changed": 2}, {"number": 2, "day": 6, "date": "2026-01-07", "kept": True, "kept_until": None, "changed": 1}], "latest_takes": 2}]}' \
     list box
 expect_json 0 'bytes.fromhex(o["bytes"]) == b"B" * 512 and (o["volume"], o["number"], o["lbn"], o["block"], o["damaged"]) == (0, 1, 1, 1, False)' \
     read box 0 1 1
@@ -19,7 +19,7 @@ expect_json 0 'o == {"volume": 0, "number": 2, "out": "out", "bytes": 525, "bloc
 expect_json 0 'o == {"sound": True}' audit box
 expect_json 0 'o == {"blocks": 4, "held": 3, "free": 1, "waiting": 1, "references": 2}' tally box
 expect_json 0 'o == {"damaged": [], "held": 3, "healed": 0}' scrub box
-expect_json 0 'list(o) == ["book"] and len(bytes.fromhex(o["book"])) == 408' book box
+expect_json 0 'list(o) == ["book"] and len(bytes.fromhex(o["book"])) == 280' book box
 expect_json 0 'o == {"day": 17, "date": "2026-01-18", "freed": 1}' collect box --day-number 17
 expect_json 0 '[b["kept"] for b in o["volumes"][0]["backups"]] == [False, True]' list box 0
 expect_json 0 'list(o) == ["version"] and o["version"].startswith("aspenbox ") and o["version"].count("\n") == 0' --version
@@ -51,7 +51,7 @@ poke box/book 36 05
 expect_json 1 'o["sound"] is False and "digest" in o["fault"]' audit box
 expect_json 1 'len(o["volumes"]) == 1 and "digest" in o["notes"][0]' list box
 expect_json 1 'o["held"] == 2 and "digest" in o["notes"][0]' tally box
-expect_json 1 'len(o["book"]) == 816 and "digest" in o["notes"][0]' book box
+expect_json 1 'len(o["book"]) == 560 and "digest" in o["notes"][0]' book box
 expect_json 5 'o["error"]["status"] == 5 and "digest" in o["error"]["message"] and "refused" not in o["error"]' collect box --day-number 20
 poke box/book 0 09
 expect_json 5 'o["error"]["refused"] == 1' audit box

@@ -55,7 +55,7 @@ box() {
 expect() {
     local wanted=$1 text=$2 before
     shift 2
-    [ "$wanted" -lt 2 ] || before=$(content)
+    before=$(content)
     box "$@"
     if [ "$status" -ne "$wanted" ]; then
         cat "$work/out" "$work/err"
@@ -129,52 +129,6 @@ small_store() {
     expect 0 "made the store $store" format "$store" --blocks 4 --cells 4 --slots 6 --journal 8 --day-zero 2026-01-01
     expect 0 "enrolled volume 0" enrol "$store" 0 --keep 10
     expect 0 "enrolled volume 1" enrol "$store" 1 --keep 3
-}
-
-# A backup to `store`: image_backed VOLUME DAY LETTERS; the image is then in image.VOLUME.DAY
-image_backed() {
-    blocks "$3" >"image.$1.$2"
-    expect 0 "backup" backup "$store" "$1" "image.$1.$2" --day-number "$2"
-}
-
-# A store where volume 0 has three backups, and volume 1 shares a block with it.
-shared_store() {
-    store=$1
-    rm -rf "$store"
-    expect 0 "made" format "$store" --blocks 8 --cells 4 --slots 8 --journal 20 --day-zero 2026-01-01
-    expect 0 "enrolled volume 0" enrol "$store" 0 --keep 10
-    expect 0 "enrolled volume 1" enrol "$store" 1 --keep 3
-    image_backed 0 5 AB
-    image_backed 0 8 AC
-    image_backed 1 9 AX
-    image_backed 0 12 DC
-}
-
-# The notes that were told last, on lines of their own.
-notes() {
-    sed -n 's/^aspenbox: note: //p' "$work/err"
-}
-
-# A command on a terminal that asks, and another one while somebody thinks the answer over, which is yes:
-# thought_over "ASKING" OTHER.. The status of the first is then in `status`, and what it said in $work/screen.
-thought_over() {
-    local asking=$1 i
-    shift
-    mkfifo thinking
-    # What was asked before isn't the question that is waited for.
-    : >"$work/screen"
-    script -qec "$program $asking" /dev/null <thinking >"$work/screen" 2>&1 &
-    exec 7>thinking
-    for ((i = 0; i < 500; i++)); do
-        ! grep -qF "[y/N]" "$work/screen" || break
-        sleep 0.02
-    done
-    expect 0 "" "$@" --no-wait
-    echo yes >&7
-    exec 7>&-
-    status=0
-    wait $! || status=$?
-    rm thinking
 }
 
 # Whether what was printed last is in this file, byte for byte.

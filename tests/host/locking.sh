@@ -3,7 +3,6 @@
 small_store box
 blocks AB >aid
 expect 0 "backup" backup box 0 aid --day-number 1
-expect 0 "named" name box 0 1 old
 # held KIND COMMAND..: runs a command while the lock is held
 held() {
     local kind=$1
@@ -28,10 +27,6 @@ expect_held --shared 0 "sound" audit box --no-wait
 expect_held --shared 6 "another aspenbox uses the store" collect box --day-number 2 --no-wait
 expect_held --shared 6 "another aspenbox uses the store" retire box 0 --yes --day-number 2 --no-wait
 expect_held --shared 2 "give --yes" retire box 0 --day-number 2 --no-wait
-expect_held --shared 6 "another aspenbox uses the store" name box 0 1 kept --no-wait
-expect_held --shared 6 "another aspenbox uses the store" unname box old --yes --no-wait
-expect_held --exclusive 6 "another aspenbox uses the store" unname box old --no-wait
-expect_held --shared 0 "restored" restore box --name old out --force --no-wait
 expect_held --exclusive 6 "another aspenbox uses the store" backup box 0 aid --day-number 2 --no-wait
 expect_held --shared 6 "another aspenbox uses the store" upgrade box --no-wait
 expect_held --exclusive 6 "another aspenbox uses the store" read box 0 1 0 --no-wait

@@ -1,13 +1,11 @@
 # shellcheck shell=bash disable=SC2154
-# How the stores of older layouts were made. The scripts `make` in layout1, layout2 and layout3 read this file, and have `here`, which
-# is their folder.
+# How the stores of older layouts were made. layout1/make and layout2/make read this file, and have `here`, which is their folder.
 # shellcheck source-path=SCRIPTDIR source=lib.sh
 . "$here/../lib.sh"
 # shellcheck source-path=SCRIPTDIR source=images.sh
 . "$here/../images.sh"
 
-# Makes the store of the folder, and records what the program says of it: make_store PROGRAM "SIZE.." VOLUME:DAYS.. The file
-# `retirements`, where there is one, has a volume and a day in each line.
+# Makes the store of the folder, and records what the program says of it: make_store PROGRAM "SIZE.." VOLUME:DAYS..
 make_store() {
     local program sizes image volume day letters length command
     program=$(realpath "$1")
@@ -25,11 +23,6 @@ make_store() {
         "$program" backup box "$volume" "$image" --day-number "$day"
     done <backups
     rm "$image"
-    if [ -f retirements ]; then
-        while read -r volume day; do
-            "$program" retire box "$volume" --day-number "$day" --yes
-        done <retirements
-    fi
     "$program" collect box --day-number 30
     for command in list audit tally scrub; do
         "$program" $command box >"said.$command"

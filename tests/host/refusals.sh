@@ -43,9 +43,6 @@ expect 3 "refused 10: the journal has 1 of its 8 places left and this backup nee
 small_store full
 expect 0 "4 of 4 blocks sent, 4 new" backup full 0 ABCD --day-number 1
 expect 3 "refused 12: no free block; collect, or enlarge the pool" backup full 1 E --day-number 2
-expect 0 "named" name full 0 1 all
-expect 3 "refused 12: no free block; collect, drop a name that isn't needed any more, or enlarge the pool" backup full 1 E --day-number 2
-expect 0 "dropped" unname full all
 expect 0 "1 of 4 blocks sent, 0 new" backup full 0 ABCC --day-number 2
 expect 0 "blocks freed: 1" collect full --day-number 13
 expect 0 "1 of 1 blocks sent, 1 new" backup full 1 E --day-number 13

@@ -1,13 +1,35 @@
 # shellcheck shell=bash disable=SC2034,SC2154
 # An aid leaves: what retire tells before it does it, what it needs, and what is there of a volume afterwards.
 
+# back_up VOLUME DAY LETTERS: the image is then in image.VOLUME.DAY
+back_up() {
+    blocks "$3" >"image.$1.$2"
+    expect 0 "backup" backup "$store" "$1" "image.$1.$2" --day-number "$2"
+}
+# The notes that were told last, on lines of their own.
+notes() {
+    sed -n 's/^aspenbox: note: //p' "$work/err"
+}
+# A store where volume 0 has three backups, and volume 1 shares a block with it.
+left_aid() {
+    store=$1
+    rm -rf "$store"
+    expect 0 "made" format "$store" --blocks 8 --cells 4 --slots 8 --journal 20 --day-zero 2026-01-01
+    expect 0 "enrolled volume 0" enrol "$store" 0 --keep 10
+    expect 0 "enrolled volume 1" enrol "$store" 1 --keep 3
+    back_up 0 5 AB
+    back_up 0 8 AC
+    back_up 1 9 AX
+    back_up 0 12 DC
+}
+
 # ---- what is told, and that nothing is done without a yes
 
-shared_store box
+left_aid box
 lost="once volume 0 is retired, backup 1, of 2026-01-06, can't be read any more: its days end on 2026-01-16"
 stay="once volume 0 is retired, backups 2 to 3 can be read until their days end: 2 until 2026-01-19, and 3, the newest, until 2026-01-23"
 number="once volume 0 is retired, it takes no backup, and its number can't be used for another aid"
-expect 2 "retiring volume 0 can't be undone; nothing was written; restore or name what is still wanted of it, and then give --yes" \
+expect 2 "retiring volume 0 can't be undone; nothing was written; restore what is still wanted of it, and then give --yes" \
     retire box 0 --day-number 16
 check "what it would end" same "$(notes)" "$lost"$'\n'"$stay"$'\n'"$number"
 expect_json 2 'o["error"]["status"] == 2 and "--yes" in o["error"]["message"] and len(o["notes"]) == 3' retire box 0 --day-number 16
@@ -86,7 +108,7 @@ expect 3 "refused 16: volume 0 was retired on 2026-01-17 and no backup of it is 
 expect 0 "  restore --latest takes none: no backup is kept any more" list box 0
 expect_json 0 'o["volumes"][0]["latest_takes"] is None' list box 0
 restores 1 1 9
-image_backed 1 25 AXY
+back_up 1 25 AXY
 expect 0 "held 3" tally box
 
 # ---- an idle aid's newest backup is past its days, and ends at once
@@ -124,7 +146,7 @@ expect 3 "refused 15: volume 0 was retired without a backup" restore empty 0 --l
 
 # ---- days that aren't taken, and no room
 
-shared_store days
+left_aid days
 expect 3 "refused 7: volume 0 has a backup of 2026-01-13 already; retire it on a later day" retire days 0 --day-number 12 --yes
 expect 3 "refused 7: 2026-01-12 is before the box's day, 2026-01-13" retire days 0 --day-number 11 --yes
 expect 3 "refused 7: 2026-01-12 is before the box's day" retire days 0 --day-number 11
@@ -182,7 +204,7 @@ expect 0 "retired volume 3 on $(ago 0)" retire clinic 3 --yes
 
 # ---- a book that is at fault isn't written
 
-shared_store fault
+left_aid fault
 poke fault/book 36 05
 expect 5 "fault/book is damaged" retire fault 0 --day-number 16 --yes
 expect 5 "fault/book is damaged" retire fault 0 --day-number 16
@@ -200,7 +222,7 @@ answers() {
     check "retire that is answered by $(tr '\n' ' ' <"$3") ends with $wanted" same "$status" "$wanted"
     check "and says: $text" grep -qF "$text" "$work/screen"
 }
-shared_store asked
+left_aid asked
 content >as_it_was
 for no in no "" "yes please"; do
     echo "$no" >line
@@ -212,24 +234,36 @@ check "what it ends is told first" grep -qF "note: $lost" "$work/screen"
 check "it asks" grep -qF "Retire volume 0 of asked on 2026-01-17? This can't be undone. [y/N]" "$work/screen"
 check "nothing was written" same "$(content)" "$(cat as_it_was)"
 for yes in y YES; do
-    shared_store asked
+    left_aid asked
     echo "$yes" >line
     answers 0 "retired volume 0 on 2026-01-17" line
     expect 0 "was retired" list asked 0
 done
 # With --json nobody is asked.
-shared_store asked
+left_aid asked
 script -qec "$program retire asked 0 --day-number 16 --json" /dev/null <line >"$work/screen" 2>&1 || true
 check "no question with --json" grep -qF '"error":{"status":2' "$work/screen"
 expect 0 "keeps" list asked 0
 
 # The store isn't locked while somebody thinks it over, and what has changed by then is noticed.
 meanwhile() {
-    thought_over "retire asked 0 --day-number 16" backup asked "$1" aid --day-number 13
+    local status=0 i
+    mkfifo thinking
+    script -qec "$program retire asked 0 --day-number 16" /dev/null <thinking >"$work/screen" 2>&1 &
+    exec 7>thinking
+    for ((i = 0; i < 500; i++)); do
+        ! grep -qF "[y/N]" "$work/screen" || break
+        sleep 0.02
+    done
+    expect 0 "backup" backup asked "$1" aid --day-number 13 --no-wait
+    echo yes >&7
+    exec 7>&-
+    wait $! || status=$?
+    rm thinking
     check "retire after a backup of volume $1 meanwhile" same "$status" "$2"
     check "and says: $3" grep -qF "$3" "$work/screen"
 }
 meanwhile 0 2 "another command changed what there is of volume 0; nothing was written; give the command again"
 expect 0 "takes backup 4" list asked 0
-shared_store asked
+left_aid asked
 meanwhile 1 0 "retired volume 0 on 2026-01-17"

@@ -14,7 +14,6 @@ the box's day is $(ago 20); the book is sound
 pool         0 of    10 blocks held,   0 %
 slots        0 of    10 backups taken,   0 %
 journal      0 of    20 changes noted,   0 %
-names        0 of     8 given
 0 of the held blocks wait for a collection
 END
 check "a new store" printed wanted
@@ -33,7 +32,6 @@ the box's day is $(ago 1); the book is sound
 pool         6 of    10 blocks held,  60 %
 slots        3 of    10 backups taken,  30 %
 journal     11 of    20 changes noted,  55 %
-names        0 of     8 given
 1 of the held blocks wait for a collection
 volume 0: 2 backups, the newest of $(ago 10), 10 days ago
 volume 1: no backup yet
@@ -41,7 +39,7 @@ volume 7: 1 backup, the newest of $(ago 1), 1 day ago
 END
 check "status in words" printed wanted
 check "and no warning" test ! -s "$work/err"
-expect_json 0 'list(o) == ["store", "cells", "day_zero", "day", "date", "sound", "pool", "slots", "journal", "names", "waiting", "volumes", "warnings"]' status box
+expect_json 0 'list(o) == ["store", "cells", "day_zero", "day", "date", "sound", "pool", "slots", "journal", "waiting", "volumes", "warnings"]' status box
 expect_json 0 '(o["store"], o["cells"], o["day"], o["sound"], o["waiting"], o["warnings"]) == ("box", 8, 19, True, 1, 0)' status box
 expect_json 0 'o["pool"] == {"used": 6, "room": 10, "percent": 60} and o["slots"] == {"used": 3, "room": 10, "percent": 30} and o["journal"] == {"used": 11, "room": 20, "percent": 55}' \
     status box
@@ -63,9 +61,6 @@ aspenbox_used{part="journal"} 11
 aspenbox_room{part="pool"} 10
 aspenbox_room{part="slots"} 10
 aspenbox_room{part="journal"} 20
-# HELP aspenbox_names Names that are given, of 8.
-# TYPE aspenbox_names gauge
-aspenbox_names 0
 # HELP aspenbox_waiting_blocks Held blocks that wait for a collection.
 # TYPE aspenbox_waiting_blocks gauge
 aspenbox_waiting_blocks 1

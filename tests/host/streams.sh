@@ -8,8 +8,6 @@ blocks AC >aid2
 blocks AD >aid3
 expect 0 "backup 1" backup whole 0 aid1 --day 2026-01-02
 expect 0 "backup 2" backup whole 0 aid2 --day 2026-01-03
-# Backup 1 is past its days by the clock, and has a name.
-expect 0 "named backup 1" name whole 0 1 old
 # The block that only backup 1 has is damaged, so that restore has something to tell and scrub something to heal.
 poke whole/pool 700 00
 # The status with open streams, and the command.
@@ -19,9 +17,6 @@ commands=(
     "0 backup box 1 aid1 --day 2026-01-04 --json" "3 backup box 1 aid1 --day 2026-01-02 --json"
     "0 collect box --day 2026-01-20" "3 collect box --day 2026-01-01"
     "0 retire box 0 --day 2026-01-20 --yes" "2 retire box 0 --day 2026-01-20" "3 retire box 0 --day 2026-01-03 --yes --json"
-    "0 name box 0 2 new" "3 name box 0 3 new" "2 name box 0 2 far-too-long-a-name" "3 name box 0 2 old --json"
-    "2 unname box old" "0 unname box old --yes" "3 unname box new --json"
-    "1 restore box --name old out" "1 read box --name old 1 --json"
     "0 read box 0 2 0" "1 read box 0 1 1" "3 read box 0 1 3" "0 read box 0 2 0 --json"
     "0 restore box 0 2 out" "1 restore box 0 1 out --json" "1 restore box 0 1 -" "3 restore box 0 3 out"
     "2 restore box 0 2 box/pool --force" "0 restore box 0 out --latest"
@@ -78,7 +73,7 @@ for set in "${sets[@]}"; do
     check "format $set: lengths" same "$(wc -c new/lock new/book new/pool | awk '{ print $1 }')" \
         "$(wc -c open/lock open/book open/pool | awk '{ print $1 }')"
     check "format $set: pool" cmp new/pool open/pool
-    check "format $set: book" cmp -n 408 new/book open/book
+    check "format $set: book" cmp -n 280 new/book open/book
     check "format $set: lock" same "$(head -2 new/lock)" "$(head -2 open/lock)"
     expect 0 "sound" audit new
     cp -r new before

@@ -1,6 +1,6 @@
 # shellcheck shell=bash disable=SC2034,SC2154
-# upgrade: a store of layout 1, 2 or 3, as an earlier aspenbox left it (layout1/make, layout2/make, layout3/make), becomes one of
-# layout 4. It loses no backup that is kept from its own day on, and says before which others it ends.
+# upgrade: a store of layout 1 or 2, as an earlier aspenbox left it (layout1/make, layout2/make), becomes one of layout 3. It loses
+# no backup that is kept from its own day on, and says before which others it ends.
 # shellcheck source-path=SCRIPTDIR source=images.sh
 . "$here/images.sh"
 store=box
@@ -29,10 +29,9 @@ says_the_same() {
         check "$command as recorded" printed "$old/said.$command"
     done
     expect 0 "" list box
-    # Since layout 3 that is what was said before.
-    check "list by the backups' own days" printed "$old/$([ "$layout" = 3 ] && echo said || echo upgraded).list"
-    expect 0 "names        0 of     8 given" status box --warn 100
-    check "status as recorded" same "$(sed 's/, [0-9]* days ago$//; /^names /d' "$work/out")" "$(cat "$old/said.status")"
+    check "list by the backups' own days" printed "$old/upgraded.list"
+    expect 0 "" status box --warn 100
+    check "status as recorded" same "$(sed 's/, [0-9]* days ago$//' "$work/out")" "$(cat "$old/said.status")"
 }
 # Every backup that is kept restores to its image, and of every other it is said until when it was kept.
 reads_all() {
@@ -49,11 +48,7 @@ reads_all() {
                 restore box "$volume" $number out
         fi
     done 3<"$old/backups"
-    case $layout in
-    1) check "all backups" same "${numbers[*]}" "3 3 1 0 0" ;;
-    2) check "all backups" same "${numbers[*]}" "5 2 2 3 1" ;;
-    3) check "all backups" same "${numbers[*]}" "4 1 1 3 1" ;;
-    esac
+    check "all backups" same "${numbers[*]}" "$([ "$layout" = 1 ] && echo "3 3 1 0 0" || echo "5 2 2 3 1")"
 }
 keeps=(10 3 5 20 5)
 # until_of VOLUME DAY: the date of the last day on which a backup of this day is kept
@@ -66,7 +61,7 @@ ending() {
     while read -r volume day letters length becomes; do
         numbers[volume]=$((numbers[volume] + 1))
         [ "$becomes" != ends ] || echo "aspenbox: note: backup ${numbers[volume]} of volume $volume, of" \
-            "$(date -u -d "2026-01-01 +$day days" +%F), is past its days in layout 4: it was kept until $(until_of "$volume" "$day")"
+            "$(date -u -d "2026-01-01 +$day days" +%F), is past its days in layout 3: it was kept until $(until_of "$volume" "$day")"
     done <"$old/backups" | sort
 }
 
@@ -74,14 +69,13 @@ ending() {
 
 image ABXDYF 2900 >aid
 others=("enrol box 6 --keep 3" "backup box 0 aid --day-number 40" "collect box --day-number 40" "scrub box --heal aid" "scrub box"
-    "retire box 0 --day-number 40 --yes" "retire box 0 --day-number 40" "name box 0 3 old" "unname box old" "unname box old --yes"
-    "restore box --name old out" "read box 0 3 0" "restore box 0 3 out" "list box" "status box" "audit box" "tally box" "book box")
-for first in 1 2 3; do
+    "retire box 0 --day-number 40 --yes" "retire box 0 --day-number 40" "read box 0 3 0" "restore box 0 3 out" "list box" "status box" "audit box" "tally box" "book box")
+for first in 1 2; do
     from $first
     layout_is "$layout"
     for command in "${others[@]}"; do
         # shellcheck disable=SC2086
-        expect 5 "refused 1: box/book has layout $layout and this aspenbox takes layout 4; nothing was written; run aspenbox upgrade box first" $command
+        expect 5 "refused 1: box/book has layout $layout and this aspenbox takes layout 3; nothing was written; run aspenbox upgrade box first" $command
         check "and gives nothing" test ! -s "$work/out"
     done
     check "no file came of it" test ! -e out
@@ -97,40 +91,34 @@ for first in 1 2; do
     check "which these are" same "$(grep note: "$work/err" | sort)" "$(ending)"
     check "the store as it was" diff -r box "$old/box"
     expect_json 2 "o['error']['status'] == 2 and len(o['notes']) == ${many%% *} and 'backup' in o['notes'][0]" upgrade box
-    expect 0 "upgraded box from layout $layout to layout 4" upgrade box --force
+    expect 0 "upgraded box from layout $layout to layout 3" upgrade box --force
     check "they are named again" same "$(grep note: "$work/err" | sort)" "$(ending)"
 done
 
-# From layout 3 on no backup ends by it.
-from 3
-expect 0 "upgraded box from layout 3 to layout 4" upgrade box
-check "and there is nothing to note" test ! -s "$work/err"
-
 # ---- upgrade
 
-for first in 1 2 3; do
+for first in 1 2; do
     from $first
     chmod 640 box/book
-    expect 0 "upgraded box from layout $layout to layout 4" upgrade box --force
-    layout_is 4
+    expect 0 "upgraded box from layout $layout to layout 3" upgrade box --force
+    layout_is 3
     only_its_files
     check "the pool as it was" cmp box/pool "$old/box/pool"
     check "the lock as it was" cmp box/lock "$old/box/lock"
     check "the book's mode as it was" same "$(stat -c %a box/book)" 640
-    check "room for names, a byte more for an entry of layout 1, and the rest is as long as it was" same "$(wc -c <box/book)" \
-        $(($(wc -c <"$old/box/book") + 128 + (layout == 1 ? 16 : 0)))
+    check "an entry of layout 1 has a byte more, the rest is as long as it was" same "$(wc -c <box/book)" \
+        $(($(wc -c <"$old/box/book") + (layout == 1 ? 16 : 0)))
     says_the_same
     reads_all
     # A second time nothing is done.
     stat box box/* >stamps
-    expect 0 "box has layout 4 already" upgrade box
+    expect 0 "box has layout 3 already" upgrade box
     check "not a file was touched" same "$(stat box box/*)" "$(cat stamps)"
     fresh
-    expect_json 0 "('notes' in o) == ($layout < 3) and {k: o[k] for k in o if k != 'notes'} == {'store': 'box', 'from': $layout, 'to': 4}" upgrade box --force
-    expect_json 0 'o == {"store": "box", "from": 4, "to": 4}' upgrade box
+    expect_json 0 "o['notes'] and {k: o[k] for k in o if k != 'notes'} == {'store': 'box', 'from': $layout, 'to': 3}" upgrade box --force
+    expect_json 0 'o == {"store": "box", "from": 3, "to": 3}' upgrade box
     # What is past its days now is freed by the next collection, and nothing that is kept.
-    freed=(0 2 6 0)
-    expect 0 "blocks freed: ${freed[layout]}" collect box --day-number 30
+    expect 0 "blocks freed: $([ "$layout" = 1 ] && echo 2 || echo 6)" collect box --day-number 30
     expect 0 "sound" audit box
     reads_all
 done
@@ -144,7 +132,7 @@ bare() {
 }
 bare
 poke box/book 14 1f 00
-expect 0 "upgraded box from layout 1 to layout 4" upgrade box
+expect 0 "upgraded box from layout 1 to layout 3" upgrade box
 check "and there is nothing to note" test ! -s "$work/err"
 
 # It goes on: one block is in 255 cells already, and where layout 1 had no room for more it is in 300 then.
@@ -160,33 +148,17 @@ expect 0 "sound" audit box
 expect 0 "collected" collect box --day-number 35
 expect 0 "sound" audit box
 
-# It goes on with names: one for a backup on the last of its days, and for the newest of a retired volume.
-from 3
-expect 0 "upgraded" upgrade box
-expect 0 "named backup 3 of volume 0" name box 0 3 "last day"
-expect 0 "named backup 3 of volume 3" name box 3 3 left
-expect 0 "collected" collect box --day-number 40
-expect 0 "sound" audit box
-for backup in "0 last day:ABXDYF 2900" "3 left:OPS 1400"; do
-    name=${backup%:*}
-    # shellcheck disable=SC2086
-    image ${backup#*:} >wanted
-    expect 0 "restored backup 3 of volume ${name%% *}" restore box --name "${name#* }" out --force
-    check "backup ${name#* }" cmp out wanted
-done
-rm out
-
 # ---- what an upgrade that was cut off leaves
 
-for first in 1 2 3; do
+for first in 1 2; do
     from $first
     cp box/book "box/book.$layout"
     head -c 100 box/book >box/book.new
-    expect 0 "upgraded box from layout $layout to layout 4" upgrade box --force
+    expect 0 "upgraded box from layout $layout to layout 3" upgrade box --force
     only_its_files
     cp "$old/box/book" "box/book.$layout"
     expect 2 "box/book.$layout is a file of a store" restore box 0 3 "box/book.$layout" --force
-    expect 0 "box has layout 4 already" upgrade box
+    expect 0 "box has layout 3 already" upgrade box
     check "what was left is named" grep -q "note: removed the old book that an upgrade which was cut off had left" "$work/err"
     only_its_files
     reads_all
@@ -202,19 +174,17 @@ for first in 1 2 3; do
     check "the store as it was" diff -r box "$old/box"
 done
 
-# The versions that brought layouts 2 and 3 may have left one of an earlier layout.
-for first in 2 3; do
-    from $first
-    cp "$here/layout1/box/book" box/book.1
-    expect 0 "upgraded box from layout $layout to layout 4" upgrade box --force
-    only_its_files
-done
+# The version that brought layout 2 may have left one of layout 1.
+from 2
+cp "$here/layout1/box/book" box/book.1
+expect 0 "upgraded box from layout 2 to layout 3" upgrade box --force
+only_its_files
 
 # ---- a store of the first version: layout 1, no seal, a lock of three lines
 
 bare
 expect 5 "run aspenbox upgrade box first" restore box 0 3 out
-expect 0 "upgraded box from layout 1 to layout 4" upgrade box --force
+expect 0 "upgraded box from layout 1 to layout 3" upgrade box --force
 check "it has a digest now" same "$(tail -c 40 box/book | head -c 8)" aspnseal
 check "the lock has three lines still" same "$(wc -l <box/lock)" 3
 says_the_same
@@ -234,12 +204,12 @@ all_say() {
     done
     check "no file came of it" test ! -e out
 }
-for first in 1 2 3; do
+for first in 1 2; do
     from $first
     poke box/book 36 05
     all_say "box/book is damaged: its bytes don't fit their digest; nothing was written; put back a copy of the store; its layout is $layout"
     # An entry's state is behind its count.
-    for change in "$((36 + (layout == 1 ? 1 : 2))) 02" "18 01"; do
+    for change in "$((36 + layout)) 02" "18 01"; do
         fresh
         # shellcheck disable=SC2086
         poke box/book $change
@@ -255,20 +225,10 @@ bare
 poke box/book 38 77
 expect 0 "upgraded" upgrade box --force
 says_the_same
-# From layout 3 on they stay as they are, and a wrong one is seen: without the seal, whose digest would tell it first.
-from 3
-head -c $((36 + 21 * 32 + 16 * 300 + 8 * 20 + 6 * 400)) "$old/box/book" >box/book
-head -3 "$old/box/lock" >box/lock
-cp box/book sound
-poke box/book 39 77
-all_say "box/book is damaged: maps, counts or days don't agree with the journal; nothing was written; put back a copy of the store"
-cp sound box/book
-expect 0 "upgraded box from layout 3 to layout 4" upgrade box
-says_the_same
 bare
 truncate -s -1 box/book
 all_say "refused 1: box/book is no book: its layout number, length or sizes are wrong; nothing was written"
-for number in 00 02 03 04 05 ff; do
+for number in 00 02 03 04 ff; do
     bare
     poke box/book 0 $number
     all_say "refused 1: box/book is no book: its layout number, length or sizes are wrong; nothing was written"
@@ -277,7 +237,7 @@ done
 all_say "refused 1: box/book is no book"
 rm box/book
 expect 5 "box is no store: it has no book" upgrade box
-for first in 1 2 3; do
+for first in 1 2; do
     from $first
     rm -rf other
     expect 0 "made" format other --blocks 16 --cells 300 --slots 10 --journal 400

@@ -9,8 +9,6 @@ extern __typeof__(aspen_format) reference_format;
 extern __typeof__(aspen_enrol) reference_enrol;
 extern __typeof__(aspen_backup) reference_backup;
 extern __typeof__(aspen_retire) reference_retire;
-extern __typeof__(aspen_name) reference_name;
-extern __typeof__(aspen_unname) reference_unname;
 extern __typeof__(aspen_collect) reference_collect;
 extern __typeof__(aspen_read) reference_read;
 extern __typeof__(aspen_restore) reference_restore;
@@ -23,13 +21,11 @@ extern __typeof__(aspen_volume) reference_volume;
 extern __typeof__(aspen_backups) reference_backups;
 extern __typeof__(aspen_cells) reference_cells;
 extern __typeof__(aspen_blocks) reference_blocks;
-extern __typeof__(aspen_names) reference_names;
 extern __typeof__(aspen_play) reference_play;
 extern __typeof__(aspen_write_list) reference_write_list;
 extern __typeof__(aspen_convert_1_2) reference_convert_1_2;
 extern __typeof__(aspen_convert_2_1) reference_convert_2_1;
 extern __typeof__(aspen_convert_2_3) reference_convert_2_3;
-extern __typeof__(aspen_convert_3_4) reference_convert_3_4;
 
 /* A box as a seeded run of calls leaves it, with what the run would send next; the pointers are
  * good until the next one is made. */
@@ -38,14 +34,14 @@ struct reference_made {
     size_t book_len;
     const uint8_t *pool;
     size_t pool_len;
-    const uint8_t *list; /* of the next backup; for name and unname, the name */
+    const uint8_t *list;
     size_t list_len;
     uint16_t number[4]; /* in the order of the call's arguments */
 };
 
 /* Makes the box of a run, and disturbs its book so many times. Shape, seed and calls choose among
- * some hundred runs. `call` is 'e', 'b', 'c', 'r', 's', 't', 'n' or 'u' for enrol, backup, collect,
- * read, restore, retire, name and unname; others send no numbers. */
+ * some hundred runs. `call` is 'e', 'b', 'c', 'r', 's' or 't' for enrol, backup, collect, read,
+ * restore and retire; others send no numbers. */
 struct reference_made reference_make(uint8_t shape, uint16_t seed, uint8_t calls,
                                      uint8_t disturbed, uint8_t call);
 

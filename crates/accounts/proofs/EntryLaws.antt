@@ -14,7 +14,7 @@ use Rattle.book.specs.Book.{Entry}
 use Rattle.book.specs.Layout.{book_of}
 use Rattle.book.specs.FormFacts.{FormFacts}
 use Rattle.model.specs.Journal.{journal}
-use Rattle.model.specs.Audit.{counted_maps, until_in, count_sound, expiry_sound}
+use Rattle.model.specs.Audit.{until_in, count_sound, expiry_sound}
 use Rattle.due.specs.Expiries.{Raised}
 use Rattle.due.specs.Pool.{pool_blocks, number_at}
 use Rattle.accounts.specs.Counts.{Counted, count_of_block}
@@ -56,9 +56,9 @@ expiries-sound {b} f {a} c e =
     c.at p k ∙ ap (λ (z : ℕ). max z (until_in x p (journal x))) (get_or-replicate pool_blocks p 0 0 k) ∙ omega arith)
     ∙ sym (all-each (expiry_sound x) x.sizes.n)
 
--- counts from the maps, those behind names too, and expiries from the journal: two tests of audit
+-- counts from the maps and expiries from the journal: two tests of audit
 pub entries-sound : {b : List ℕ} → FormFacts b → {counts expiries : List ℕ} {t : Bool}
-    → Counted (replicate pool_blocks 0) (joined (counted_maps (book_of b))) counts
+    → Counted (replicate pool_blocks 0) (joined (book_of b).maps) counts
     → Raised (replicate pool_blocks 0) (λ p. until_in (book_of b) p (journal (book_of b))) expiries
     → t ≡ entries_match (book_of b).entries counts expiries (book_of b).sizes.n
     → t ≡ (all (count_sound (book_of b)) (up_from 0 (book_of b).sizes.n) && all (expiry_sound (book_of b)) (up_from 0 (book_of b).sizes.n))

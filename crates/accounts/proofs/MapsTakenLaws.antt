@@ -1,21 +1,20 @@
 -- Laws of specs/MapsTaken.antt.
 -- The maps gone through once: the test of their cells against a table, and a count for each block that they name.
 use Prim.Native.Nat.{ℕ, ◌+◌, ◌*◌, ◌<◌}
-use mathlib.Core.Path.{◌≡◌, sym, ap, ◌∙◌}
+use mathlib.Core.Path.{◌≡◌, sym, ◌∙◌}
 use mathlib.Core.Bool.{Bool, true, ◌&&◌}
 use mathlib.Core.List.{List}
 use native.Mathlib.Omega.{arith}
 use lib.ListN.{length, take, replicate, length-replicate, get_or-replicate}
 use Rattle.words.specs.Lists.{each}
 use Rattle.words.proofs.Each.{each_none, each-grow}
-use Rattle.words.proofs.Appends.{length-rows}
 use Rattle.words.specs.Lists.{joined}
 use Rattle.book.specs.Book.{volumes, Book}
 use Rattle.book.specs.Layout.{book_of}
 use Rattle.book.specs.FormFacts.{FormFacts}
 use Rattle.accounts.specs.Counts.{Counted}
 use Rattle.accounts.proofs.CountLaws.{counted_none, counted-row, counted-le, counted-rows}
-use Rattle.due.specs.Pool.{pool_blocks, OfPool}
+use Rattle.due.specs.Pool.{pool_blocks}
 use Rattle.replay.specs.Table.{row_size}
 use Rattle.accounts.specs.TableMaps.{row_matches, table_matches}
 use Rattle.accounts.specs.MapsTaken.{RowTaken, MapsTaken, AtMost}
@@ -53,21 +52,3 @@ module _ {b : List ℕ} (f : FormFacts b) {cells : List ℕ} {v : ℕ} {good : B
   pub taking_end : v ≡ volumes → MapsTaking (book_of b) cells v good a → MapsTaken (book_of b) cells good a
   unfolding table_matches
   taking_end e w = record { test = rw e at w.test; counts = counted-rows f (rw e at w.counts) }
-
--- what is counted next has room: the counters are the pool's, and none is above the cells of eight maps
-pub taken-few : {b : List ℕ} → FormFacts b → {cells : List ℕ} {good : Bool} {a : List ℕ} → MapsTaken (book_of b) cells good a
-    → OfPool a × AtMost (volumes * row_size) a
-taken-few {b} f {a = a} w =
-    let z = f.holds in
-    let ms = (book_of b).maps in
-    let long : length (joined ms) ≡ volumes * (book_of b).sizes.l =
-    length-rows (book_of b).sizes.l ms (λ v h. z.sized.cells v (omega (arith, z.sized.maps)))
-    ∙ ap (λ (n : ℕ). n * (book_of b).sizes.l) z.sized.maps in (
-      w.counts.long ∙ length-replicate {A = ℕ} pool_blocks 0,
-      λ p h. omega (
-        arith,
-        z.l,
-        long,
-        counted-le 0 p h (omega (arith, get_or-replicate {A = ℕ} pool_blocks p 0 0 h)) w.counts,
-      ),
-    )

@@ -15,7 +15,7 @@ use words::limits::{LAST_VOLUME, MAX_BLOCKS, MAX_LBNS, Table};
 use words::{LBN, PBN};
 
 // The block's count rises by 1; unmapped has none.
-pub fn count_one(counts: &mut Table, p: PBN)
+fn count_one(counts: &mut Table, p: PBN)
     requires { OfPool counts.old × (p.0 < pool_blocks → get_or counts.old p.0 0 < 65535) }
     ensures { Counted counts.old (p.0 ∷ []) counts.new }
 {

@@ -18,9 +18,8 @@ use Rattle.book.specs.Form.{form_number}
 use Rattle.book.proofs.Clauses.{book-parts}
 use Rattle.book.proofs.FormBytes.{book-form}
 use Rattle.book.specs.Layout.{book_of}
-use Rattle.model.specs.Calls.{Call, enrol, backup, collect, retire, name, unname, read, audit}
+use Rattle.model.specs.Calls.{Call, enrol, backup, collect, retire, read, audit}
 use Rattle.model.specs.OnBytes.{number_of, after, pool_number, enrol_bytes, backup_bytes, collect_bytes, retire_bytes}
-use Rattle.model.specs.OnBytes.{naming_bytes, dropping_bytes}
 use Rattle.model.specs.OnBytes.{read_bytes, read_number_bytes, read_place_bytes, restore_bytes, audit_bytes}
 use Rattle.claims.specs.Claims.{restored_at}
 use Rattle.model.specs.Kept.{kept_number}
@@ -110,8 +109,6 @@ answer-whole spare o (enrol v r) = changed_whole o (enrol_bytes o.book v r) _ (�
 answer-whole spare o (backup v t list) = changed_whole o (backup_bytes o.book o.pool spare v t list) _ (λ d. refl)
 answer-whole spare o (collect t) = changed_whole o (collect_bytes o.book t) _ (λ d. refl)
 answer-whole spare o (retire v t) = changed_whole o (retire_bytes o.book spare v t) _ (λ d. refl)
-answer-whole spare o (name v k t) = changed_whole o (naming_bytes o.book spare v k t) _ (λ b. refl)
-answer-whole spare o (unname t) = changed_whole o (dropping_bytes o.book spare t) _ (λ b. refl)
 answer-whole spare o (read v k lbn) = read_whole o.book o.pool v k lbn
 answer-whole spare o audit = go (audit_bytes o.book)
   where

@@ -12,13 +12,13 @@ use Rattle.words.specs.Numbers.{two}
 use Rattle.words.specs.Outcome.{Outcome, refused, accepted, and_then}
 use Rattle.words.specs.Sections.{part}
 use Rattle.book.specs.Layout.{book_of}
-use Rattle.model.specs.Calls.{enrol, backup, collect, retire, name, unname, read, audit}
+use Rattle.model.specs.Calls.{enrol, backup, collect, retire, read, audit}
 use Rattle.model.specs.OnBytes.{BackedBytes, CollectedBytes, RetiredBytes, number_of, book_after, enrol_bytes, backup_bytes, after}
-use Rattle.model.specs.OnBytes.{collect_bytes, retire_bytes, naming_bytes, dropping_bytes, read_bytes}
+use Rattle.model.specs.OnBytes.{collect_bytes, retire_bytes, read_bytes}
 use Rattle.model.specs.OnBytes.{read_number_bytes, audit_bytes, sound_after}
 use Rattle.model.specs.Pool.{block_at}
 use Rattle.model.specs.Read.{image}
-use Rattle.model.specs.Sides.{Step, step_of, read_answer, audit_answer, Ours, book_to, backed_to, collected_to, retired_to, ours}
+use Rattle.model.specs.Sides.{Step, step_of, read_answer, audit_answer, Ours, enrolled_to, backed_to, collected_to, retired_to, ours}
 use Rattle.calls.specs.Asked.{listed, reply_to, next_after}
 use Rattle.calls.specs.Answers.{answerBytes}
 use Rattle.calls.specs.Promises.{at}
@@ -31,7 +31,6 @@ use Rattle.auditor.specs.Promises.{Audited}
 use Rattle.restorer.specs.Promises.{Located}
 use Rattle.intake.specs.Promises.{BackedUp}
 use Rattle.retirer.specs.Promises.{RetiredBy}
-use Rattle.namer.specs.Promises.{NameGiven, NameDropped}
 use Rattle.answers.proofs.Blocks.{located_readable, located_offset, located_inside, read_is}
 use Rattle.answers.proofs.AnswersLaid.{answered-block, lent_length}
 
@@ -46,36 +45,17 @@ is b = b.exit.now
 abbrev By : Step Ours → List ℕ → ℕ → List ℕ → List ℕ → List ℕ → ℕ → Type 0
 By s out to x y out' r = (at x y ≡ s.next) × Stored out to (answerBytes s.answer) out' r
 
--- a call whose answer is its number alone
-book-told : (book : Lent (List ℕ)) (pool out : List ℕ) (to k : ℕ) {out' : List ℕ} {r : ℕ} → Stored out to (0 ∷ two k) out' r
-    → (o : Outcome (List ℕ)) → k ≡ number_of o → is book ≡ book_after o (was book)
-    → By (step_of (at (was book) pool) (and_then o (book_to (at (was book) pool)))) out to (is book) pool out' r
-unfolding step_of
-book-told book pool out to k s (refused j) n m = (ap (λ (x : List ℕ). at x pool) m, rw n at s)
-book-told book pool out to k s (accepted d) n m = (ap (λ (x : List ℕ). at x pool) m, rw n at s)
-
-module _ (book room : Lent (List ℕ)) (pool out : List ℕ) (to : ℕ) {out' : List ℕ} {r : ℕ} where
-  pub name_did : (v k : ℕ) (t : Lent (List ℕ)) (n : ℕ) → NameGiven book room v k t n → Stored out to (0 ∷ two n) out' r
-      → Did (length (was room)) (was book) pool (listed (name v k (was t))) out to (is book) pool out' r
-  unfolding reply_to next_after ours
-  name_did v k t n e s =
-      let g = book-told book pool out to n s (naming_bytes (was book) (length (was room)) v k (was t)) e.refusal e.book in
-      record { next = g.0; answer = g.1 }
-
-  pub unname_did : (t : Lent (List ℕ)) (n : ℕ) → NameDropped book room t n → Stored out to (0 ∷ two n) out' r
-      → Did (length (was room)) (was book) pool (listed (unname (was t))) out to (is book) pool out' r
-  unfolding reply_to next_after ours
-  unname_did t n e s =
-      let g = book-told book pool out to n s (dropping_bytes (was book) (length (was room)) (was t)) e.refusal e.book in
-      record { next = g.0; answer = g.1 }
-
 module _ (spare : ℕ) (book : Lent (List ℕ)) (pool out : List ℕ) (to : ℕ) {out' : List ℕ} {r : ℕ} where
   pub enrol_did : (v retention k : ℕ) → Enrolled book v retention k → Stored out to (0 ∷ two k) out' r
       → Did spare (was book) pool (listed (enrol v retention)) out to (is book) pool out' r
-  unfolding reply_to next_after ours
+  unfolding reply_to next_after ours step_of
   enrol_did v retention k e s =
-      let g = book-told book pool out to k s (enrol_bytes (was book) v retention) e.number e.book in
-      record { next = g.0; answer = g.1 }
+      let g = go (enrol_bytes (was book) v retention) e.number e.book in record { next = g.0; answer = g.1 }
+    where
+      go : (o : Outcome (List ℕ)) → k ≡ number_of o → is book ≡ book_after o (was book)
+          → By (step_of (at (was book) pool) (and_then o (enrolled_to (at (was book) pool)))) out to (is book) pool out' r
+      go (refused j) n m = (ap (λ (x : List ℕ). at x pool) m, rw n at s)
+      go (accepted d) n m = (ap (λ (x : List ℕ). at x pool) m, rw n at s)
 
   module _ (t : ℕ) (f : Lent ℕ) (k : ℕ) (e : Swept book t f k) where
     pub collect-refused : (k ≡ 0 → ⊥) → Stored out to (0 ∷ two k) out' r

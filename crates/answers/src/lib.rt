@@ -3,7 +3,7 @@
 ghost use Rattle.std.specs.Prelude.{◌+◌, ◌*◌, ◌≤◌, ◌∷◌, length};
 ghost use Rattle.words.specs.Numbers.{two};
 ghost use Rattle.words.specs.Laying.{Stored};
-ghost use Rattle.model.specs.Calls.{enrol, backup, collect, retire, name, unname, read, audit};
+ghost use Rattle.model.specs.Calls.{enrol, backup, collect, retire, read, audit};
 ghost use Rattle.calls.specs.Asked.{listed, restore};
 ghost use Rattle.calls.specs.Doing.{DidLent, DidSpared, DidAnySpare, DidAnyPool};
 
@@ -11,7 +11,6 @@ use engine::audit::aspen_audit;
 use engine::backup::aspen_backup;
 use engine::collect::aspen_collect;
 use engine::enrol::aspen_enrol;
-use engine::name::{aspen_name, aspen_unname};
 use engine::read::aspen_read;
 use engine::restore::aspen_restore;
 use engine::retire::aspen_retire;
@@ -77,36 +76,6 @@ pub fn answer_retire(
         return tell(answers, to, NUMBER, refusal);
     }
     tell(answers, to, GAVE, cells)
-}
-
-pub fn answer_name(
-    book: &mut [u8],
-    spare: &mut [u8],
-    v: u16,
-    number: u16,
-    text: &[u8],
-    answers: &mut [u8],
-    to: usize,
-) -> usize
-    requires { to + 3 ≤ length answers.old }
-    ensures { DidSpared book spare (listed (name v number text.now)) answers to result }
-{
-    let refusal = aspen_name(book, spare, v, number, text);
-    tell(answers, to, NUMBER, refusal)
-}
-
-pub fn answer_unname(
-    book: &mut [u8],
-    spare: &mut [u8],
-    text: &[u8],
-    answers: &mut [u8],
-    to: usize,
-) -> usize
-    requires { to + 3 ≤ length answers.old }
-    ensures { DidSpared book spare (listed (unname text.now)) answers to result }
-{
-    let refusal = aspen_unname(book, spare, text);
-    tell(answers, to, NUMBER, refusal)
 }
 
 pub fn answer_read(

@@ -1,5 +1,4 @@
 pub mod MapsReplayed
-pub mod CellsHeld
 pub mod AuditPasses
 pub mod WaysOut
 pub mod HeldPrints

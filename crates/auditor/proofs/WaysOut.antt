@@ -4,17 +4,15 @@ use mathlib.Core.Path.{◌≡◌, sym, ◌∙◌}
 use mathlib.Core.Bool.{Bool, true, false, ◌&&◌}
 use mathlib.Core.List.{List}
 use lib.ListN.{replicate}
-use Rattle.words.specs.Lists.{all, joined, up_from}
+use Rattle.words.specs.Lists.{all, up_from}
 use Rattle.book.specs.Book.{Book}
 use Rattle.book.specs.FormFacts.{FormFacts}
 use Rattle.book.specs.Layout.{book_of}
-use Rattle.model.specs.Audit.{named_maps, count_sound, expiry_sound, prints_sound, audit}
+use Rattle.model.specs.Audit.{count_sound, expiry_sound, prints_sound, audit}
 use Rattle.model.specs.Journal.{journal}
 use Rattle.model.specs.JournalAt.{taken_sound}
 use Rattle.auditor.proofs.AuditPasses.{no_cells, audit_passes, formed-audit}
-use Rattle.accounts.specs.Counts.{Counted}
 use Rattle.accounts.specs.Entries.{entries_match}
-use Rattle.accounts.proofs.CountLaws.{counted-both}
 use Rattle.accounts.proofs.EntryLaws.{entries-sound}
 use Rattle.accounts.specs.MapsTaken.{MapsTaken}
 use Rattle.replay.specs.Slots.{JournalTaken}
@@ -41,10 +39,9 @@ module _ {b : List ℕ} (f : FormFacts b) {j : Bool} {c e : List ℕ} (t : Journ
     unfolding audit_passes
     maps-no k = sym (formed-audit f ∙ rw (journal-yes, sym maps-test ∙ k))
 
-    module _ (m-yes : m ≡ true) {a' : List ℕ} (n : Counted a (joined (named_maps x)) a') {g : Bool}
-        (h : g ≡ entries_match x.entries a' e x.sizes.n) where
+    module _ (m-yes : m ≡ true) {g : Bool} (h : g ≡ entries_match x.entries a e x.sizes.n) where
       entries-test : g ≡ (all (count_sound x) (up_from 0 x.sizes.n) && all (expiry_sound x) (up_from 0 x.sizes.n))
-      entries-test = entries-sound f (counted-both x w.counts n) t.expiries h
+      entries-test = entries-sound f w.counts t.expiries h
 
       pub entries-no : g ≡ false → false ≡ audit x
       unfolding audit_passes

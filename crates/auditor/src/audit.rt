@@ -9,14 +9,13 @@ use super::prints::prints_sound;
 use accounts::maps::maps_match;
 use accounts::matching::entries_match;
 use form::form_number;
-use holdings::count_names;
 use replay::notes::CELLS;
 use replay::records::take_journal;
 use words::UNMAPPED;
 use words::limits::MAX_BLOCKS;
 
-// The records leave cells and expiries, the maps and the names leave counts. That no current map and no named backup names
-// a free block follows from form and the counts.
+// The records leave cells and expiries, the maps leave counts. That no current map names a free block follows from form
+// and the counts.
 fn is_sound(book: &[u8]) -> bool
     requires { FormFacts book.now }
     ensures { result ≡ audit (told book.entry) }
@@ -30,7 +29,6 @@ fn is_sound(book: &[u8]) -> bool
     if !maps_match(book, &cells, &mut counts) {
         return false;
     }
-    count_names(book, &mut counts);
     if !entries_match(book, &counts, &expiries) {
         return false;
     }

@@ -1,4 +1,4 @@
-// Audit (document 01, "Audit says yes exactly when"), in one pass each over the records, the maps, the names, the entries
-// and the held fingerprints.
+// Audit (document 01, "Audit says yes exactly when"), in one pass each over the records, the maps, the entries and the
+// held fingerprints.
 pub mod audit;
 mod prints;

@@ -29,7 +29,6 @@ on_day9 g = record {
   maps = [];
   slots = [];
   records = [];
-  names = [];
 }
 
 -- afters of a backup's two records, and of the one that retires the volume

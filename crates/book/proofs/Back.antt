@@ -1,7 +1,7 @@
 -- The second law of the layout: bytes that have the shape of a book are those of the book that they say.
 use mathlib.Core.Path.{◌≡◌, refl, sym, ap, ◌∙◌}
 use mathlib.Core.Bool.{Bool, true, false}
-use mathlib.Core.List.{List, [], ◌∷◌, ◌++◌, append-nil}
+use mathlib.Core.List.{List, [], ◌∷◌, ◌++◌}
 use Prim.Native.Nat.{ℕ, zero, suc, ◌+◌, ◌*◌, ◌≤◌, ◌<◌, ◌/◌, ◌%◌}
 use native.Mathlib.Nat.{zero-add, add-zero, add_assoc, mul-le-mul_right, suc-mul}
 use native.Mathlib.Numerals.{add-one}
@@ -15,11 +15,11 @@ use Rattle.words.specs.Lists.{joined}
 use Rattle.words.specs.Numbers.{two, num}
 use Rattle.words.specs.Sections.{flat, fit, tab, part}
 use Rattle.words.proofs.SectionLaws.{length-tab, get_or-tab, part-add, part_cons, part-tab, flat-tab, fit-tab, fit_all, joined-parts}
-use Rattle.book.specs.Book.{volumes, Sizes, free_entry, no_slot, no_rec, text_size, no_name, name_count, Sized}
+use Rattle.book.specs.Book.{volumes, Sizes, free_entry, no_slot, no_rec, Sized}
 use Rattle.book.specs.Layout.{header_size, count_size, entry_size, slot_size, rec_size, b_offset, u_offset, day_offset, cursor_offset}
 use Rattle.book.specs.Layout.{retention_offset, entries_from, entry_offset, maps_from, slots_from, slot_offset, records_from, rec_offset}
 use Rattle.book.specs.Layout.{state_byte, count_bytes, entry_bytes, map_bytes, slot_bytes, rec_bytes, bytes, sizes_of, count_in, entry_in}
-use Rattle.book.specs.Layout.{name_size, names_from, name_offset, name_bytes, entry_of, cell_of, slot_of, rec_of, name_of, book_of}
+use Rattle.book.specs.Layout.{entry_of, cell_of, slot_of, rec_of, book_of}
 use Rattle.book.proofs.Outline.{Outline}
 
 -- a state's byte, where it is 0 or 1
@@ -188,34 +188,12 @@ module _ (b : List ℕ) (small : (i : ℕ) → get_or b i 0 < 256) where
         (flat-tab z.j rec_size rec_bytes (λ q. rec_of b (rec_offset z q)) b (records_from z)
         (λ q hq. rec-part (rec_offset z q) (omega (arith, s.len))))
 
-    name-part : (o : ℕ) → o + name_size ≤ length b → name_bytes (name_of b o) ≡ part b o name_size
-    name-part o h =
-        let text : fit 0 text_size (tab text_size (λ i. get_or b (o + i) 0)) ≡ part b o text_size =
-        fit_all 0 text_size (tab text_size (λ i. get_or b (o + i) 0)) (length-tab text_size (λ i. get_or b (o + i) 0))
-        ∙ part-tab text_size b o (λ i. get_or b (o + i) 0) (omega arith) (λ i hi. refl)
-        in
-        let volume = two-part (o + 12) (omega arith) in
-        let number = two-part (o + 14) (omega arith) in
-        let four : o + 12 + 2 ≡ o + 14 = omega arith in
-        (λ i. text i ++ (volume i ++ (number i ++ [])))
-        ∙ ap (λ (r : List ℕ). part b o text_size ++ (part b (o + 12) 2 ++ r)) (append-nil (part b (o + 14) 2))
-        ∙ ap (λ (k : ℕ). part b o text_size ++ (part b (o + 12) 2 ++ part b k 2)) (sym four)
-        ∙ ap (λ (r : List ℕ). part b o text_size ++ r) (sym (part-add b (o + 12) 2 2))
-        ∙ sym (part-add b o text_size 4)
-
-    names-part : flat name_bytes (fit no_name (name_count g) (tab (name_count g) (λ q. name_of b (name_offset z q))))
-        ≡ part b (names_from z) (name_count g * name_size)
-    names-part =
-        rw (fit_all no_name (name_count g) (tab (name_count g) (λ q. name_of b (name_offset z q))) (length-tab (name_count g) (λ q. name_of b (name_offset z q))))
-        (flat-tab (name_count g) name_size name_bytes (λ q. name_of b (name_offset z q)) b (names_from z)
-        (λ q hq. name-part (name_offset z q) (omega (arith, s.len))))
-
     -- ---- the whole
 
     pub bytes-book : b ≡ bytes (book_of b)
     unfolding bytes book_of
     bytes-book =
-        let lengths = header_size ∷ volumes * 2 ∷ z.n * entry_size g ∷ volumes * (z.l * 2) ∷ z.s * slot_size ∷ z.j * rec_size ∷ name_count g * name_size ∷ [] in
+        let lengths = header_size ∷ volumes * 2 ∷ z.n * entry_size g ∷ volumes * (z.l * 2) ∷ z.s * slot_size ∷ z.j * rec_size ∷ [] in
         let whole = sym (joined-parts lengths b 0 (omega (arith, s.len))) in
         let head =
         (λ i. flat two
@@ -223,7 +201,7 @@ module _ (b : List ℕ) (small : (i : ℕ) → get_or b i 0 < 256) where
         ∷ length-tab (num b u_offset) (λ q. rec_of b (rec_offset z q)) i ∷ num b day_offset ∷ num b cursor_offset ∷ 0 ∷ []))
         ∙ head-part
         in
-        whole ∙ sym (λ i. joined (head i ∷ retentions-part i ∷ entries-part i ∷ maps-part i ∷ slots-part i ∷ records-part i ∷ names-part i ∷ []))
+        whole ∙ sym (λ i. joined (head i ∷ retentions-part i ∷ entries-part i ∷ maps-part i ∷ slots-part i ∷ records-part i ∷ []))
 
     pub sized-book : Sized (book_of b)
     unfolding book_of
@@ -238,8 +216,4 @@ module _ (b : List ℕ) (small : (i : ℕ) → get_or b i 0 < 256) where
           cells = λ v hv. rw (get_or-tab volumes row v [] hv) (length-tab z.l (cell_of b v));
           slots = rw (length-tab (num b b_offset) (λ q. slot_of b (slot_offset z q))) s.slots;
           records = rw (length-tab (num b u_offset) (λ q. rec_of b (rec_offset z q))) s.records;
-          names = length-tab (name_count g) (λ q. name_of b (name_offset z q));
-          texts =
-              λ q hq. rw (get_or-tab (name_count g) (λ q. name_of b (name_offset z q)) q no_name hq)
-              (length-tab text_size (λ i. get_or b (name_offset z q + i) 0));
         }

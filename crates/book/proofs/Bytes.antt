@@ -11,26 +11,21 @@ use Rattle.words.specs.Choice.{if◌then◌else◌}
 use Rattle.words.specs.Numbers.{two}
 use Rattle.words.proofs.SectionLaws.{start, get_or-joined, length_sect, get_or_sect, length-fit, inside}
 use Rattle.words.specs.Sections.{flat, fit}
-use Rattle.book.specs.Book.{volumes, Sizes, Entry, Slot, Rec, Name, Book, free_entry, no_slot, no_rec, no_name, name_count, entry_at}
-use Rattle.book.specs.Book.{cell_at, slot_at, rec_at, name_at, retention_of}
+use Rattle.book.specs.Book.{volumes, Sizes, Entry, Slot, Rec, Book, free_entry, no_slot, no_rec, entry_at, cell_at, slot_at, rec_at}
+use Rattle.book.specs.Book.{retention_of}
 use Rattle.book.specs.Layout.{header_size, entry_size, slot_size, rec_size, retention_offset, entries_from, entry_offset, maps_from}
 use Rattle.book.specs.Layout.{cell_offset, slots_from, slot_offset, records_from, rec_offset, book_size, rest_bytes, entry_bytes, map_bytes}
 use Rattle.book.specs.Layout.{slot_bytes}
-use Rattle.book.specs.Layout.{name_size, names_from, name_offset, rec_bytes, name_bytes, header_words, sections, bytes}
+use Rattle.book.specs.Layout.{rec_bytes, header_words, sections, bytes}
 
 -- "length: 36 + 20N + 16L + 8S + 6J" in layout 1, "21N in the length" in layout 2
 pub narrow_size : (z : Sizes) → z.layout ≡ 1 → book_size z ≡ 36 + 20 * z.n + 16 * z.l + 8 * z.s + 6 * z.j
-unfolding entry_size name_count
+unfolding entry_size
 narrow_size z e = rw e (omega arith)
 
 pub wide-size : (z : Sizes) → z.layout ≡ 2 → book_size z ≡ 36 + 21 * z.n + 16 * z.l + 8 * z.s + 6 * z.j
-unfolding entry_size name_count
+unfolding entry_size
 wide-size z e = rw e (omega arith)
-
--- with its name cells, in layout 4
-pub named-size : (z : Sizes) → z.layout ≡ 4 → book_size z ≡ 164 + 21 * z.n + 16 * z.l + 8 * z.s + 6 * z.j
-unfolding entry_size name_count
-named-size z e = rw e (omega arith)
 
 -- ---- the size of each element
 
@@ -54,9 +49,6 @@ slot-size t = refl
 pub rec-size : (r : Rec) → length (rec_bytes r) ≡ rec_size
 rec-size r = refl
 
-pub name-size : (n : Name) → length (name_bytes n) ≡ name_size
-name-size n = simp (length-append, length-fit)
-
 module _ (x : Book) where
   -- ---- the length of each section
 
@@ -78,9 +70,6 @@ module _ (x : Book) where
   pub records-long : length (flat rec_bytes (fit no_rec x.sizes.j x.records)) ≡ x.sizes.j * rec_size
   records-long = length_sect rec_size rec_bytes rec-size no_rec x.sizes.j x.records
 
-  pub names-long : length (flat name_bytes (fit no_name (name_count g) x.names)) ≡ name_count g * name_size
-  names-long = length_sect name_size name_bytes name-size no_name (name_count g) x.names
-
   -- ---- where each section starts
 
   pub start-entries : start (sections x) 2 ≡ entries_from
@@ -95,12 +84,9 @@ module _ (x : Book) where
   pub start-records : start (sections x) 5 ≡ records_from x.sizes
   start-records = rw (retentions-long, entries-long, maps-long, slots-long) (omega arith)
 
-  pub start-names : start (sections x) 6 ≡ names_from x.sizes
-  start-names = rw (retentions-long, entries-long, maps-long, slots-long, records-long) (omega arith)
-
   pub length-bytes : length (bytes x) ≡ book_size x.sizes
   unfolding bytes
-  length-bytes = simp length-append (rw (retentions-long, entries-long, maps-long, slots-long, records-long, names-long) (omega arith))
+  length-bytes = simp length-append (rw (retentions-long, entries-long, maps-long, slots-long, records-long) (omega arith))
 
   -- ---- the byte at each offset
 
@@ -146,9 +132,3 @@ module _ (x : Book) where
   get-rec q j i hq hj e =
       get_in 5 (records_from x.sizes) (x.sizes.j * rec_size) (q * rec_size + j) i start-records records-long (omega arith) (omega arith)
       ∙ get_or_sect rec_size rec_bytes rec-size no_rec x.sizes.j x.records q j hq hj
-
-  pub get-name : (q j i : ℕ) → q < name_count g → j < name_size → i ≡ name_offset x.sizes q + j
-      → get_or (bytes x) i 0 ≡ get_or (name_bytes (name_at x.names q)) j 0
-  get-name q j i hq hj e =
-      get_in 6 (names_from x.sizes) (name_count g * name_size) (q * name_size + j) i start-names names-long (omega arith) (omega arith)
-      ∙ get_or_sect name_size name_bytes name-size no_name (name_count g) x.names q j hq hj

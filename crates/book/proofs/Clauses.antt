@@ -14,8 +14,7 @@ use Rattle.words.specs.Sections.{part}
 use Rattle.book.specs.Book.{Book}
 use Rattle.book.specs.Layout.{n_offset, s_offset, j_offset, b_offset, u_offset, zero_offset, slot_size, rec_size, slot_offset, rec_offset}
 use Rattle.book.specs.Layout.{sizes_of}
-use Rattle.book.specs.Form.{retention_ok, entry_ok, pbn_ok, rec_ok, afters_ok, slot_ok, days_ok, pairs_ok, name_ok, names_differ, book_ok}
-use Rattle.book.specs.Form.{state_ok, second_ok, raw_ok}
+use Rattle.book.specs.Form.{retention_ok, entry_ok, pbn_ok, rec_ok, afters_ok, slot_ok, days_ok, pairs_ok, book_ok, state_ok, second_ok, raw_ok}
 use Rattle.book.specs.FormFacts.{BookParts}
 
 pub book-parts : (x : Book) → book_ok x ≡ true → BookParts x
@@ -30,11 +29,7 @@ book-parts x e =
     let c₇ = c₆ && days_ok x.slots in
     let c₈ = c₇ && pairs_ok 0 x.slots (length x.records) in
     let c₉ = c₈ && all (rec_ok x.sizes) x.records in
-    let c₁₀ = c₉ && afters_ok x.slots x.records in
-    let c₁₁ = c₁₀ && all (name_ok x) x.names in
-    let t₁₂ = and_true c₁₁ (names_differ x.names) e in
-    let t₁₁ = and_true c₁₀ (all (name_ok x) x.names) t₁₂.0 in
-    let t₁₀ = and_true c₉ (afters_ok x.slots x.records) t₁₁.0 in
+    let t₁₀ = and_true c₉ (afters_ok x.slots x.records) e in
     let t₉ = and_true c₈ (all (rec_ok x.sizes) x.records) t₁₀.0 in
     let t₈ = and_true c₇ (pairs_ok 0 x.slots (length x.records)) t₉.0 in
     let t₇ = and_true c₆ (days_ok x.slots) t₈.0 in
@@ -54,8 +49,6 @@ book-parts x e =
       pairs = t₈.1;
       records = t₉.1;
       afters = t₁₀.1;
-      names = t₁₁.1;
-      differ = t₁₂.1;
     }
 
 pub parts-book : (x : Book) → BookParts x → book_ok x ≡ true
@@ -71,9 +64,7 @@ parts-book x p =
       p.days,
       p.pairs,
       p.records,
-      p.afters,
-      p.names,
-    ) p.differ
+    ) p.afters
 
 -- what only the bytes show
 pub record RawParts (b : List ℕ) : Type 0 where

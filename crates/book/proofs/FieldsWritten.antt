@@ -9,22 +9,19 @@ use lib.Seq.{sets}
 use Rattle.words.specs.Blocks.{unmapped}
 use Rattle.words.specs.Lists.{joined}
 use Rattle.words.specs.Numbers.{two}
-use Rattle.words.proofs.SectionLaws.{start, sets-joined, sets_sect, sets_end, sets-whole, inside}
+use Rattle.words.proofs.SectionLaws.{start, sets-joined, sets_sect, sets_end, inside}
 use Rattle.words.specs.Sections.{flat, fit}
-use Rattle.book.specs.Book.{volumes, Entry, Slot, Rec, Name, Book, free_entry, no_slot, no_rec, no_name, name_count, entry_at, name_at}
+use Rattle.book.specs.Book.{volumes, Entry, Slot, Rec, Book, free_entry, no_slot, no_rec, entry_at}
 use Rattle.book.specs.Layout.{header_size, entry_size, slot_size, rec_size, b_offset, u_offset, day_offset, cursor_offset, retention_offset}
 use Rattle.book.specs.Layout.{entries_from, entry_offset, maps_from, cell_offset, slots_from, slot_offset, records_from, rec_offset}
-use Rattle.book.specs.Layout.{name_size, names_from, name_offset, entry_bytes, map_bytes, slot_bytes, rec_bytes, name_bytes, header_words}
-use Rattle.book.specs.Layout.{sections, bytes}
-use Rattle.book.specs.Next.{with_day, with_cursor, with_retention, with_entries, with_maps, with_slot, with_record, with_name}
-use Rattle.book.specs.Next.{with_cell}
+use Rattle.book.specs.Layout.{entry_bytes, map_bytes, slot_bytes, rec_bytes, header_words, sections, bytes}
+use Rattle.book.specs.Next.{with_day, with_cursor, with_retention, with_entries, with_maps, with_slot, with_record, with_cell}
 use Rattle.book.proofs.Bytes.{two_size, entry-size, map-size, slot-size, rec-size, retentions-long, entries-long, maps-long}
-use Rattle.book.proofs.Bytes.{slots-long, records-long, name-size, names-long, start-entries, start-maps, start-slots, start-records}
-use Rattle.book.proofs.Bytes.{start-names}
+use Rattle.book.proofs.Bytes.{slots-long, records-long, start-entries, start-maps, start-slots, start-records}
 
 module _ (x : Book) where
   -- a store at i is one at j of section k, which starts at o and has m bytes
-  set_in : (k o m j i : ℕ) (vs : List ℕ) → k < 7 → start (sections x) k ≡ o → length (get_or (sections x) k []) ≡ m
+  set_in : (k o m j i : ℕ) (vs : List ℕ) → k < 6 → start (sections x) k ≡ o → length (get_or (sections x) k []) ≡ m
       → j + length vs ≤ m → i ≡ o + j
       → sets (bytes x) i vs ≡ joined (set (sections x) k (sets (get_or (sections x) k []) j vs))
   unfolding bytes
@@ -116,18 +113,3 @@ module _ (x : Book) where
       ap (λ (b₁ : List ℕ). sets b₁ u_offset (two u)) here
       ∙ sets-joined (set (sections x) 5 rs) 0 u_offset (two u) (omega arith) (omega arith)
       ∙ ap (λ (k : ℕ). joined (set (set (sections x) 5 rs) 0 (sets (flat two (header_words x)) u_offset (two k)))) eu'
-
-  -- ---- a name cell
-
-  pub set-name : (q i : ℕ) (n : Name) → q < name_count g → length x.names ≡ name_count g → i ≡ name_offset x.sizes q
-      → sets (bytes x) i (name_bytes n) ≡ bytes (with_name q n x)
-  unfolding bytes with_name
-  set-name q i n hq hs e =
-      let long = name-size n in
-      let old = name-size (name_at x.names q) in
-      let whole : sets (name_bytes (name_at x.names q)) 0 (name_bytes n) ≡ name_bytes n =
-      sets-whole (name_bytes n) (name_bytes (name_at x.names q)) (long ∙ sym old) in
-      set_in 6 (names_from x.sizes) (name_count g * name_size) (q * name_size + 0) i (name_bytes n) (omega arith) (start-names x)
-      (names-long x) (rw long (omega arith)) (omega arith)
-      ∙ ap (λ (s : List ℕ). joined (set (sections x) 6 s))
-      (sets_sect name_size name_bytes name-size no_name (name_count g) x.names q 0 (name_bytes n) n hq (rw hs hq) (rw long (omega arith)) whole)

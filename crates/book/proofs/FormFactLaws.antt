@@ -3,15 +3,12 @@
 use Prim.Native.Nat.{ℕ, ◌<◌}
 use mathlib.Core.Path.{◌≡◌}
 use mathlib.Core.List.{List}
-use native.Mathlib.Omega.{arith}
 use lib.ListN.{get_or}
-use Rattle.book.specs.Book.{name_count}
 use Rattle.book.specs.Layout.{current, book_of}
 use Rattle.book.specs.Form.{form_as, form_number}
 use Rattle.book.proofs.Clauses.{book-parts}
 use Rattle.book.proofs.SizesIn.{sizes_as_lem}
 use Rattle.book.proofs.FormBytes.{holds_as, book_as}
-use Rattle.book.proofs.NameCells.{eight_cells}
 use Rattle.book.specs.FormFacts.{FormFactsAs, FormFacts}
 
 pub facts_as : (g : ℕ) (b : List ℕ) → ((i : ℕ) → get_or b i 0 < 256) → form_as g b ≡ 0 → FormFactsAs g b
@@ -25,7 +22,3 @@ facts_as g b small e =
 
 pub form-facts : (b : List ℕ) → ((i : ℕ) → get_or b i 0 < 256) → form_number b ≡ 0 → FormFacts b
 form-facts b small e = facts_as current b small e
-
--- a book of today's layout has its eight name cells
-pub names-now : {b : List ℕ} → FormFacts b → name_count (book_of b).sizes.layout ≡ 8
-names-now {b} f = eight_cells (book_of b).sizes.layout (omega (arith, f.layout))

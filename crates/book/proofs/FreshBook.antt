@@ -13,9 +13,9 @@ use Rattle.words.specs.Numbers.{two}
 use Rattle.words.proofs.Filling.{fit_none, flat-run}
 use Rattle.words.specs.Sections.{flat, fit}
 use Rattle.words.proofs.SectionLaws.{fit_all}
-use Rattle.book.specs.Book.{volumes, Sizes, Entry, Slot, Rec, Name, no_print, free_entry, no_slot, no_rec, no_name, name_count}
+use Rattle.book.specs.Book.{volumes, Sizes, Entry, Slot, Rec, no_print, free_entry, no_slot, no_rec}
 use Rattle.book.specs.Layout.{entry_size, slot_size, rec_size, entries_from, maps_from, entry_bytes, map_bytes, slot_bytes}
-use Rattle.book.specs.Layout.{name_size, rec_bytes, name_bytes, header_words, bytes, Is}
+use Rattle.book.specs.Layout.{rec_bytes, header_words, bytes, Is}
 use Rattle.book.specs.Next.{fresh}
 use Rattle.book.specs.FormFacts.{Bounds}
 use Rattle.book.proofs.Sizing.{sized_fresh}
@@ -39,10 +39,6 @@ slot-zero = refl
 pub rec_zero : rec_bytes no_rec ≡ zeros rec_size
 unfolding no_rec
 rec_zero = refl
-
-pub name-zero : name_bytes no_name ≡ zeros name_size
-unfolding no_name
-name-zero = refl
 
 map-unmapped : (l : ℕ) → map_bytes l (replicate l unmapped) ≡ replicate (l * 2) 255
 map-unmapped l =
@@ -69,19 +65,9 @@ module _ (z : Sizes) where
   records-zero : flat rec_bytes (fit no_rec z.j []) ≡ zeros (z.j * rec_size)
   records-zero = ap (λ (rs : List Rec). flat rec_bytes rs) (fit_none no_rec z.j) ∙ flat-run z.j rec_size 0 rec_bytes no_rec rec_zero
 
-  names-zero : flat name_bytes (fit no_name (name_count g) (replicate (name_count g) no_name)) ≡ zeros (name_count g * name_size)
-  names-zero =
-      ap (λ (ns : List Name). flat name_bytes ns)
-      (fit_all no_name (name_count g) (replicate (name_count g) no_name) (length-replicate (name_count g) no_name))
-      ∙ flat-run (name_count g) name_size 0 name_bytes no_name name-zero
-
-  -- what follows the maps
-  abbrev pub after_maps : ℕ
-  after_maps = z.s * slot_size + (z.j * rec_size + name_count g * name_size)
-
   -- zeros to the maps, 255 to the slots and zeros to the end, and then the layout number and the sizes
   pub bytes-fresh : sets
-      (zeros (maps_from z) ++ (replicate (volumes * (z.l * 2)) 255 ++ zeros after_maps))
+      (zeros (maps_from z) ++ (replicate (volumes * (z.l * 2)) 255 ++ zeros (z.s * slot_size + z.j * rec_size)))
       0
       (flat two (z.layout ∷ z.n ∷ z.l ∷ z.s ∷ z.j ∷ []))
       ≡ bytes (fresh z)
@@ -89,21 +75,17 @@ module _ (z : Sizes) where
   bytes-fresh =
       let low : zeros (maps_from z) ≡ zeros entries_from ++ zeros (z.n * entry_size g) =
       sym (replicate-append-replicate entries_from (z.n * entry_size g) 0) in
-      let rest : zeros (z.j * rec_size + name_count g * name_size) ≡ zeros (z.j * rec_size) ++ (zeros (name_count g * name_size) ++ []) =
-      sym (replicate-append-replicate (z.j * rec_size) (name_count g * name_size) 0)
-      ∙ ap (λ (r : List ℕ). zeros (z.j * rec_size) ++ r) (sym (append-nil (zeros (name_count g * name_size))))
-      in
-      let high : zeros after_maps ≡ zeros (z.s * slot_size) ++ (zeros (z.j * rec_size) ++ (zeros (name_count g * name_size) ++ [])) =
-      sym (replicate-append-replicate (z.s * slot_size) (z.j * rec_size + name_count g * name_size) 0)
-      ∙ ap (λ (r : List ℕ). zeros (z.s * slot_size) ++ r) rest
+      let high : zeros (z.s * slot_size + z.j * rec_size) ≡ zeros (z.s * slot_size) ++ (zeros (z.j * rec_size) ++ []) =
+      sym (replicate-append-replicate (z.s * slot_size) (z.j * rec_size) 0)
+      ∙ ap (λ (r : List ℕ). zeros (z.s * slot_size) ++ r) (sym (append-nil (zeros (z.j * rec_size))))
       in
       (λ i. sets (low i ++ (replicate (volumes * (z.l * 2)) 255 ++ high i)) 0 (flat two (z.layout ∷ z.n ∷ z.l ∷ z.s ∷ z.j ∷ [])))
       ∙ sym (λ i. joined
-      (flat two (header_words (fresh z)) ∷ flat two (zeros volumes) ∷ entries-zero i ∷ maps-unmapped i ∷ slots-zero i ∷ records-zero i ∷ names-zero i ∷ []))
+      (flat two (header_words (fresh z)) ∷ flat two (zeros volumes) ∷ entries-zero i ∷ maps-unmapped i ∷ slots-zero i ∷ records-zero i ∷ []))
 
 -- what a format leaves, whatever stood there before
 pub is-fresh : {b₁ b₂ : List ℕ} (z : Sizes) → Bounds z
-    → b₁ ≡ zeros (maps_from z) ++ (replicate (volumes * (z.l * 2)) 255 ++ zeros (after_maps z))
+    → b₁ ≡ zeros (maps_from z) ++ (replicate (volumes * (z.l * 2)) 255 ++ zeros (z.s * slot_size + z.j * rec_size))
     → b₂ ≡ sets b₁ 0 (flat two (z.layout ∷ z.n ∷ z.l ∷ z.s ∷ z.j ∷ []))
     → Is b₂ (fresh z)
 unfolding fresh

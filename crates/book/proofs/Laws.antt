@@ -1,27 +1,25 @@
 -- The first law of the layout: what a book's bytes say is that book.
-use mathlib.Core.Path.{◌≡◌, refl, sym, ap, ◌∙◌}
+use mathlib.Core.Path.{◌≡◌, refl, ap, ◌∙◌}
 use mathlib.Core.Bool.{Bool, true, false}
 use mathlib.Core.List.{[], ◌∷◌, ◌++◌}
 use Prim.Native.Nat.{ℕ, suc, ◌+◌, ◌<◌, ◌/◌, ◌%◌}
 use native.Mathlib.Nat.{add-zero}
 use native.Mathlib.Omega.{arith}
 use lib.Dec.{eqb}
-use lib.ListN.{length, get_or, get_or-append}
-use lib.Seq.{get_or-append-add}
+use lib.ListN.{length, get_or}
 use Rattle.words.specs.Blocks.{print_size, unmapped}
 use Rattle.words.specs.Choice.{if◌then◌else◌}
 use Rattle.words.specs.Numbers.{two, num}
 use Rattle.words.proofs.NumberLaws.{two_back}
-use Rattle.words.specs.Sections.{flat, fit, tab}
-use Rattle.words.proofs.SectionLaws.{tab-list, length-fit, get_or-fit}
-use Rattle.book.specs.Book.{volumes, Sizes, Entry, Book, free_entry, no_slot, no_rec, text_size, no_name, name_count, entry_at, cell_at, slot_at}
-use Rattle.book.specs.Book.{rec_at, name_at, retention_of, Sized}
+use Rattle.words.specs.Sections.{flat, tab}
+use Rattle.words.proofs.SectionLaws.{tab-list, get_or-fit}
+use Rattle.book.specs.Book.{volumes, Entry, Book, free_entry, no_slot, no_rec, entry_at, cell_at, slot_at, rec_at, retention_of, Sized}
 use Rattle.book.specs.Layout.{header_size, entry_size, slot_size, rec_size, n_offset, l_offset, s_offset, j_offset, b_offset, u_offset}
 use Rattle.book.specs.Layout.{day_offset}
 use Rattle.book.specs.Layout.{cursor_offset, zero_offset, retention_offset, entry_offset, cell_offset, slot_offset, rec_offset, state_byte}
 use Rattle.book.specs.Layout.{rest_bytes, entry_bytes, slot_bytes, rec_bytes, header_words, bytes, sizes_of, entry_in, entry_of, slot_of}
-use Rattle.book.specs.Layout.{rec_of, name_offset, name_bytes, name_of, book_of}
-use Rattle.book.proofs.Bytes.{get-head, get-retention, get-entry, get-cell, get-slot, get-rec, get-name}
+use Rattle.book.specs.Layout.{rec_of, book_of}
+use Rattle.book.proofs.Bytes.{get-head, get-retention, get-entry, get-cell, get-slot, get-rec}
 
 -- a state's byte read back
 state-back : (h : Bool) → eqb (state_byte h) 1 ≡ h
@@ -172,28 +170,6 @@ module _ (x : Book) where
         after = rec-num q 4 r.after hq (omega arith) refl refl i;
       }
 
-  name_back : (q : ℕ) → q < name_count x.sizes.layout → length (name_at x.names q).text ≡ text_size
-      → name_of (bytes x) (name_offset x.sizes q) ≡ name_at x.names q
-  name_back q hq hs =
-      let n = name_at x.names q in
-      let at = name_offset x.sizes q in
-      let rest = flat two (n.volume ∷ n.number ∷ []) in
-      let long : length (fit 0 text_size n.text) ≡ text_size = length-fit 0 text_size n.text in
-      let text : tab text_size (λ i. get_or (bytes x) (at + i) 0) ≡ n.text =
-      tab-list text_size (λ i. get_or (bytes x) (at + i) 0) n.text 0 hs
-      (λ i hi. get-name x q i (at + i) hq (omega arith) refl
-      ∙ get_or-append (fit 0 text_size n.text) rest 0 i (rw long hi) ∙ get_or-fit 0 text_size n.text i hi)
-      in
-      let past : (j i : ℕ) → j < 4 → i ≡ at + (12 + j) → get_or (bytes x) i 0 ≡ get_or rest j 0 =
-      λ j i hj e. get-name x q (12 + j) i hq (omega arith) e
-      ∙ ap (λ (k : ℕ). get_or (name_bytes n) (k + j) 0) (sym long) ∙ get_or-append-add (fit 0 text_size n.text) rest j 0
-      in
-      let volume : num (bytes x) (at + 12) ≡ n.volume =
-      rw (past 0 (at + 12) (omega arith) (omega arith), past 1 (at + 12 + 1) (omega arith) (omega arith)) (two_back n.volume) in
-      let number : num (bytes x) (at + 14) ≡ n.number =
-      rw (past 2 (at + 14) (omega arith) (omega arith), past 3 (at + 14 + 1) (omega arith) (omega arith)) (two_back n.number) in
-      λ i. record { text = text i; volume = volume i; number = number i }
-
   -- ---- the book
 
   pub book-bytes : Sized x → book_of (bytes x) ≡ x
@@ -224,11 +200,6 @@ module _ (x : Book) where
       (tab-list (length x.records) (λ q. rec_of b (rec_offset z q)) x.records no_rec refl
       (λ q hq. rec-back q (omega (arith, s.records))))
       in
-      let ns : tab (name_count (num b 0)) (λ q. name_of b (name_offset (sizes_of b) q)) ≡ x.names =
-      ap (λ (z : Sizes). tab (name_count z.layout) (λ q. name_of b (name_offset z q))) sizes-bytes
-      ∙ tab-list (name_count z.layout) (λ q. name_of b (name_offset z q)) x.names no_name s.names
-      (λ q hq. name_back q hq (s.texts q hq))
-      in
       λ i. record {
         sizes = sizes-bytes i;
         day = num-day i;
@@ -238,5 +209,4 @@ module _ (x : Book) where
         maps = ms i;
         slots = ts i;
         records = rs i;
-        names = ns i;
       }

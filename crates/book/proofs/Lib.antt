@@ -1,8 +1,6 @@
-pub mod ANameCell
 pub mod ARetireSlot
 pub mod AnEntry
 pub mod Widths
-pub mod NameCells
 pub mod SizesIn
 pub mod Bytes
 pub mod Laws

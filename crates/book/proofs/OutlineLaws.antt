@@ -10,7 +10,7 @@ use Rattle.words.specs.Choice.{if◌then◌else◌}
 use Rattle.words.specs.Numbers.{two}
 use Rattle.book.specs.Book.{Sizes, Entry, Slot, Rec, Book, no_slot, no_rec, entry_at, slot_at, rec_at, Sized}
 use Rattle.book.specs.Layout.{count_size, entry_size, slot_size, rec_size, entry_offset, slots_from, slot_offset, records_from, rec_offset}
-use Rattle.book.specs.Layout.{names_from, state_byte}
+use Rattle.book.specs.Layout.{book_size, state_byte}
 use Rattle.book.specs.Layout.{rest_bytes, entry_bytes, slot_bytes, rec_bytes, bytes}
 use Rattle.book.proofs.Bytes.{length-bytes, get-entry, get-slot, get-rec}
 use Rattle.book.proofs.Laws.{num-layout, num-n, num-l, num-s, num-j, num_b, num_u, num-zero}
@@ -42,7 +42,7 @@ module _ (x : Book) (s : Sized x) where
       ∙ ap (λ (l : List ℕ). get_or l j 0) slot-zero
       ∙ get_or-replicate slot_size j 0 0 (omega arith)
 
-  free-records : (i : ℕ) → rec_offset z (length x.records) ≤ i → i < names_from z → get_or (bytes x) i 0 ≡ 0
+  free-records : (i : ℕ) → rec_offset z (length x.records) ≤ i → i < book_size z → get_or (bytes x) i 0 ≡ 0
   free-records i h k =
       let q = (i - records_from z) / rec_size in
       let j = (i - records_from z) % rec_size in

@@ -10,11 +10,10 @@ use Rattle.words.specs.Blocks.{print_size, unmapped}
 use Rattle.words.specs.Numbers.{two, num}
 use Rattle.words.specs.Sections.{flat, tab, part}
 use Rattle.words.proofs.SectionLaws.{length-tab, get_or-tab, part-tab, inside}
-use Rattle.book.specs.Book.{volumes, free_entry, no_slot, no_rec, no_name, name_count, entry_at, cell_at, slot_at, rec_at, name_at}
-use Rattle.book.specs.Book.{retention_of}
+use Rattle.book.specs.Book.{volumes, free_entry, no_slot, no_rec, entry_at, cell_at, slot_at, rec_at, retention_of}
 use Rattle.book.specs.Layout.{n_offset, l_offset, s_offset, j_offset, b_offset, u_offset, day_offset, cursor_offset, retention_offset}
 use Rattle.book.specs.Layout.{current, count_size, entry_offset, current_offset, maps_from, cell_offset, slot_offset, rec_offset, sizes_of}
-use Rattle.book.specs.Layout.{name_offset, count_in, entry_in, entry_of, cell_of, slot_of, rec_of, name_of, book_of, HoldsWide, Holds}
+use Rattle.book.specs.Layout.{count_in, entry_in, entry_of, cell_of, slot_of, rec_of, book_of, HoldsWide, Holds}
 use Rattle.book.proofs.Back.{nums-part}
 use Rattle.book.proofs.Widths.{offset-now, offset-same, entry-same}
 
@@ -97,11 +96,6 @@ module _ (b : List ℕ) where
   pub rec-at : (q i : ℕ) → q < length (book_of b).records → i ≡ rec_offset (book_of b).sizes q → rec_of b i ≡ rec_at (book_of b).records q
   unfolding book_of
   rec-at q i hq e = rw e (sym (get_or-tab (num b u_offset) (λ q. rec_of b (rec_offset (sizes_of b) q)) q no_rec (rw u_at hq)))
-
-  pub name-at : (q i : ℕ) → q < name_count (book_of b).sizes.layout → i ≡ name_offset (book_of b).sizes q
-      → name_of b i ≡ name_at (book_of b).names q
-  unfolding book_of
-  name-at q i hq e = rw e (sym (get_or-tab (name_count (num b 0)) (λ q. name_of b (name_offset (sizes_of b) q)) q no_name hq))
 
 -- cell l of row v, both bytes, in maps of w cells
 pub cell_room : (v l w : ℕ) → v < volumes → l < w → v * (w * 2) + (l * 2 + 1) < volumes * (w * 2)

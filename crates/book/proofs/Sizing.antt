@@ -5,9 +5,9 @@ use Prim.Native.Nat.{ℕ, zero, suc, ◌<◌}
 use native.Mathlib.Omega.{arith}
 use lib.ListN.{length, get_or, set, replicate, length-set, length-append, length-replicate, get_or-replicate}
 use Rattle.words.specs.Blocks.{print_size, unmapped}
-use Rattle.book.specs.Book.{volumes, Sizes, Entry, Slot, Rec, Name, Book, no_print, free_entry, text_size, no_name, name_count, entry_at, Sized}
+use Rattle.book.specs.Book.{volumes, Sizes, Entry, Slot, Rec, Book, no_print, free_entry, entry_at, Sized}
 use Rattle.book.specs.Next.{with_day, with_cursor, with_retention, with_entries, with_maps, with_slot, with_record, count_as, expiry_as}
-use Rattle.book.specs.Next.{held_as, made_free, with_entry, with_cell, with_name, fresh}
+use Rattle.book.specs.Next.{held_as, made_free, with_entry, with_cell, fresh}
 
 -- ---- no change but a format touches the sizes
 
@@ -40,10 +40,6 @@ module _ (x : Book) where
   unfolding with_record
   sizes-record r = refl
 
-  pub sizes-name : (q : ℕ) (n : Name) → (with_name q n x).sizes ≡ x.sizes
-  unfolding with_name
-  sizes-name q n = refl
-
 -- ---- well sized again
 
 -- what holds of each element and of y holds of each after a store of y
@@ -66,8 +62,6 @@ module _ (x : Book) (s : Sized x) where
         cells = s.cells;
         slots = s.slots;
         records = s.records;
-        names = s.names;
-        texts = s.texts;
       }
 
   pub sized-cursor : (k : ℕ) → Sized (with_cursor k x)
@@ -81,8 +75,6 @@ module _ (x : Book) (s : Sized x) where
         cells = s.cells;
         slots = s.slots;
         records = s.records;
-        names = s.names;
-        texts = s.texts;
       }
 
   pub sized-retention : (v r : ℕ) → Sized (with_retention v r x)
@@ -96,8 +88,6 @@ module _ (x : Book) (s : Sized x) where
         cells = s.cells;
         slots = s.slots;
         records = s.records;
-        names = s.names;
-        texts = s.texts;
       }
 
   -- one law for every writer of an entry
@@ -113,8 +103,6 @@ module _ (x : Book) (s : Sized x) where
         cells = s.cells;
         slots = s.slots;
         records = s.records;
-        names = s.names;
-        texts = s.texts;
       }
 
   pub sized-count : (p c : ℕ) → p < x.sizes.n → Sized (with_entry (count_as c) p x)
@@ -146,8 +134,6 @@ module _ (x : Book) (s : Sized x) where
         cells = λ u hu. kept (λ (m : List ℕ). length m ≡ x.sizes.l) x.maps v u row [] long (s.cells u hu);
         slots = s.slots;
         records = s.records;
-        names = s.names;
-        texts = s.texts;
       }
 
   pub sized-slot : (t : Slot) → length x.slots < x.sizes.s → Sized (with_slot t x)
@@ -161,8 +147,6 @@ module _ (x : Book) (s : Sized x) where
         cells = s.cells;
         slots = rw length-append (omega arith);
         records = s.records;
-        names = s.names;
-        texts = s.texts;
       }
 
   pub sized-record : (r : Rec) → length x.records < x.sizes.j → Sized (with_record r x)
@@ -176,27 +160,10 @@ module _ (x : Book) (s : Sized x) where
         cells = s.cells;
         slots = s.slots;
         records = rw length-append (omega arith);
-        names = s.names;
-        texts = s.texts;
-      }
-
-  pub sized-name : (q : ℕ) (n : Name) → length n.text ≡ text_size → Sized (with_name q n x)
-  unfolding with_name
-  sized-name q n h =
-      record {
-        retentions = s.retentions;
-        entries = s.entries;
-        prints = s.prints;
-        maps = s.maps;
-        cells = s.cells;
-        slots = s.slots;
-        records = s.records;
-        names = length-set x.names q n ∙ s.names;
-        texts = λ r hr. kept (λ (m : Name). length m.text ≡ text_size) x.names q r n no_name h (s.texts r hr);
       }
 
 pub sized_fresh : (z : Sizes) → Sized (fresh z)
-unfolding fresh free_entry no_print no_name
+unfolding fresh free_entry no_print
 sized_fresh z =
     record {
       retentions = refl;
@@ -206,6 +173,4 @@ sized_fresh z =
       cells = λ v hv. ap length (get_or-replicate volumes v (replicate z.l unmapped) [] hv) ∙ length-replicate z.l unmapped;
       slots = omega arith;
       records = omega arith;
-      names = length-replicate (name_count z.layout) no_name;
-      texts = λ q hq. ap (λ (n : Name). length n.text) (get_or-replicate (name_count z.layout) q no_name no_name hq);
     }

@@ -1,5 +1,5 @@
 -- A book's bytes in four pieces: the layout number, what follows it up to the entries, the entries, and what follows them. Layouts differ
--- in the first, in the counts of the third, and in how many name cells the fourth ends with.
+-- in the first and in the counts of the third.
 use Prim.Native.Nat.{ℕ, ◌+◌, ◌*◌, ◌≤◌, ◌<◌}
 use mathlib.Core.Path.{◌≡◌, sym, ap, subst, ◌∙◌}
 use mathlib.Core.List.{List, [], ◌∷◌, ◌++◌, append_assoc}
@@ -11,9 +11,9 @@ use Rattle.words.proofs.SectionLaws.{length_sect, fit_all}
 use Rattle.words.specs.Lists.{joined}
 use Rattle.words.specs.Numbers.{two}
 use Rattle.words.specs.Sections.{flat, fit, part}
-use Rattle.book.specs.Book.{volumes, Entry, Book, free_entry, no_slot, no_rec, no_name, name_count, entry_at, Sized}
+use Rattle.book.specs.Book.{volumes, Entry, Book, free_entry, no_slot, no_rec, entry_at, Sized}
 use Rattle.book.specs.Layout.{count_size, entry_size, entries_from, entry_offset, count_bytes, entry_bytes, map_bytes, slot_bytes}
-use Rattle.book.specs.Layout.{rec_bytes, name_bytes, bytes, count_in, book_of, HoldsWide}
+use Rattle.book.specs.Layout.{rec_bytes, bytes, count_in, book_of, HoldsWide}
 use Rattle.book.proofs.Back.{rest_part}
 use Rattle.book.proofs.Bytes.{entry-size, retentions-long}
 use Rattle.book.proofs.Outline.{Outline}
@@ -32,7 +32,6 @@ tail x =
     (flat (map_bytes x.sizes.l) (fit [] volumes x.maps)
     ∷ flat slot_bytes (fit no_slot x.sizes.s x.slots)
     ∷ flat rec_bytes (fit no_rec x.sizes.j x.records)
-    ∷ flat name_bytes (fit no_name (name_count x.sizes.layout) x.names)
     ∷ [])
 
 module _ (x : Book) (s : Sized x) where

@@ -7,16 +7,16 @@ use lib.Seq.{sets}
 use Rattle.words.specs.Blocks.{print_size}
 use Rattle.words.specs.Numbers.{two, put}
 use Rattle.words.proofs.Filling.{put-sets}
-use Rattle.book.specs.Book.{volumes, Slot, Rec, Name, Book, text_size, name_count}
+use Rattle.book.specs.Book.{volumes, Slot, Rec, Book}
 use Rattle.book.specs.Layout.{current, count_size, b_offset, u_offset, day_offset, cursor_offset, retention_offset, entry_offset}
 use Rattle.book.specs.Layout.{current_offset, cell_offset, slot_offset, rec_offset, count_bytes, slot_bytes, rec_bytes, bytes, book_of}
-use Rattle.book.specs.Layout.{name_offset, name_bytes, Holds, Is}
+use Rattle.book.specs.Layout.{Holds, Is}
 use Rattle.book.specs.Next.{with_day, with_cursor, with_retention, with_entries, with_maps, with_slot, with_record, count_as, expiry_as}
-use Rattle.book.specs.Next.{held_as, made_free, with_entry, with_cell, with_name}
-use Rattle.book.proofs.FieldsWritten.{set-day, set-cursor, set-retention, set-cell, add-slot, add-record, set-name}
+use Rattle.book.specs.Next.{held_as, made_free, with_entry, with_cell}
+use Rattle.book.proofs.FieldsWritten.{set-day, set-cursor, set-retention, set-cell, add-slot, add-record}
 use Rattle.book.proofs.Entries.{set-count, set-expiry, set-held, set-freed}
 use Rattle.book.proofs.Sizing.{sized-day, sized-cursor, sized-retention, sized-count, sized-expiry, sized-held, sized-freed}
-use Rattle.book.proofs.Sizing.{sized-cell, sized-slot, sized-record, sized-name}
+use Rattle.book.proofs.Sizing.{sized-cell, sized-slot, sized-record}
 use Rattle.book.proofs.Holding.{is-bytes, bounds-holds}
 use Rattle.book.proofs.Widths.{offset-now, offset-same, count_same}
 
@@ -111,10 +111,3 @@ module _ {b : List ℕ} (h : Holds b) where
       is-bytes (with_record r x) (sized-record x h.sized r hs) (bounds-holds h)
       (e₂ ∙ put-sets b₁ u_offset n ∙ ap (λ (l : List ℕ). sets l u_offset (two n)) (e₁ ∙ ap (λ (l : List ℕ). sets l i (rec_bytes r)) h.same)
       ∙ add-record x r i n hs ei en)
-
-  pub is_name : {b₁ : List ℕ} (q i : ℕ) (n : Name) → q < name_count x.sizes.layout → length n.text ≡ text_size
-      → i ≡ name_offset x.sizes q → b₁ ≡ sets b i (name_bytes n) → Is b₁ (with_name q n x)
-  unfolding with_name
-  is_name q i n hq ht ei e =
-      is-bytes (with_name q n x) (sized-name x h.sized q n ht) (bounds-holds h)
-      (e ∙ ap (λ (l : List ℕ). sets l i (name_bytes n)) h.same ∙ set-name x q i n hq h.sized.names ei)

@@ -1,7 +1,6 @@
 -- What a book holds (document 01, "The book"), with no byte in it.
-use Rattle.std.specs.Prelude.{ℕ, ◌≤◌, ◌<◌, ◌≡◌, Bool, false, not, List, [], leb, eqb, length, get_or, replicate}
+use Rattle.std.specs.Prelude.{ℕ, ◌≤◌, ◌<◌, ◌≡◌, Bool, false, not, List, [], length, get_or, replicate}
 use Rattle.words.specs.Blocks.{print_size, unmapped}
-use Rattle.words.specs.Choice.{if◌then◌else◌}
 
 -- volumes 0 to 7
 abbrev pub volumes : ℕ
@@ -38,12 +37,6 @@ pub record Rec : Type 0 where
   pub before : ℕ
   pub after : ℕ
 
--- a name cell: "12 of name, then volume and number as u16" (document 02, K7). The number is that of the backup that is called so
-pub record Name : Type 0 where
-  pub text : List ℕ
-  pub volume : ℕ
-  pub number : ℕ
-
 -- the book; slots and records are the used ones, so that B is length slots and U is length records
 pub record Book : Type 0 where
   pub sizes : Sizes
@@ -54,7 +47,6 @@ pub record Book : Type 0 where
   pub maps : List (List ℕ)
   pub slots : List Slot
   pub records : List Rec
-  pub names : List Name
 
 -- what stands where nothing was written
 unfoldable pub no_print : List ℕ
@@ -68,17 +60,6 @@ no_slot = record { volume = 0; retire = false; day = 0; first = 0; number = 0 }
 
 unfoldable pub no_rec : Rec
 no_rec = record { lbn = 0; before = 0; after = 0 }
-
-abbrev pub text_size : ℕ
-text_size = 12
-
--- "An unused cell is all zero"
-unfoldable pub no_name : Name
-no_name = record { text = replicate text_size 0; volume = 0; number = 0 }
-
--- "Eight name cells of 16 bytes .. follow the journal; layout is 4"
-unfoldable pub name_count : ℕ → ℕ
-name_count g = if leb 4 g then 8 else 0
 
 -- looking things up
 abbrev pub entry_at : List Entry → ℕ → Entry
@@ -96,13 +77,6 @@ slot_at ts q = get_or ts q no_slot
 abbrev pub rec_at : List Rec → ℕ → Rec
 rec_at rs q = get_or rs q no_rec
 
-abbrev pub name_at : List Name → ℕ → Name
-name_at ns q = get_or ns q no_name
-
--- "a name's first byte isn't zero"
-unfoldable pub is_used : Name → Bool
-is_used n = not (eqb (get_or n.text 0 0) 0)
-
 abbrev pub retention_of : Book → ℕ → ℕ
 retention_of x v = get_or x.retentions v 0
 
@@ -115,5 +89,3 @@ pub record Sized (x : Book) : Type 0 where
   pub cells : (v : ℕ) → v < volumes → length (get_or x.maps v []) ≡ x.sizes.l
   pub slots : length x.slots ≤ x.sizes.s
   pub records : length x.records ≤ x.sizes.j
-  pub names : length x.names ≡ name_count x.sizes.layout
-  pub texts : (q : ℕ) → q < name_count x.sizes.layout → length (name_at x.names q).text ≡ text_size

@@ -16,15 +16,14 @@
 --   unused slots and records are zero                           raw_ok
 --   a slot's second byte is zero, in a retire slot 1            raw_ok: second_ok
 --   the spare header field is zero                              raw_ok: zero_offset
---   name cells are unused or name a backup; names differ        book_ok: name_ok, names_differ
 -- raw_ok has what only the bytes show, book_ok what the book that they say shows.
-use Rattle.std.specs.Prelude.{ℕ, ◌+◌, ◌-◌, ◌*◌, Bool, true, not, ◌&&◌, ◌||◌, List, [], ◌∷◌, map, length, get_or, take, drop, leb, ltb, eqb}
+use Rattle.std.specs.Prelude.{ℕ, ◌+◌, ◌-◌, ◌*◌, Bool, true, not, ◌&&◌, ◌||◌, List, [], ◌∷◌, length, get_or, take, drop, leb, ltb, eqb}
 use Rattle.words.specs.Blocks.{unmapped}
 use Rattle.words.specs.Choice.{if◌then◌else◌}
-use Rattle.words.specs.Lists.{all, all_zero, those, count_of, differ, up_from}
+use Rattle.words.specs.Lists.{all, all_zero, up_from}
 use Rattle.words.specs.Numbers.{num}
 use Rattle.words.specs.Sections.{part}
-use Rattle.book.specs.Book.{Sizes, Entry, Slot, Rec, Name, Book, is_used, retention_of}
+use Rattle.book.specs.Book.{Sizes, Entry, Slot, Rec, Book, retention_of}
 use Rattle.book.specs.Layout.{current, header_size, count_size, slot_size, rec_size, b_offset, u_offset, zero_offset, entry_offset}
 use Rattle.book.specs.Layout.{slot_offset, rec_offset, book_size, sizes_of, book_of}
 
@@ -89,20 +88,6 @@ abbrev pub pairs_ok : ℕ → List Slot → ℕ → Bool
 pairs_ok at [] u = eqb at u
 pairs_ok at (t ∷ ts) u = eqb t.first at && pairs_ok (at + t.number) ts u
 
--- how many backups of volume v the book has: a retire slot is none
-unfoldable pub backup_slots : Book → ℕ → ℕ
-backup_slots x v = count_of (λ (t : Slot). eqb t.volume v && not t.retire) x.slots
-
--- "An unused cell is all zero"; each name "names a backup in the book" (document 02, K7)
-unfoldable pub name_ok : Book → Name → Bool
-name_ok x n =
-    if is_used n then between 1 (backup_slots x n.volume) n.number else
-    (all_zero n.text && eqb n.volume 0 && eqb n.number 0)
-
--- "names differ"
-unfoldable pub names_differ : List Name → Bool
-names_differ ns = differ (map (λ (n : Name). n.text) (those is_used ns))
-
 unfoldable pub book_ok : Book → Bool
 book_ok x =
     leb x.day 60000
@@ -115,8 +100,6 @@ book_ok x =
     && pairs_ok 0 x.slots (length x.records)
     && all (rec_ok x.sizes) x.records
     && afters_ok x.slots x.records
-    && all (name_ok x) x.names
-    && names_differ x.names
 
 -- ---- number 2, as far as only the bytes show it: "B ≤ S, U ≤ J", "states are 0 or 1", "unused slots and records .. and the spare header field are
 -- zero"; a slot's second byte is zero, or 1 in a retire slot

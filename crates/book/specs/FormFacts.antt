@@ -1,7 +1,7 @@
 -- What a call knows of a book in form (the representation invariant), in facts: the tests of Form.antt, clause by clause.
 use Rattle.std.specs.Prelude.{ℕ, ◌*◌, ◌<◌, ◌≤◌, ◌≡◌, List, length, true}
 use Rattle.book.specs.Layout.{current, header_size, count_size, entry_size, n_offset, book_size, sizes_of, book_of, HoldsWide}
-use Rattle.book.specs.Form.{retention_ok, entry_ok, pbn_ok, rec_ok, afters_ok, slot_ok, days_ok, pairs_ok, name_ok, names_differ}
+use Rattle.book.specs.Form.{retention_ok, entry_ok, pbn_ok, rec_ok, afters_ok, slot_ok, days_ok, pairs_ok}
 use Rattle.book.specs.Book.{Sizes, Book}
 use Rattle.words.specs.Numbers.{num}
 use Rattle.words.specs.Lists.{all}
@@ -49,8 +49,6 @@ pub record BookParts (x : Book) : Type 0 where
   pub pairs : pairs_ok 0 x.slots (length x.records) ≡ true
   pub records : all (rec_ok x.sizes) x.records ≡ true
   pub afters : afters_ok x.slots x.records ≡ true
-  pub names : all (name_ok x) x.names ≡ true
-  pub differ : names_differ x.names ≡ true
 
 -- the bytes hold a book of layout g, and that book meets its conditions
 pub record FormFactsAs (g : ℕ) (b : List ℕ) : Type 0 where

@@ -7,11 +7,11 @@ use Rattle.words.specs.Choice.{if◌then◌else◌}
 use Rattle.words.specs.Lists.{joined}
 use Rattle.words.specs.Numbers.{two, num}
 use Rattle.words.specs.Sections.{flat, fit, tab}
-use Rattle.book.specs.Book.{volumes, Sizes, Entry, Slot, Rec, Name, Book, free_entry, no_slot, no_rec, text_size, no_name, name_count, Sized}
+use Rattle.book.specs.Book.{volumes, Sizes, Entry, Slot, Rec, Book, free_entry, no_slot, no_rec, Sized}
 
 -- the layout that format makes and that the calls take
 abbrev pub current : ℕ
-current = 4
+current = 3
 
 -- sizes of the elements, in bytes
 abbrev pub header_size : ℕ
@@ -30,9 +30,6 @@ slot_size = 8
 
 abbrev pub rec_size : ℕ
 rec_size = 6
-
-abbrev pub name_size : ℕ
-name_size = 16
 
 -- where the header's numbers stand: "layout; N; L; S; J; B slots used; U records used; day; cursor; zero"
 abbrev pub n_offset : ℕ
@@ -95,17 +92,9 @@ records_from z = slots_from z + z.s * slot_size
 abbrev pub rec_offset : Sizes → ℕ → ℕ
 rec_offset z q = records_from z + q * rec_size
 
--- "Eight name cells .. follow the journal" (document 02, K7)
-abbrev pub names_from : Sizes → ℕ
-names_from z = records_from z + z.j * rec_size
-
-abbrev pub name_offset : Sizes → ℕ → ℕ
-name_offset z q = names_from z + q * name_size
-
--- "length: 36 + 20N + 16L + 8S + 6J" in layout 1, "entries have 21 bytes (21N in the length)" in layout 2 (document 02, K3), and with its
--- name cells layout 4 has 128 more (K7)
+-- "length: 36 + 20N + 16L + 8S + 6J" in layout 1, and "entries have 21 bytes (21N in the length)" in layout 2 (document 02, K3)
 abbrev pub book_size : Sizes → ℕ
-book_size z = names_from z + name_count z.layout * name_size
+book_size z = records_from z + z.j * rec_size
 
 -- ---- the bytes of a book, section after section, unused places zero
 
@@ -133,9 +122,6 @@ slot_bytes t = t.volume ∷ state_byte t.retire ∷ flat two (t.day ∷ t.first 
 abbrev pub rec_bytes : Rec → List ℕ
 rec_bytes r = flat two (r.lbn ∷ r.before ∷ r.after ∷ [])
 
-abbrev pub name_bytes : Name → List ℕ
-name_bytes n = fit 0 text_size n.text ++ flat two (n.volume ∷ n.number ∷ [])
-
 abbrev pub header_words : Book → List ℕ
 header_words x =
     x.sizes.layout
@@ -158,7 +144,6 @@ sections x =
     ∷ flat (map_bytes x.sizes.l) (fit [] volumes x.maps)
     ∷ flat slot_bytes (fit no_slot x.sizes.s x.slots)
     ∷ flat rec_bytes (fit no_rec x.sizes.j x.records)
-    ∷ flat name_bytes (fit no_name (name_count x.sizes.layout) x.names)
     ∷ []
 
 unfoldable pub bytes : Book → List ℕ
@@ -199,9 +184,6 @@ slot_of b at = record {
 abbrev pub rec_of : List ℕ → ℕ → Rec
 rec_of b at = record { lbn = num b at; before = num b (at + 2); after = num b (at + 4) }
 
-abbrev pub name_of : List ℕ → ℕ → Name
-name_of b at = record { text = tab text_size (λ i. get_or b (at + i) 0); volume = num b (at + 12); number = num b (at + 14) }
-
 unfoldable pub book_of : List ℕ → Book
 book_of b = record {
   sizes = sizes_of b;
@@ -212,7 +194,6 @@ book_of b = record {
   maps = tab volumes (λ v. tab (num b l_offset) (cell_of b v));
   slots = tab (num b b_offset) (λ q. slot_of b (slot_offset (sizes_of b) q));
   records = tab (num b u_offset) (λ q. rec_of b (rec_offset (sizes_of b) q));
-  names = tab (name_count (num b 0)) (λ q. name_of b (name_offset (sizes_of b) q));
 }
 
 -- what a lent book says

@@ -1,8 +1,7 @@
 -- A book with one thing changed: what each writer does.
 use Rattle.std.specs.Prelude.{ℕ, true, false, List, [], ◌∷◌, ◌++◌, get_or, set, replicate}
 use Rattle.words.specs.Blocks.{unmapped}
-use Rattle.words.specs.Sections.{fit}
-use Rattle.book.specs.Book.{volumes, Sizes, Entry, Slot, Rec, Name, Book, no_print, free_entry, no_name, name_count, entry_at}
+use Rattle.book.specs.Book.{volumes, Sizes, Entry, Slot, Rec, Book, no_print, free_entry, entry_at}
 use Rattle.book.specs.Layout.{current}
 
 unfoldable pub with_day : ℕ → Book → Book
@@ -15,7 +14,6 @@ with_day d x = record {
   maps = x.maps;
   slots = x.slots;
   records = x.records;
-  names = x.names;
 }
 
 unfoldable pub with_cursor : ℕ → Book → Book
@@ -28,7 +26,6 @@ with_cursor c x = record {
   maps = x.maps;
   slots = x.slots;
   records = x.records;
-  names = x.names;
 }
 
 unfoldable pub with_retention : ℕ → ℕ → Book → Book
@@ -41,7 +38,6 @@ with_retention v r x = record {
   maps = x.maps;
   slots = x.slots;
   records = x.records;
-  names = x.names;
 }
 
 unfoldable pub with_entries : List Entry → Book → Book
@@ -54,7 +50,6 @@ with_entries es x = record {
   maps = x.maps;
   slots = x.slots;
   records = x.records;
-  names = x.names;
 }
 
 unfoldable pub with_maps : List (List ℕ) → Book → Book
@@ -67,7 +62,6 @@ with_maps ms x = record {
   maps = ms;
   slots = x.slots;
   records = x.records;
-  names = x.names;
 }
 
 unfoldable pub with_slot : Slot → Book → Book
@@ -80,7 +74,6 @@ with_slot t x = record {
   maps = x.maps;
   slots = x.slots ++ (t ∷ []);
   records = x.records;
-  names = x.names;
 }
 
 unfoldable pub with_record : Rec → Book → Book
@@ -93,25 +86,9 @@ with_record r x = record {
   maps = x.maps;
   slots = x.slots;
   records = x.records ++ (r ∷ []);
-  names = x.names;
 }
 
--- name cell q is n
-unfoldable pub with_name : ℕ → Name → Book → Book
-with_name q n x = record {
-  sizes = x.sizes;
-  day = x.day;
-  cursor = x.cursor;
-  retentions = x.retentions;
-  entries = x.entries;
-  maps = x.maps;
-  slots = x.slots;
-  records = x.records;
-  names = set x.names q n;
-}
-
--- "with every field equal", but for the layout number (document 02, K3); from layout 4 on it has name cells, and "the converter adds them empty"
--- (K7)
+-- "with every field equal", but for the layout number (document 02, K3)
 abbrev pub sizes_in : ℕ → Sizes → Sizes
 sizes_in g z = record { layout = g; n = z.n; l = z.l; s = z.s; j = z.j }
 
@@ -125,7 +102,6 @@ with_layout g x = record {
   maps = x.maps;
   slots = x.slots;
   records = x.records;
-  names = fit no_name (name_count g) x.names;
 }
 
 -- an entry with one thing changed
@@ -166,5 +142,4 @@ fresh z = record {
   maps = replicate volumes (replicate z.l unmapped);
   slots = [];
   records = [];
-  names = replicate (name_count z.layout) no_name;
 }

@@ -1,2 +1,3 @@
 pub mod Promises
 pub mod Own
+pub mod Row

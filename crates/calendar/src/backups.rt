@@ -1,20 +1,26 @@
 // A volume's backups, 8 bytes each: day, number of records, until when it is kept, and whether it is kept now.
-ghost use Rattle.std.specs.Prelude.{◌≡◌, ◌≤◌, ◌<◌, length};
+ghost use Rattle.std.specs.Prelude.{◌≡◌, ◌+◌, ◌≤◌, ◌<◌, length};
 ghost use Rattle.std.proofs.lemmas.List.Edits.{sets};
 ghost use Rattle.book.specs.Book.{volumes};
 ghost use Rattle.book.specs.Layout.{told, Holds};
 ghost use Rattle.book.specs.FormFacts.{FormFacts};
+ghost use Rattle.words.specs.Laying.{Stored};
 ghost use Rattle.model.specs.Views.{backups_of};
 ghost use Rattle.calendar.specs.Promises.{BackupsTold};
 ghost use Rattle.calendar.specs.Own.{NextIs};
+ghost use Rattle.calendar.specs.Row.{until_from, row_from};
 
 use fields::header;
 use figures::enrolled::enrolled_number;
 use figures::volume::count_backups;
 use journal::slot;
-use names::finding::is_named;
-use term::{ROW_SIZE, put_row};
-use words::refusals;
+use keeping::is_kept;
+use words::{put_three, put_u16, refusals};
+
+const ROW_SIZE: usize = 8;
+
+// The last day of the newest backup, while the volume isn't retired.
+const ALWAYS: u16 = 65535;
 
 // The first slot from q on that is the volume's; where there is none, the answer is past the used slots.
 fn next_own(book: &[u8], v: u16, q: u16) -> u16
@@ -33,7 +39,38 @@ fn next_own(book: &[u8], v: u16, q: u16) -> u16
     r
 }
 
-// The rows of the volume's backups, to the front of the output. Slot q has the volume's k-th.
+// The last day on which a backup that was taken on day `taken` is kept: slot `at` is the volume's next, if any.
+fn kept_until(book: &[u8], taken: u16, at: u16, days: u16) -> u16
+    requires form_facts { FormFacts book.now }
+    requires taken_bound { (taken ≤ 60000) × (days ≤ 5000) }
+    ensures { result ≡ until_from (told book.entry) taken at days }
+{
+    if header::used_slots(book) <= at {
+        return ALWAYS;
+    }
+    taken + days
+}
+
+// The row of the backup in slot q, where slot `next` is the volume's next, if any. A retire slot has no row. It answers
+// the offset past the row.
+fn put_row(book: &[u8], q: u16, next: u16, days: u16, out: &mut [u8], at: usize) -> usize
+    requires form_facts { FormFacts book.now }
+    requires q_in_bounds { (q < length (told book).slots) × (days ≤ 5000) }
+    requires days_in_bounds { at + length (row_from (told book) q next days) ≤ length out.old }
+    ensures { Stored out.old at (row_from (told book.entry) q next days) out.new result }
+{
+    let slot = slot::slot_at(book, q);
+    if slot.retire {
+        return at;
+    }
+    let until = kept_until(book, slot.day, next, days);
+    let kept = is_kept(book, slot.day, next, days) as u16;
+    put_three(out, at, slot.day, slot.number, until);
+    put_u16(out, at + 6, kept);
+    at + ROW_SIZE
+}
+
+// The rows of the volume's backups, to the front of the output.
 fn put_rows(book: &[u8], v: u16, out: &mut [u8])
     requires form_facts { FormFacts book.now }
     requires v_lt_volumes { (v < volumes) × (length (backups_of (told book) v) ≤ length out.old) }
@@ -42,13 +79,10 @@ fn put_rows(book: &[u8], v: u16, out: &mut [u8])
     let used = header::used_slots(book);
     let days = header::retention(book, v);
     let mut at = 0;
-    let mut k: u16 = 1;
     let mut q = next_own(book, v, 0);
     while q < used {
         let next = next_own(book, v, q + 1);
-        let named = is_named(book, v, k);
-        at = put_row(book, named, q, next, days, out, at);
-        k += 1;
+        at = put_row(book, q, next, days, out, at);
         q = next;
     }
 }

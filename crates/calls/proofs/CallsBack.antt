@@ -13,7 +13,7 @@ use Rattle.words.proofs.NumberLaws.{two_back}
 use Rattle.words.specs.Outcome.{Outcome, accepted, and_then}
 use Rattle.words.proofs.Pieces.{part-past}
 use Rattle.words.specs.Sections.{flat, part}
-use Rattle.model.specs.Calls.{enrol, backup, collect, retire, name, unname, read, audit}
+use Rattle.model.specs.Calls.{enrol, backup, collect, retire, read, audit}
 use Rattle.calls.specs.Asked.{Asked, listed, restore}
 use Rattle.calls.proofs.ReadingLaws.{calls-end, calls-more}
 use Rattle.calls.specs.Coding.{data_size, call_size, unused_zero, unused_zero_at, call_of, is_call, call_at, before, calls_from, calls_of}
@@ -144,20 +144,6 @@ call_back p rest (listed (retire v t)) =
       is = row-call p rest 6 v t 0 0 [] refl;
       call = row_back p rest 6 v t 0 0 [];
       size = row-size p rest 6 v t 0 0 [];
-      some = omega arith;
-    }
-call_back p rest (listed (name v k t)) =
-    record {
-      is = row-call p rest 7 v k 0 0 t refl;
-      call = row_back p rest 7 v k 0 0 t;
-      size = row-size p rest 7 v k 0 0 t;
-      some = omega arith;
-    }
-call_back p rest (listed (unname t)) =
-    record {
-      is = row-call p rest 8 0 0 0 0 t refl;
-      call = row_back p rest 8 0 0 0 0 t;
-      size = row-size p rest 8 0 0 0 0 t;
       some = omega arith;
     }
 

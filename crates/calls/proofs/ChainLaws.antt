@@ -14,7 +14,8 @@ use Rattle.words.specs.Outcome.{accepted, unless}
 use Rattle.book.specs.Book.{Sizes}
 use Rattle.model.specs.Calls.{Call, backup, collect}
 use Rattle.claims.specs.Claims.{Fresh, begin, our_end, says_damage}
-use Rattle.model.specs.History.{History, kept_noted, sent_block, is_none, history_of, day_of, history_run_number, history_restore}
+use Rattle.model.specs.Days.{kept}
+use Rattle.model.specs.History.{History, days_noted, sent_block, is_none, history_of, day_of, history_run_number, history_restore}
 use Rattle.claims.proofs.claims.Proved.{lists, images, corollaries, end_append, next-alike}
 use Rattle.model.specs.Sides.{end_of, Ours, ours, ours_shown}
 use Rattle.calls.specs.Asked.{Asked, listed, restore, Reply, answer, restore_reply, reply_to, next_after, replies_of, left_by}
@@ -34,7 +35,7 @@ restore-undamaged : (l : ℕ) (h : History) (d k first many room : ℕ)
 unfolding history_restore history_run_number restore_reply
 restore-undamaged l h d k first many room =
     go (eqb h.retention 0) (eqb k 0 || ltb (length h.sent) k)
-    (kept_noted h d k)
+    (kept (days_noted h) h.retention d k)
     (ltb l (first + many) || ltb room (many * block_size)) (some_of (λ lbn. is_none (sent_block h k lbn)) (up_from first many)) _
   where
     go : (a b c e g : Bool) (blocks : List ℕ)

@@ -4,7 +4,7 @@ use Prim.Native.Nat.{ℕ, ◌/◌, ◌%◌}
 use mathlib.Core.List.{List, [], ◌∷◌, ◌++◌}
 use lib.ListN.{length}
 use Rattle.words.specs.Numbers.{two}
-use Rattle.model.specs.Calls.{enrol, backup, collect, retire, name, unname, read, audit}
+use Rattle.model.specs.Calls.{enrol, backup, collect, retire, read, audit}
 use Rattle.calls.specs.Asked.{Asked, listed, restore}
 
 -- ---- the bytes of a call
@@ -21,5 +21,3 @@ call_bytes (listed (read v k lbn)) = row_bytes 3 v k lbn 0 []
 call_bytes (listed audit) = row_bytes 4 0 0 0 0 []
 call_bytes (restore v k first many) = row_bytes 5 v k first many []
 call_bytes (listed (retire v t)) = row_bytes 6 v t 0 0 []
-call_bytes (listed (name v k t)) = row_bytes 7 v k 0 0 t
-call_bytes (listed (unname t)) = row_bytes 8 0 0 0 0 t

@@ -1,5 +1,4 @@
 pub mod CodingLaws
-pub mod Cases
 pub mod ReadingLaws
 pub mod AnswerLaws
 pub mod CallsBack

@@ -7,17 +7,17 @@ use mathlib.Core.List.{List, [], ◌∷◌}
 use native.Mathlib.Omega.{arith}
 use lib.Dec.{leb, eqb}
 use lib.ListN.{length, get_or}
-use borrow.Author.Tests.{leb-true, le-leb, lt-leb, eqb-true, eqb-false, eq-eqb, ne_eqb}
+use borrow.Author.Tests.{leb-true, le-leb, lt-leb, eq-eqb, ne_eqb}
 use Rattle.words.proofs.Accepted.{refused_not, then-accepted}
 use Rattle.words.specs.Choice.{if◌then◌else◌}
-use Rattle.words.proofs.ChoiceLaws.{and_true, same_test, not_both}
+use Rattle.words.proofs.ChoiceLaws.{and_true, same_test}
 use Rattle.words.specs.Numbers.{num}
 use Rattle.words.specs.Outcome.{Outcome, refused, accepted, and_then}
 use Rattle.words.specs.Sections.{part}
 use Rattle.model.specs.Calls.{enrol, backup, collect, retire, read, audit}
 use Rattle.calls.specs.Asked.{Asked, listed, restore}
-use Rattle.calls.specs.Coding.{data_size, call_size, unused_zero, unused_zero_at, call_of, is_call, call_at, before, calls_from}
-use Rattle.calls.specs.Reading.{rest_of, Good, named_call}
+use Rattle.calls.specs.Coding.{data_size, call_size, unused_zero_at, call_of, is_call, call_at, before, calls_from}
+use Rattle.calls.specs.Reading.{rest_of, Good}
 
 module _ (b : List ℕ) where
   -- the end
@@ -129,12 +129,6 @@ module _ (b : List ℕ) where
         let end = leb-true (at + call_size b at) (length b) w.1 in
         (leb-true (at + 14) (length b) (and_true x y v.0).0, omega arith)
 
-    pub call-zeros : is_call b at ≡ true → unused_zero_at b at ≡ true
-    call-zeros e =
-        let x = leb (at + 14) (length b) && eqb (get_or b (at + 1) 0) 0 in
-        let w = and_true (x && unused_zero_at b at) (leb (at + call_size b at) (length b)) (sym is_tests ∙ e) in
-        (and_true x (unused_zero_at b at) w.0).1
-
     -- the tests in their order
     pub call-short : length b < at + 14 → is_call b at ≡ false
     call-short h = is_tests ∙ rw (lt-leb (at + 14) (length b) h)
@@ -189,61 +183,8 @@ module _ (b : List ℕ) where
     unfolding call_at call_of
     call-retire m n o p q e = rw (ne_eqb kind 0 m, ne_eqb kind 1 n, ne_eqb kind 2 o, ne_eqb kind 3 p, ne_eqb kind 5 q, eq-eqb kind 6 e)
 
-    -- past the kinds before naming, a call has a name as its data
-    module _ (h : 7 ≤ kind) where
-      low : (k : ℕ) → k < 7 → eqb kind k ≡ false
-      low k l = ne_eqb kind k (λ e. omega arith)
-
-      named-zeros : (kind ≡ 7 → ⊥) → unused_zero_at b at ≡ true → kind ≡ 8
-      unfolding unused_zero_at unused_zero
-      named-zeros n z =
-          go (eqb kind 8) _ refl
-          (rw (
-            low 0 (omega arith),
-            low 1 (omega arith),
-            low 2 (omega arith),
-            low 3 (omega arith),
-            low 4 (omega arith),
-            low 5 (omega arith),
-            low 6 (omega arith),
-            ne_eqb kind 7 n,
-          ) at z)
-        where
-          go : (t zeros : Bool) → eqb kind 8 ≡ t → (if t then zeros else false) ≡ true → kind ≡ 8
-          go true zeros e y = eqb-true kind 8 e
-          go false zeros e y = absurd (not_both false y refl)
-
-      pub call-named : is_call b at ≡ true → call_at b at ≡ named_call b at
-      unfolding call_at call_of
-      call-named e =
-          rw (
-            low 0 (omega arith),
-            low 1 (omega arith),
-            low 2 (omega arith),
-            low 3 (omega arith),
-            low 5 (omega arith),
-            low 6 (omega arith),
-          )
-          (go (eqb kind 7) (eqb kind 8) _ _ refl refl)
-        where
-          go : (s t : Bool) (naming dropping : Asked) → eqb kind 7 ≡ s → eqb kind 8 ≡ t
-              → (if s then naming else if t then dropping else listed audit) ≡ (if s then naming else dropping)
-          go true t naming dropping f g = refl
-          go false true naming dropping f g = refl
-          go false false naming dropping f g =
-              absurd (not_both (eqb kind 8) (eq-eqb kind 8 (named-zeros (eqb-false kind 7 f) (call-zeros at e))) g)
-
-    pub call-audit : (kind ≡ 0 → ⊥) → (kind ≡ 1 → ⊥) → (kind ≡ 2 → ⊥) → (kind ≡ 3 → ⊥) → (kind ≡ 5 → ⊥) → (kind ≡ 6 → ⊥) → kind < 7
+    pub call-audit : (kind ≡ 0 → ⊥) → (kind ≡ 1 → ⊥) → (kind ≡ 2 → ⊥) → (kind ≡ 3 → ⊥) → (kind ≡ 5 → ⊥) → (kind ≡ 6 → ⊥)
         → call_at b at ≡ listed audit
     unfolding call_at call_of
-    call-audit m n o p q r h =
-        rw (
-          ne_eqb kind 0 m,
-          ne_eqb kind 1 n,
-          ne_eqb kind 2 o,
-          ne_eqb kind 3 p,
-          ne_eqb kind 5 q,
-          ne_eqb kind 6 r,
-          ne_eqb kind 7 (λ e. omega arith),
-          ne_eqb kind 8 (λ e. omega arith),
-        )
+    call-audit m n o p q r =
+        rw (ne_eqb kind 0 m, ne_eqb kind 1 n, ne_eqb kind 2 o, ne_eqb kind 3 p, ne_eqb kind 5 q, ne_eqb kind 6 r)

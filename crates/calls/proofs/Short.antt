@@ -8,15 +8,14 @@ use lib.Dec.{eqb}
 use lib.ListN.{length, get_or, take, drop, length-append}
 use borrow.Author.Tests.{eqb-true}
 use Rattle.words.specs.Blocks.{block_size}
-use Rattle.words.specs.Choice.{if◌then◌else◌}
 use Rattle.words.specs.Numbers.{two, num}
 use Rattle.words.specs.Outcome.{Outcome, refused, accepted, and_then, unless}
 use Rattle.words.specs.Sections.{flat, part}
 use Rattle.book.specs.Form.{form_number}
 use Rattle.book.specs.Layout.{book_of}
-use Rattle.model.specs.Calls.{Call, enrol, backup, collect, retire, name, unname, read, audit}
+use Rattle.model.specs.Calls.{Call, enrol, backup, collect, retire, read, audit}
 use Rattle.model.specs.OnBytes.{pool_number, enrol_bytes, backup_bytes, collect_bytes, retire_bytes, read_bytes, audit_bytes}
-use Rattle.model.specs.OnBytes.{naming_bytes, dropping_bytes, restore_bytes}
+use Rattle.model.specs.OnBytes.{restore_bytes}
 use Rattle.model.specs.Read
 use Rattle.model.specs.Read.{image, read_number}
 use Rattle.model.specs.Kept.{kept_number}
@@ -58,8 +57,6 @@ answer-short spare o (backup v t list) =
     changed_short o (backup_bytes o.book o.pool spare v t list) _ 3 (omega arith) (λ d. omega arith)
 answer-short spare o (collect t) = changed_short o (collect_bytes o.book t) _ 1 (omega arith) (λ d. omega arith)
 answer-short spare o (retire v t) = changed_short o (retire_bytes o.book spare v t) _ 1 (omega arith) (λ d. omega arith)
-answer-short spare o (name v k t) = changed_short o (naming_bytes o.book spare v k t) _ 1 (omega arith) (λ b. omega arith)
-answer-short spare o (unname t) = changed_short o (dropping_bytes o.book spare t) _ 1 (omega arith) (λ b. omega arith)
 answer-short spare o (read v k lbn) = go (form_number o.book) (pool_number o.book o.pool) (read_number (book_of o.book) v k lbn)
   where
     found : List ℕ
@@ -133,27 +130,21 @@ answers-short spare o (a ∷ xs) =
 longest_kind : (kind a b c d : ℕ) (list : List ℕ) → longestReply (call_of kind a b c d list) ≡ longestOf kind d
 unfolding call_of longestOf
 longest_kind kind a b c d list =
-    go (eqb kind 0) (eqb kind 1) (eqb kind 2) (eqb kind 3) (eqb kind 5) refl refl refl refl refl
+    go (eqb kind 0) (eqb kind 1) (eqb kind 2) (eqb kind 3) (eqb kind 5) (eqb kind 6) refl refl refl refl refl refl
   where
     at : (i : ℕ) → eqb kind i ≡ true → longestReply (call_of i a b c d list) ≡ longestOf i d
         → longestReply (call_of kind a b c d list) ≡ longestOf kind d
     at i e = subst (λ j. longestReply (call_of j a b c d list) ≡ longestOf j d) (sym (eqb-true kind i e))
 
-    -- none of the first kinds: a retire, a naming, a dropping or an audit
-    last : (r s t : Bool) → longestReply (if r then listed (retire a b) else if s then listed (name a b list) else if t then listed (unname list) else listed audit) ≡ 3
-    last true s t = refl
-    last false true t = refl
-    last false false true = refl
-    last false false false = refl
-
-    go : (s t u w x : Bool) → eqb kind 0 ≡ s → eqb kind 1 ≡ t → eqb kind 2 ≡ u → eqb kind 3 ≡ w → eqb kind 5 ≡ x
+    go : (s t u w x y : Bool) → eqb kind 0 ≡ s → eqb kind 1 ≡ t → eqb kind 2 ≡ u → eqb kind 3 ≡ w → eqb kind 5 ≡ x → eqb kind 6 ≡ y
         → longestReply (call_of kind a b c d list) ≡ longestOf kind d
-    go true t u w x e f g h i = at 0 e refl
-    go false true u w x e f g h i = at 1 f refl
-    go false false true w x e f g h i = at 2 g refl
-    go false false false true x e f g h i = at 3 h refl
-    go false false false false true e f g h i = at 5 i refl
-    go false false false false false e f g h i = rw (e, f, g, h, i) (last (eqb kind 6) (eqb kind 7) (eqb kind 8))
+    go true t u w x y e f g h i j = at 0 e refl
+    go false true u w x y e f g h i j = at 1 f refl
+    go false false true w x y e f g h i j = at 2 g refl
+    go false false false true x y e f g h i j = at 3 h refl
+    go false false false false true y e f g h i j = at 5 i refl
+    go false false false false false true e f g h i j = at 6 j refl
+    go false false false false false false e f g h i j = rw (e, f, g, h, i, j)
 
 pub longest_at : (b : List ℕ) (at : ℕ) → longestReply (call_at b at) ≡ longestOf (get_or b at 0) (num b (at + 8))
 unfolding call_at

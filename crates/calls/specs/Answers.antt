@@ -5,7 +5,7 @@ use Rattle.words.specs.Choice.{if◌then◌else◌}
 use Rattle.words.specs.Lists.{sum}
 use Rattle.words.specs.Numbers.{two}
 use Rattle.words.specs.Sections.{flat}
-use Rattle.model.specs.Calls.{Call, enrol, backup, collect, retire, name, unname, read, audit, Answer, number, gave, block, sound}
+use Rattle.model.specs.Calls.{Call, enrol, backup, collect, retire, read, audit, Answer, number, gave, block, sound}
 use Rattle.calls.specs.Asked.{Asked, listed, restore, Reply, answer, run}
 
 -- three numbers are a backup's, and any other call answers one
@@ -25,16 +25,14 @@ abbrev pub replyBytes : Reply → List ℕ
 replyBytes (answer a) = answerBytes a
 replyBytes (run many blocks) = 5 ∷ two many ++ blocks
 
--- ---- "the longest that these calls can give": 3 for enrol, collect, retire, name, unname and audit, 7 for a backup, 513 for a read, and
--- for a restore 3 and its blocks
+-- ---- "the longest that these calls can give": 3 for enrol, collect, retire and audit, 7 for a backup, 513 for a read, and for a restore
+-- 3 and its blocks
 
 abbrev pub longest : Call → ℕ
 longest (enrol v r) = 3
 longest (backup v t list) = 7
 longest (collect t) = 3
 longest (retire v t) = 3
-longest (name v k t) = 3
-longest (unname t) = 3
 longest (read v k lbn) = 1 + block_size
 longest audit = 3
 

@@ -4,7 +4,7 @@ use Rattle.words.specs.Choice.{if◌then◌else◌}
 use Rattle.words.specs.Numbers.{num}
 use Rattle.words.specs.Outcome.{Outcome, refused, accepted, and_then}
 use Rattle.words.specs.Sections.{part}
-use Rattle.model.specs.Calls.{enrol, backup, collect, retire, name, unname, read, audit}
+use Rattle.model.specs.Calls.{enrol, backup, collect, retire, read, audit}
 use Rattle.calls.specs.Asked.{Asked, listed, restore}
 
 -- ---- a head: "kind u8, a zero byte, four u16 arguments a b c d, u32 length of the data"
@@ -19,7 +19,7 @@ data_size b at = num b (at + 10) + num b (at + 12) * 65536
 unfoldable pub call_size : List ℕ → ℕ → ℕ
 call_size b at = head_size + data_size b at
 
--- "What a kind doesn't use is zero, and only backup, name and unname have data"; an unknown kind is no call
+-- "What a kind doesn't use is zero, and only a backup has data"; an unknown kind is no call
 unfoldable pub unused_zero : ℕ → ℕ → ℕ → ℕ → ℕ → ℕ → Bool
 unused_zero kind a b c d size =
     if eqb kind 0 then eqb c 0 && eqb d 0 && eqb size 0 else
@@ -29,13 +29,10 @@ unused_zero kind a b c d size =
     if eqb kind 4 then eqb a 0 && eqb b 0 && eqb c 0 && eqb d 0 && eqb size 0 else
     if eqb kind 5 then eqb size 0 else
     if eqb kind 6 then eqb c 0 && eqb d 0 && eqb size 0 else
-    if eqb kind 7 then eqb c 0 && eqb d 0 else
-    if eqb kind 8 then eqb a 0 && eqb b 0 && eqb c 0 && eqb d 0 else
     false
 
 -- "0 enrol (a volume, b retention), 1 backup (a volume, b day; the data is the change list), 2 collect (a day), 3 read (a volume, b number,
--- c LBN), 4 audit, 5 restore (a volume, b number, c first LBN, d length), 6 retire (a volume, b day), 7 name (a volume, b number; the data is
--- the name), 8 unname (the data is the name)"
+-- c LBN), 4 audit, 5 restore (a volume, b number, c first LBN, d length), 6 retire (a volume, b day)"
 unfoldable pub call_of : ℕ → ℕ → ℕ → ℕ → ℕ → List ℕ → Asked
 call_of kind a b c d list =
     if eqb kind 0 then listed (enrol a b) else
@@ -44,8 +41,6 @@ call_of kind a b c d list =
     if eqb kind 3 then listed (read a b c) else
     if eqb kind 5 then restore a b c d else
     if eqb kind 6 then listed (retire a b) else
-    if eqb kind 7 then listed (name a b list) else
-    if eqb kind 8 then listed (unname list) else
     listed audit
 
 -- ---- the call at an offset

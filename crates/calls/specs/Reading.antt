@@ -1,10 +1,9 @@
 -- A list of calls that is read from an offset on: its calls, and that they are calls to the end. Its laws are in proofs/ReadingLaws.antt.
-use Rattle.std.specs.Prelude.{ℕ, ◌+◌, ◌≡◌, List, [], eqb, length, get_or}
-use Rattle.words.specs.Choice.{if◌then◌else◌}
+use Rattle.std.specs.Prelude.{ℕ, ◌+◌, ◌≡◌, List, [], length}
 use Rattle.words.specs.Numbers.{num}
 use Rattle.words.specs.Outcome.{accepted}
 use Rattle.words.specs.Sections.{part}
-use Rattle.model.specs.Calls.{backup, name, unname}
+use Rattle.model.specs.Calls.{backup}
 use Rattle.calls.specs.Asked.{Asked, listed}
 use Rattle.model.specs.OnBytes.{after}
 use Rattle.calls.specs.Coding.{head_size, data_size, calls_from}
@@ -20,9 +19,3 @@ module _ (b : List ℕ) where
   -- the call at an offset, where it is a backup
   abbrev pub backup_call : ℕ → Asked
   backup_call at = listed (backup (num b (at + 2)) (num b (at + 4)) (part b (at + head_size) (data_size b at)))
-
-  -- the same, where its data is a name
-  abbrev pub named_call : ℕ → Asked
-  named_call at =
-      if eqb (get_or b at 0) 7 then listed (name (num b (at + 2)) (num b (at + 4)) (part b (at + head_size) (data_size b at))) else
-      listed (unname (part b (at + head_size) (data_size b at)))

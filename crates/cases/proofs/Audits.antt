@@ -9,8 +9,8 @@ use Rattle.book.specs.Book.{Rec, Book}
 use Rattle.book.specs.Layout.{bytes, book_of}
 use Rattle.book.specs.Next.{with_entry, with_cell, count_as, expiry_as, held_as, made_free}
 use Rattle.model.specs.OnBytes.{audit_bytes}
-use Rattle.letters.proofs.Open.{model}
-use Rattle.letters.proofs.Letters.{B, print_of}
+use Rattle.cases.proofs.Open.{model}
+use Rattle.cases.proofs.Letters.{B, print_of}
 use Rattle.book.proofs.AfterD.{after_d}
 
 unfoldable pub good : Book
@@ -26,7 +26,6 @@ with_record_at i r x = record {
   maps = x.maps;
   slots = x.slots;
   records = set x.records i r;
-  names = x.names;
 }
 
 -- blocks 1 and 2 in each other's cell, so that the counts still fit: "the maps are the records replayed"

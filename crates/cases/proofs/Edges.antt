@@ -6,15 +6,34 @@ use mathlib.Core.List.{List, [], ◌∷◌, ◌++◌, map}
 use lib.ListN.{get_or, replicate}
 use Rattle.words.specs.Blocks.{unmapped}
 use Rattle.words.specs.Lists.{up_from}
-use Rattle.book.specs.Book.{Sizes, no_name, entry_at}
+use Rattle.book.specs.Book.{Sizes, entry_at}
 use Rattle.book.specs.Next.{new_sizes}
 use Rattle.book.specs.Layout.{bytes, book_of}
-use Rattle.model.specs.Plain.{free, held, image, Plain}
-use Rattle.model.specs.Calls.{Call, enrol, backup, collect, read, audit, number, backed, freed, block, sound}
+use Rattle.model.specs.Plain.{free, held, image, Plain, start}
+use Rattle.model.specs.Calls.{Call, enrol, backup, collect, read, audit, Answer, number, backed, freed, block, sound}
 use Rattle.model.specs.Sides.{Ours, answers_of, end_of, ours, plain, ours_shown, plain_shown}
-use Rattle.letters.proofs.Open.{model}
-use Rattle.letters.proofs.Letters.{A, B, C, D, E, F, block_of, print_of, over, list, empty}
-use Rattle.letters.proofs.Both.{spare, our_end, plain_end, Both, small}
+use Rattle.cases.proofs.Open.{model}
+use Rattle.cases.proofs.Letters.{A, B, C, D, E, F, block_of, print_of, over, list, empty, box}
+
+-- a spare that is long enough for every book here
+abbrev pub spare : ℕ
+spare = 9999
+
+-- where a fresh book of these sizes, and its plain store, stand after a list
+abbrev pub our_end : Sizes → List Call → Ours
+our_end z cs = end_of (ours spare) (box z) cs
+
+abbrev pub plain_end : Sizes → List Call → Plain
+plain_end z cs = end_of plain (start z) cs
+
+-- both sides answer so, and show the same after it
+pub record Both (z : Sizes) (cs : List Call) (answers : List Answer) : Type 0 where
+  pub our_answers : answers_of (ours spare) (box z) cs ≡ answers
+  pub plain_answers : answers_of plain (start z) cs ≡ answers
+  pub alike : ours_shown (our_end z cs) ≡ plain_shown (plain_end z cs)
+
+abbrev pub small : Sizes
+small = new_sizes 2 4 4 8
 
 -- ---- "A blank page fills many cells on every aid, and a clinic met number 14" (document 02, K3): 255 cells name block A and one names
 -- block B; then A gets that one, and another
@@ -39,7 +58,6 @@ crowded = record {
     maps = crowded_maps;
     slots = map (λ v. record { volume = v; retire = false; day = 0; first = 0; number = 0 }) (up_from 0 8);
     records = [];
-    names = replicate 8 no_name;
   });
   pool = block_of A ++ block_of B;
 }
@@ -52,7 +70,6 @@ plain_crowded = record {
   blocks = held (print_of A) (block_of A) ∷ held (print_of B) (block_of B) ∷ [];
   retentions = replicate 8 9;
   taken = map (λ v. record { volume = v; day = 0; what = image (get_or crowded_maps v []); changes = 0 }) (up_from 0 8);
-  called = [];
 }
 
 unfoldable pub crowding : Call
@@ -89,7 +106,6 @@ plain_kept = record {
   blocks = held (print_of A) (block_of A) ∷ free ∷ [];
   retentions = 9 ∷ replicate 7 0;
   taken = record { volume = 0; day = 1; what = image (0 ∷ unmapped ∷ unmapped ∷ unmapped ∷ []); changes = 1 } ∷ [];
-  called = [];
 }
 
 pub record Halves : Type 0 where
@@ -101,7 +117,7 @@ pub record Halves : Type 0 where
 pub halves-leave-nothing : Halves
 unfolding model over list kept halves plain_kept
 halves-leave-nothing =
-    record { both = record { our_answers = refl; plain_answers = refl }; ours = refl; plain_before = refl; plain_after = refl }
+    record { both = record { our_answers = refl; plain_answers = refl; alike = refl }; ours = refl; plain_before = refl; plain_after = refl }
 
 -- ---- "going round after N − 1", past held blocks: the last backup takes block 1 from the cursor 2
 
@@ -130,7 +146,7 @@ pub record Rounds : Type 0 where
 pub goes-round : Rounds
 unfolding model over list rounds
 goes-round =
-    record { both = record { our_answers = refl; plain_answers = refl }; our_cursor = refl; plain_cursor = refl; taken = refl }
+    record { both = record { our_answers = refl; plain_answers = refl; alike = refl }; our_cursor = refl; plain_cursor = refl; taken = refl }
 
 -- ---- "a held one may have a zero fingerprint too": free blocks aren't found by it, a held one is, and its bytes count
 
@@ -143,7 +159,7 @@ pub zero-print-found : Both small
     ∷ [])
     (number 0 ∷ backed 1 1 1 ∷ backed 2 0 1 ∷ number 11 ∷ sound true ∷ [])
 unfolding model over
-zero-print-found = record { our_answers = refl; plain_answers = refl }
+zero-print-found = record { our_answers = refl; plain_answers = refl; alike = refl }
 
 -- ---- "E = 0 is a backup without changes": it takes a slot and moves the day
 
@@ -157,7 +173,7 @@ pub record Idle : Type 0 where
 
 pub no_change_is_a_backup : Idle
 unfolding model empty idle
-no_change_is_a_backup = record { both = record { our_answers = refl; plain_answers = refl }; slots = refl; day = refl }
+no_change_is_a_backup = record { both = record { our_answers = refl; plain_answers = refl; alike = refl }; slots = refl; day = refl }
 
 -- ---- "freeing at expiry = day": not on that day, but on the next, and then no more
 
@@ -173,7 +189,7 @@ pub expiry-day-is-kept : Both small
     ∷ [])
     (number 0 ∷ backed 1 1 1 ∷ backed 2 1 2 ∷ freed 0 ∷ block (block_of A) ∷ freed 1 ∷ number 16 ∷ freed 0 ∷ [])
 unfolding model over list
-expiry-day-is-kept = record { our_answers = refl; plain_answers = refl }
+expiry-day-is-kept = record { our_answers = refl; plain_answers = refl; alike = refl }
 
 -- ---- 13: a book in form whose map names a block of count 0; audit says no
 
@@ -190,7 +206,6 @@ damaged = record {
     maps = (0 ∷ unmapped ∷ unmapped ∷ unmapped ∷ []) ∷ replicate 7 (replicate 4 unmapped);
     slots = [];
     records = [];
-    names = replicate 8 no_name;
   });
   pool = block_of A ++ block_of B;
 }
@@ -222,7 +237,6 @@ miscounted k = record {
     maps = (0 ∷ 1 ∷ unmapped ∷ unmapped ∷ []) ∷ replicate 7 (replicate 4 unmapped);
     slots = [];
     records = [];
-    names = replicate 8 no_name;
   });
   pool = block_of A ++ block_of B;
 }
@@ -254,4 +268,4 @@ pub earlier_in_the_list : Both small
     (enrol 0 9 ∷ backup 0 1 (over 0 (A ∷ A ∷ []) (A ∷ F ∷ [])) ∷ backup 0 1 (list 0 (A ∷ A ∷ [])) ∷ [])
     (number 0 ∷ number 11 ∷ backed 1 1 2 ∷ [])
 unfolding model over list
-earlier_in_the_list = record { our_answers = refl; plain_answers = refl }
+earlier_in_the_list = record { our_answers = refl; plain_answers = refl; alike = refl }

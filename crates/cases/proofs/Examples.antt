@@ -14,9 +14,9 @@ use Rattle.model.specs.Calls.{Call, backup, collect, read, audit, Answer, number
 use Rattle.model.specs.History.{Sent, history_of, day_of, history_read}
 use Rattle.claims.specs.Claims.{Fresh, our_answers, plain_answers, our_answer, plain_end, entry_before, entry_after, changes_name}
 use Rattle.claims.proofs.claims.Proved.{lists, images}
-use Rattle.letters.proofs.Open.{model}
-use Rattle.letters.proofs.Letters.{B, C, E, block_of, over, list}
-use Rattle.letters.proofs.Table.{sizes, call_of, table, calls}
+use Rattle.cases.proofs.Open.{model}
+use Rattle.cases.proofs.Letters.{B, C, E, block_of, over, list}
+use Rattle.cases.proofs.Cases.{sizes, call_of, table, calls}
 
 -- ---- the hypotheses can be met
 
@@ -24,10 +24,10 @@ unfoldable pub clinic : Fresh
 unfolding model
 clinic = record {
   sizes = sizes;
-  given = replicate 408 170;
+  given = replicate 280 170;
   book = bytes (fresh sizes);
   pool = replicate 2048 255;
-  spare = 408;
+  spare = 280;
   formatted = refl;
   pool_enough = refl;
   spare_enough = omega arith;
@@ -105,12 +105,12 @@ pub record ListsGive : Type 0 where
 
 in_e : (p : ℕ) → p < 4 → (entry_before clinic before_e p).held ≡ true
     → is_free (entry_after clinic before_e (collect 18) p) ≡ not (marked (plain_end clinic before_e) 18 p)
-unfolding clinic
+unfolding clinic sizes
 in_e p h held = (lists clinic calls).freeing before_e (drop 7 calls) 18 1 p lists_say.split_e lists_say.collected h held
 
 in_d : (p : ℕ) → p < 4 → changes_name (plain_end clinic before_d) 1 9 (list 3 (B ∷ [])) p ≡ false
     → entry_after clinic before_d backup_d p ≡ entry_before clinic before_d p
-unfolding clinic backup_d
+unfolding clinic sizes backup_d
 in_d p h n = (lists clinic calls).touching before_d (drop 6 calls) 1 9 p (list 3 (B ∷ [])) lists_say.split_d h n
 
 -- a list's element, from an equation of lists
@@ -152,7 +152,7 @@ pub record ImagesSay : Type 0 where
   pub ours : (k lbn : ℕ) → our_answer clinic calls (read 0 k lbn) ≡ worked k lbn
 
 reads_worked : (k lbn : ℕ) → our_answer clinic calls (read 0 k lbn) ≡ worked k lbn
-unfolding worked clinic
+unfolding worked clinic sizes
 reads_worked k lbn =
     (images clinic calls).reads 0 k lbn
     ∙ ap (λ (as₀ : List Answer). history_read 4 (history_of 0 calls as₀) (day_of calls as₀) k lbn) lists_say.ours

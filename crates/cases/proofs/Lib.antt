@@ -1,3 +1,5 @@
+pub mod Open
+pub mod Letters
 pub mod Cases
 pub mod Edges
 pub mod LongRuns
@@ -7,3 +9,5 @@ pub mod Examples
 pub mod Restores
 pub mod Shown
 pub mod Converts
+pub mod Days
+pub mod Retire

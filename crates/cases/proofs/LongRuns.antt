@@ -8,9 +8,9 @@ use Rattle.book.specs.Next.{new_sizes, fresh, with_retention}
 use Rattle.model.specs.Calls.{enrol}
 use Rattle.model.specs.Backup as ours
 use Rattle.model.specs.PlainBackup as plain
-use Rattle.letters.proofs.Open.{model}
-use Rattle.letters.proofs.Letters.{A, over, list}
-use Rattle.letters.proofs.Both.{plain_end}
+use Rattle.cases.proofs.Open.{model}
+use Rattle.cases.proofs.Letters.{A, over, list}
+use Rattle.cases.proofs.Edges.{plain_end}
 
 -- room for more than such a run in all that a backup is refused for
 abbrev pub wide : Sizes

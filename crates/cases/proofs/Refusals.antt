@@ -11,10 +11,10 @@ use Rattle.model.specs.OnBytes.{number_of, format_bytes, enrol_bytes, backup_byt
 use Rattle.model.specs.Calls.{Call, enrol, backup, collect, read, Answer, number, backed, freed}
 use Rattle.model.specs.Plain.{start}
 use Rattle.model.specs.Sides.{answers_of, end_of, ours, plain}
-use Rattle.letters.proofs.Open.{model}
-use Rattle.letters.proofs.Letters.{A, B, C, D, over, list, empty, box}
-use Rattle.letters.proofs.Table.{sizes, call_of, table, calls}
-use Rattle.letters.proofs.Both.{spare, small, Both}
+use Rattle.cases.proofs.Open.{model}
+use Rattle.cases.proofs.Letters.{A, B, C, D, over, list, empty, box}
+use Rattle.cases.proofs.Cases.{sizes, call_of, table, calls}
+use Rattle.cases.proofs.Edges.{spare, small, Both}
 
 -- ---- numbers 5 to 10 and 15 to 18, after case d: the header's day is 9, volume 0 has backups on 5 and 8, volume 1 on 6 and 9
 
@@ -76,7 +76,7 @@ pub full : Both (new_sizes 2 4 2 2)
     ∷ [])
     (number 0 ∷ backed 1 1 2 ∷ backed 2 0 0 ∷ number 9 ∷ freed 0 ∷ number 16 ∷ [])
 unfolding model over list empty
-full = record { our_answers = refl; plain_answers = refl }
+full = record { our_answers = refl; plain_answers = refl; alike = refl }
 
 -- ---- numbers 1 to 4, on bytes: `short` breaks 1, `odd` breaks 2 (its spare header field isn't zero), `more` breaks 2 (B is above S)
 
@@ -105,7 +105,7 @@ pub record Damage : Type 0 where
   pub audits : map (λ b. number_of (audit_bytes b)) (nothing ∷ short ∷ odd ∷ more ∷ good ∷ []) ≡ 1 ∷ 1 ∷ 2 ∷ 2 ∷ 0 ∷ []
   pub backups : map (λ b. number_of (backup_bytes b nothing 0 8 60001 nothing)) (nothing ∷ short ∷ odd ∷ more ∷ good ∷ [])
       ≡ 1 ∷ 1 ∷ 2 ∷ 2 ∷ 3 ∷ []
-  pub spares : map (λ s. number_of (backup_bytes good pool s 8 60001 nothing)) (0 ∷ 349 ∷ 350 ∷ []) ≡ 4 ∷ 4 ∷ 5 ∷ []
+  pub spares : map (λ s. number_of (backup_bytes good pool s 8 60001 nothing)) (0 ∷ 221 ∷ 222 ∷ []) ≡ 4 ∷ 4 ∷ 5 ∷ []
   pub reads : map (λ b. read_number_bytes b nothing 8 0 4) (nothing ∷ short ∷ odd ∷ more ∷ good ∷ []) ≡ 1 ∷ 1 ∷ 2 ∷ 2 ∷ 3 ∷ []
   pub read_next : read_number_bytes good pool 8 0 4 ≡ 5
   pub place : number_of (read_place_bytes good nothing 8 0 4) ≡ 3

@@ -10,10 +10,10 @@ use Rattle.model.specs.Calls.{Call, enrol, backup}
 use Rattle.model.specs.History.{history_of, history_restore}
 use Rattle.model.specs.OnBytes.{after, collect_bytes, restore_bytes}
 use Rattle.claims.specs.Claims.{restored_at}
-use Rattle.letters.proofs.Open.{model}
-use Rattle.letters.proofs.Letters.{A, B, C, block_of, over, list, empty}
-use Rattle.letters.proofs.Table.{call_of, table, calls}
-use Rattle.letters.proofs.Both.{our_end, small}
+use Rattle.cases.proofs.Open.{model}
+use Rattle.cases.proofs.Letters.{A, B, C, block_of, over, list, empty}
+use Rattle.cases.proofs.Cases.{call_of, table, calls}
+use Rattle.cases.proofs.Edges.{our_end, small}
 use Rattle.cases.proofs.Examples.{answers}
 
 -- volume, number, first LBN, length, room of the output
@@ -81,7 +81,7 @@ pub record Restores : Type 0 where
   -- 16 before 21: on day 18 backup 1 of volume 1 is no longer kept
   pub lapsed : restore_bytes (after (λ d. d.book) (collect_bytes after_d 18) []) pool_after_d 1 1 9 9 0 ≡ refused 16
   -- 1, 2 and 3 before all others; the header's last field is zero
-  pub short : restore_bytes (take 407 after_d) pool_after_d 8 0 9 9 0 ≡ refused 1
+  pub short : restore_bytes (take 279 after_d) pool_after_d 8 0 9 9 0 ≡ refused 1
   pub form : restore_bytes (set after_d 18 1) pool_after_d 8 0 9 9 0 ≡ refused 2
   pub pool : restore_bytes after_d (take 2047 pool_after_d) 8 0 9 9 0 ≡ refused 3
   -- "that LBN's first record" after k

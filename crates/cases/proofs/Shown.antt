@@ -10,12 +10,12 @@ use Rattle.book.proofs.AfterD.{after_d}
 use Rattle.model.specs.OnBytes.{after}
 use Rattle.model.specs.Sides.{end_of, ours}
 use Rattle.model.specs.Views.{sizes_bytes, used_bytes, volume_bytes, backups_bytes, cells_bytes, blocks_bytes, output_after}
-use Rattle.letters.proofs.Open.{model}
-use Rattle.letters.proofs.Letters.{A, B, C, print_of, over, list, box}
-use Rattle.letters.proofs.Table.{sizes, call_of, table, calls}
+use Rattle.cases.proofs.Open.{model}
+use Rattle.cases.proofs.Letters.{A, B, C, print_of, over, list, box}
+use Rattle.cases.proofs.Cases.{sizes, call_of, table, calls}
 
 unfoldable pub after_g : List ℕ
-after_g = (end_of (ours 408) (box sizes) (take 10 calls)).book
+after_g = (end_of (ours 280) (box sizes) (take 10 calls)).book
 
 -- ---- all but the day, whether the older backups are kept, and block 0
 

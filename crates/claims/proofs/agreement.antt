@@ -2,7 +2,6 @@
 -- every call keeps it.
 pub mod Agree
 pub mod AgreeLaws
-pub mod ImageAgree
 pub mod Sweep
 pub mod CollectAgree
 pub mod BlocksIn
@@ -27,7 +26,4 @@ pub mod BackupTouching
 pub mod BackupAgree
 pub mod RetireAfter
 pub mod RetireAgree
-pub mod NameNumber
-pub mod NameAgree
-pub mod DropAgree
 pub mod Standing

@@ -7,4 +7,3 @@ pub mod CollectTwice
 pub mod Proved
 pub mod PowerCut
 pub mod ReadPlaces
-pub mod UndoneName

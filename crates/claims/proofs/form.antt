@@ -4,12 +4,6 @@ pub mod Proper
 pub mod Bounds
 pub mod BackupAllowed
 pub mod FitParts
-pub mod NamesFit
-pub mod CellsMoved
-pub mod CellsGo
-pub mod NameAllowed
-pub mod NamesSet
-pub mod NameFit
 pub mod SlotsFit
 pub mod EntriesFit
 pub mod FreshFit
@@ -24,10 +18,7 @@ pub mod RetireAllowed
 pub mod RetireFit
 pub mod OnBytesFit
 pub mod ImageIn
-pub mod InLayout
-pub mod CellsBehind
 pub mod ConvertFit
 pub mod Refreshed
 pub mod SoundStays
 pub mod ToThree
-pub mod ToFour

@@ -10,16 +10,12 @@ pub mod KeptCells
 pub mod TakenIn
 pub mod KeptNames
 pub mod Reaches
-pub mod NamedMaps
-pub mod NamesThere
 pub mod Marks
 pub mod ReadRule
 pub mod ReadNumbers
 pub mod KeptHeld
 pub mod JournalAtLaws
-pub mod ImageStays
 pub mod RetireAt
 pub mod KeptNumbers
-pub mod ByDays
 pub mod KeptBefores
 pub mod RestoreLaws

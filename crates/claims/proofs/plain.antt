@@ -1,6 +1,5 @@
 -- The plain store by itself: what its volumes sent is what it reads.
 pub mod HistoryLaws
-pub mod PlainNames
 pub mod PlainShows
 pub mod PlainPlacing
 pub mod PlainChanges
@@ -8,10 +7,8 @@ pub mod PlainMarks
 pub mod PlainRecalls
 pub mod PlainRecallsBackup
 pub mod PlainRecallsRetire
-pub mod PlainRecallsNaming
 pub mod PlainRecallsOthers
 pub mod PlainProper
-pub mod PlainAllowed
 pub mod PlainHistory
 pub mod PlainReads
 pub mod HistoryRestores

@@ -1,20 +1,20 @@
--- What is claimed: of every list of calls on every fresh book (document 01, "The plain store", last two paragraphs), of power cuts, of
--- what backup's numbers count, backup finds and audit says, and of names. Statements only; the proofs are in proofs/claims.
+-- What is claimed: of every list of calls on every fresh book (document 01, "The plain store", last two paragraphs), of power cuts, and
+-- of what backup's numbers count, backup finds and audit says. Statements only; the proofs are in proofs/claims.
 use Rattle.std.specs.Prelude.{ℕ, ◌+◌, ◌-◌, ◌*◌, ◌≤◌, ◌<◌, ◌≡◌, ◌≢◌, Bool, true, false, not, ◌&&◌, ◌||◌, List, [], ◌∷◌, ◌++◌, length, get_or, set, drop, leb, eqb}
 use Rattle.words.specs.Blocks.{unmapped}
 use Rattle.words.specs.Choice.{if◌then◌else◌}
 use Rattle.words.specs.Lists.{all, some_of, count_of, joined}
 use Rattle.words.specs.Outcome.{Outcome, accepted}
 use Rattle.runs.specs.Changes.{lbns, change_count}
-use Rattle.book.specs.Book.{volumes, Sizes, Entry, Rec, Book, entry_at, is_free, cell_at}
+use Rattle.book.specs.Book.{volumes, Sizes, Entry, Rec, Book, entry_at, is_free, cell_at, retention_of}
 use Rattle.book.specs.Layout.{book_size, book_of}
 use Rattle.model.specs.Pool.{pool_size, block_at}
-use Rattle.model.specs.Journal.{Backup, journal, backup_count}
-use Rattle.model.specs.Names.{is_kept}
+use Rattle.model.specs.Days
+use Rattle.model.specs.Journal.{Backup, journal, backup_count, days}
 use Rattle.model.specs.Backup.{Backed}
 use Rattle.model.specs.Read.{image}
-use Rattle.model.specs.Audit.{applied, replayed, no_maps, counted_maps, until_in}
-use Rattle.model.specs.OnBytes.{format_bytes, restore_bytes, naming_bytes, dropping_bytes}
+use Rattle.model.specs.Audit.{applied, replayed, no_maps, until_in}
+use Rattle.model.specs.OnBytes.{format_bytes, restore_bytes}
 use Rattle.model.specs.Plain.{Plain, start, current_of, marked}
 use Rattle.model.specs.Calls.{Call, backup, collect, read, audit, Answer, number, gave, backed, freed, block, sound, is_accepted}
 use Rattle.model.specs.Sides.{answers_of, end_of, Ours, ours, plain, ours_shown, plain_shown}
@@ -218,20 +218,13 @@ pub record Means (x : Book) : Type 0 where
   pub befores : Befores (no_maps x) (journal x)
   pub maps : (v : ℕ) → v < volumes → get_or x.maps v [] ≡ get_or (replayed (no_maps x) (journal x)) v []
   -- "each count is the number of map cells naming the block"
-  -- .. and of "the named maps, once for each name" (document 02, K7)
-  pub counts : (p : ℕ) → p < x.sizes.n → (entry_at x.entries p).count ≡ count_of (eqb p) (joined (counted_maps x))
+  pub counts : (p : ℕ) → p < x.sizes.n → (entry_at x.entries p).count ≡ count_of (eqb p) (joined x.maps)
   -- "each expiry is the largest slot day plus retention over records with that before, 0 if none"
   pub expiries : (p : ℕ) → p < x.sizes.n → (entry_at x.entries p).expiry ≡ until_in x p (journal x)
   -- "held fingerprints differ"
   pub prints : Differ x.entries
-  -- "no current map and no kept backup names a free block": a named one counts as kept (document 02, K7)
+  -- "no current map and no kept backup names a free block"
   pub current : (v l : ℕ) → v < length x.maps → l < length (get_or x.maps v []) → Holds x (cell_at x.maps v l)
   pub kept : (v k l : ℕ) → v < volumes → 1 ≤ k → k ≤ backup_count x v
-      → is_kept x v k ≡ true → l < x.sizes.l
+      → Days.kept (days x v) (retention_of x v) x.day k ≡ true → l < x.sizes.l
       → Holds x (image x v k l)
-
--- ---- a name given and dropped again, of every book in form, also where audit says no (`name_undone`)
-
--- "Dropping the name zeroes its cell and lowers the same counts" (document 02, K7): no byte is then other than before the naming
-pub record NameUndone (b : List ℕ) (spare v k : ℕ) (t : List ℕ) : Type 0 where
-  pub back : (c : List ℕ) → naming_bytes b spare v k t ≡ accepted c → dropping_bytes c spare t ≡ accepted b

@@ -16,7 +16,7 @@ const SLOTS: u16 = 6;
 
 const RECORDS: u16 = 8;
 
-pub const BOOK_SIZE: usize = 408;
+pub const BOOK_SIZE: usize = 280;
 
 pub const POOL_SIZE: usize = 2048;
 

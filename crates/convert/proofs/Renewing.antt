@@ -1,7 +1,7 @@
 -- The front of the output, which is the book with layout 3 and then the same with its expiries worked out afresh.
 use Prim.Native.Nat.{ℕ, ◌≤◌}
 use mathlib.Core.Path.{◌≡◌, refl, sym, ap, ◌∙◌}
-use mathlib.Core.List.{List, [], ◌++◌}
+use mathlib.Core.List.{List, ◌++◌}
 use native.Mathlib.Omega.{arith}
 use lib.ListN.{length, take, drop}
 use lib.Seq.{sets, take_at, drop_at}
@@ -9,11 +9,11 @@ use Rattle.words.proofs.LayingLaws.{sets-front}
 use Rattle.book.proofs.Bytes.{length-bytes}
 use Rattle.book.proofs.Clauses.{book-parts, parts-book}
 use Rattle.book.proofs.Holding.{is-bytes, bytes-is, is_same}
-use Rattle.book.specs.Book.{Book, name_count}
+use Rattle.book.specs.Book.{Book}
 use Rattle.book.specs.FormFacts.{BookParts, FormFactsAs}
 use Rattle.book.specs.Layout.{book_size, bytes, sizes_of, book_of, Is}
 use Rattle.book.specs.Next.{sizes_in, with_layout, with_entries}
-use Rattle.claims.proofs.form.InLayout.{no_names, layout-sized, layout-ok}
+use Rattle.claims.proofs.form.ConvertFit.{layout-sized, layout-ok}
 use Rattle.claims.proofs.form.Refreshed.{refreshed-layout}
 use Rattle.model.specs.Convert.{refreshed}
 
@@ -25,11 +25,6 @@ module _ (b out : List ℕ) (f : FormFactsAs 2 b) {len : ℕ} (el : len ≡ book
   abbrev c : List ℕ
   c = bytes (with_layout 3 x)
 
-  -- layout 2 has no names
-  none : x.names ≡ []
-  unfolding name_count
-  none = no_names x f.holds.sized (ap name_count f.layout)
-
   long : length c ≡ len
   unfolding with_layout book_of
   long = length-bytes (with_layout 3 x) ∙ sym el
@@ -40,12 +35,12 @@ module _ (b out : List ℕ) (f : FormFactsAs 2 b) {len : ℕ} (el : len ≡ book
   pub front-is : Is (take len o₁) (with_layout 3 x)
   unfolding with_layout
   front-is =
-      is-bytes (with_layout 3 x) (layout-sized 3 x none f.holds.sized)
+      is-bytes (with_layout 3 x) (layout-sized 3 x f.holds.sized)
       (record { wide = refl; n = f.holds.n; l = f.holds.l; s = f.holds.s; j = f.holds.j })
       (ap (λ (o : List ℕ). take len o) same ∙ take_at c (drop len out) len long)
 
   pub front-parts : BookParts (book_of (take len o₁))
-  front-parts = rw front-is.book (book-parts (with_layout 3 x) (layout-ok 3 x none (rw f.layout) (parts-book x f.parts)))
+  front-parts = rw front-is.book (book-parts (with_layout 3 x) (layout-ok 3 x (rw f.layout) (parts-book x f.parts)))
 
   long_renewed : length (bytes (with_layout 3 (refreshed x))) ≡ len
   unfolding with_layout refreshed with_entries book_of

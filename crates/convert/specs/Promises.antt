@@ -1,7 +1,7 @@
 -- What each converter leaves, for all inputs, by `model`'s definitions.
 use Rattle.std.specs.Prelude.{ℕ, List, length}
 use Rattle.words.specs.Lent.{Lent}
-use Rattle.model.specs.Convert.{to_two, to_one, to_three, to_four}
+use Rattle.model.specs.Convert.{to_two, to_one, to_three}
 use Rattle.model.specs.Written.{Written}
 
 -- book, output; r is what the call returns
@@ -13,6 +13,3 @@ WrittenInOne b out r = Written (to_one b.entry.now (length out.entry.now)) out.e
 
 abbrev pub WrittenInThree : Lent (List ℕ) → Lent (List ℕ) → ℕ → Type 0
 WrittenInThree b out r = Written (to_three b.entry.now (length out.entry.now)) out.entry.now r out.exit.now
-
-abbrev pub WrittenInFour : Lent (List ℕ) → Lent (List ℕ) → ℕ → Type 0
-WrittenInFour b out r = Written (to_four b.entry.now (length out.entry.now)) out.entry.now r out.exit.now

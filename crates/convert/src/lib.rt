@@ -1,17 +1,62 @@
-// The converters: a book of one layout, written in another (document 02, K3, K4 and K7). All is checked before the
-// output is written.
-ghost use Rattle.convert.specs.Promises.{WrittenInTwo, WrittenInOne, WrittenInThree, WrittenInFour};
+// The converters: a book of one layout, written in another (document 02, K3 and K4). All is checked before the output
+// is written.
+ghost use Rattle.std.specs.Prelude.{◌≡◌, ◌≤◌, length};
+ghost use Rattle.words.specs.Lists.{all};
+ghost use Rattle.book.specs.Layout.{header_size, book_size, sizes_of, told, Holds};
+ghost use Rattle.book.specs.Next.{sizes_in};
+ghost use Rattle.model.specs.Convert.{is_narrow};
+ghost use Rattle.convert.specs.Promises.{WrittenInTwo, WrittenInOne, WrittenInThree};
 
-use carry::{all_narrow, carry_over, size_in};
+use entries::entry;
+use fields::header::{J_OFFSET, L_OFFSET, N_OFFSET, S_OFFSET, blocks};
+use fields::sizes::size_as;
 use form::form_as;
 use refresh::refresh;
 use rewriter::rewrite;
-use words::refusals;
+use words::{PBN, refusals, u16_at};
+
+// The largest count of layout 1.
+const NARROW_COUNT: u16 = 255;
+
+// How long the book is in this layout.
+fn size_in(book: &[u8], layout: u16) -> usize
+    requires { header_size ≤ length book.now }
+    ensures { result ≡ book_size (sizes_in layout (sizes_of book.now)) }
+{
+    let n = u16_at(book, N_OFFSET);
+    let l = u16_at(book, L_OFFSET);
+    let s = u16_at(book, S_OFFSET);
+    let j = u16_at(book, J_OFFSET);
+    size_as(layout, n, l, s, j)
+}
+
+// Whether layout 1 has room for each count.
+fn all_narrow(book: &[u8]) -> bool
+    requires { Holds book.now }
+    ensures { result ≡ all is_narrow (told book.entry).entries }
+{
+    let n = blocks(book);
+    let mut good = true;
+    let mut p = 0;
+    while p < n {
+        good = good & (entry::count(book, PBN(p)) <= NARROW_COUNT);
+        p += 1;
+    }
+    good
+}
 
 pub fn convert_1_2(book: &[u8], out: &mut [u8]) -> u16
     ensures { WrittenInTwo book out result }
 {
-    carry_over(book, 1, 2, out)
+    let refusal = form_as(book, 1);
+    if refusal != 0 {
+        return refusal;
+    }
+    if out.len() < size_in(book, 2) {
+        return refusals::SHORT_SPARE;
+    }
+    rewrite(book, 1, 2, out);
+    0
 }
 
 pub fn convert_2_1(book: &[u8], out: &mut [u8]) -> u16
@@ -46,10 +91,4 @@ pub fn convert_2_3(book: &[u8], out: &mut [u8]) -> u16
     rewrite(book, 2, 3, out);
     refresh(&mut out[..len]);
     0
-}
-
-pub fn convert_3_4(book: &[u8], out: &mut [u8]) -> u16
-    ensures { WrittenInFour book out result }
-{
-    carry_over(book, 3, 4, out)
 }

@@ -1,5 +1,5 @@
-// The converters: a book of one layout, written in another (document 02, K3, K4 and K7).
-ghost use Rattle.convert.specs.Promises.{WrittenInTwo, WrittenInOne, WrittenInThree, WrittenInFour};
+// The converters: a book of one layout, written in another (document 02, K3 and K4).
+ghost use Rattle.convert.specs.Promises.{WrittenInTwo, WrittenInOne, WrittenInThree};
 
 #[unsafe(no_mangle)]
 pub extern "C" fn aspen_convert_1_2(book: &[u8], out: &mut [u8]) -> u16
@@ -20,11 +20,4 @@ pub extern "C" fn aspen_convert_2_3(book: &[u8], out: &mut [u8]) -> u16
     ensures { WrittenInThree book out result }
 {
     convert::convert_2_3(book, out)
-}
-
-#[unsafe(no_mangle)]
-pub extern "C" fn aspen_convert_3_4(book: &[u8], out: &mut [u8]) -> u16
-    ensures { WrittenInFour book out result }
-{
-    convert::convert_3_4(book, out)
 }

@@ -8,7 +8,6 @@ pub mod enrol;
 pub mod format;
 pub mod in_form;
 pub mod listing;
-pub mod name;
 pub mod read;
 pub mod restore;
 pub mod retire;

@@ -1,6 +1,6 @@
-// What a host shows row by row: the backups of a volume, its map, the blocks of the pool, and the name cells.
+// What a host shows row by row: the backups of a volume, its map, and the blocks of the pool.
 ghost use Rattle.calendar.specs.Promises.{BackupsTold};
-ghost use Rattle.rows.specs.Promises.{CellsTold, BlocksTold, NamesTold};
+ghost use Rattle.rows.specs.Promises.{CellsTold, BlocksTold};
 
 #[unsafe(no_mangle)]
 pub extern "C" fn aspen_backups(book: &[u8], volume: u16, out: &mut [u8], count: &mut u16) -> u16
@@ -21,11 +21,4 @@ pub extern "C" fn aspen_blocks(book: &[u8], out: &mut [u8]) -> u16
     ensures { BlocksTold book out result }
 {
     rows::blocks::blocks(book, out)
-}
-
-#[unsafe(no_mangle)]
-pub extern "C" fn aspen_names(book: &[u8], out: &mut [u8]) -> u16
-    ensures { NamesTold book out result }
-{
-    rows::name_cells::names(book, out)
 }

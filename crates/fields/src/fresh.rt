@@ -8,7 +8,7 @@ ghost use Rattle.book.specs.Next.{new_sizes, fresh};
 ghost use Rattle.book.specs.FormFacts.{Bounds};
 
 use super::header::{L_OFFSET, LAYOUT, N_OFFSET};
-use super::offsets::{ENTRIES_FROM, ENTRY_SIZE, NAME_SIZE, NAMES, REC_SIZE, SLOT_SIZE, VOLUMES};
+use super::offsets::{ENTRIES_FROM, ENTRY_SIZE, REC_SIZE, SLOT_SIZE, VOLUMES};
 use words::{fill, put_three, put_u16};
 
 // Zeros, then unmapped cells, which are 255 in both bytes, then zeros.
@@ -39,7 +39,7 @@ pub fn format(book: &mut [u8], n: u16, l: u16, s: u16, j: u16)
 {
     let low = ENTRIES_FROM + (n as usize) * ENTRY_SIZE;
     let cells = VOLUMES * ((l as usize) * 2);
-    let high = (s as usize) * SLOT_SIZE + ((j as usize) * REC_SIZE + NAMES * NAME_SIZE);
+    let high = (s as usize) * SLOT_SIZE + (j as usize) * REC_SIZE;
     blank(book, low, cells, high);
     put_sizes(book, n, l, s, j);
 }

@@ -7,13 +7,10 @@ ghost use Rattle.book.specs.Next.{with_day, with_cursor, with_retention};
 use words::{put_u16, u16_at};
 
 // The layout that format makes and that the calls take.
-pub const LAYOUT: u16 = 4;
+pub const LAYOUT: u16 = 3;
 
 // The first layout, whose counts have one byte.
 pub const NARROW_LAYOUT: u16 = 1;
-
-// The first layout with name cells.
-pub const NAMED_LAYOUT: u16 = 4;
 
 pub const HEADER_SIZE: usize = 20;
 

@@ -1,14 +1,14 @@
 // Where the sections start and where their elements stand, by the header's sizes.
 ghost use Rattle.std.specs.Prelude.{◌≡◌, ◌+◌, ◌<◌, ◌≤◌, length};
-ghost use Rattle.book.specs.Book.{volumes, name_count};
-ghost use Rattle.book.specs.Layout.{slot_size, rec_size, name_size, maps_from, slots_from, records_from, names_from, told, Holds};
-ghost use Rattle.book.specs.Layout.{current_offset, cell_offset, slot_offset, rec_offset, name_offset};
+ghost use Rattle.book.specs.Book.{volumes};
+ghost use Rattle.book.specs.Layout.{slot_size, rec_size, maps_from, slots_from, records_from, told, Holds};
+ghost use Rattle.book.specs.Layout.{current_offset, cell_offset, slot_offset, rec_offset};
 
 use super::header;
 use words::limits::LAST_VOLUME;
 use words::{LBN, PBN};
 
-// Where the entries start, the sizes of the elements in bytes, and how many maps and name cells there are.
+// Where the entries start, the sizes of the elements in bytes, and how many maps there are.
 pub const ENTRIES_FROM: usize = 36;
 
 pub const ENTRY_SIZE: usize = 21;
@@ -19,13 +19,6 @@ pub const NARROW_ENTRY_SIZE: usize = 20;
 pub const SLOT_SIZE: usize = 8;
 
 pub const REC_SIZE: usize = 6;
-
-pub const NAME_SIZE: usize = 16;
-
-// Of a name cell, what comes before its volume and number.
-pub const TEXT_SIZE: usize = 12;
-
-pub const NAMES: usize = 8;
 
 pub const VOLUMES: usize = LAST_VOLUME as usize + 1;
 
@@ -53,15 +46,6 @@ pub fn records_from(book: &[u8]) -> usize
     let from = slots_from(book);
     let s = header::slots(book) as usize;
     from + s * SLOT_SIZE
-}
-
-pub fn names_from(book: &[u8]) -> usize
-    requires { Holds book.now }
-    ensures { result ≡ names_from (told book.entry).sizes }
-{
-    let from = records_from(book);
-    let j = header::journal(book) as usize;
-    from + j * REC_SIZE
 }
 
 pub fn entry_offset(p: PBN) -> usize
@@ -97,13 +81,4 @@ pub fn record_offset(book: &[u8], q: u16) -> usize
     ensures rec_size_in_bounds { result + rec_size ≤ length book.now }
 {
     records_from(book) + (q as usize) * REC_SIZE
-}
-
-pub fn name_offset(book: &[u8], q: u16) -> usize
-    requires holds { Holds book.now }
-    requires q_bound { q < name_count (told book).sizes.layout }
-    ensures value { result ≡ name_offset (told book.entry).sizes q }
-    ensures name_size_in_bounds { result + name_size ≤ length book.now }
-{
-    names_from(book) + (q as usize) * NAME_SIZE
 }

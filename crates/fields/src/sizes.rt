@@ -1,14 +1,11 @@
 // The sizes that a book may have, and how long it is then.
 ghost use Rattle.std.specs.Prelude.{◌*◌, ◌≤◌, ◌≡◌};
-ghost use Rattle.book.specs.Book.{name_count};
 ghost use Rattle.book.specs.Form.{between, sizes_ok};
 ghost use Rattle.book.specs.Layout.{entry_size, book_size};
 ghost use Rattle.book.specs.Next.{new_sizes};
 
-use super::header::{LAYOUT, NAMED_LAYOUT, NARROW_LAYOUT};
-use super::offsets::{
-    ENTRIES_FROM, ENTRY_SIZE, NAME_SIZE, NAMES, NARROW_ENTRY_SIZE, REC_SIZE, SLOT_SIZE, VOLUMES,
-};
+use super::header::{LAYOUT, NARROW_LAYOUT};
+use super::offsets::{ENTRIES_FROM, ENTRY_SIZE, NARROW_ENTRY_SIZE, REC_SIZE, SLOT_SIZE, VOLUMES};
 use words::limits::{MAX_BLOCKS, MAX_LBNS, MAX_RECORDS, MAX_SLOTS};
 
 fn in_range(x: u16, high: u16) -> bool
@@ -36,16 +33,6 @@ pub fn entries_size(layout: u16, n: u16) -> usize
     n as usize * ENTRY_SIZE
 }
 
-// The name cells that a book of this layout has.
-pub fn name_count(layout: u16) -> usize
-    ensures { (result ≡ name_count layout) × (result ≤ 8) }
-{
-    if layout < NAMED_LAYOUT {
-        return 0;
-    }
-    NAMES
-}
-
 // The length of a book of these sizes in this layout.
 pub fn size_as(layout: u16, n: u16, l: u16, s: u16, j: u16) -> usize
     ensures { result ≡ book_size (record { layout = layout; n = n; l = l; s = s; j = j }) }
@@ -55,7 +42,6 @@ pub fn size_as(layout: u16, n: u16, l: u16, s: u16, j: u16) -> usize
         + VOLUMES * (l as usize * 2)
         + s as usize * SLOT_SIZE
         + j as usize * REC_SIZE
-        + name_count(layout) * NAME_SIZE
 }
 
 // In today's layout.

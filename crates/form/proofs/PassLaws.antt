@@ -19,12 +19,11 @@ use Rattle.words.specs.Sections.{tab, part}
 use Rattle.words.proofs.SectionLaws.{length-tab}
 use Rattle.book.specs.Book.{volumes, Slot}
 use Rattle.book.specs.Layout.{n_offset, l_offset, s_offset, j_offset, b_offset, u_offset, retention_offset, entries_from, entry_size}
-use Rattle.book.specs.Layout.{maps_from, cell_offset, slots_from, slot_size, rec_size, slot_offset, records_from, rec_offset, names_from, book_size}
-use Rattle.book.specs.Layout.{sizes_of}
+use Rattle.book.specs.Layout.{maps_from, cell_offset, slots_from, slot_size, rec_size, slot_offset, records_from, rec_offset, book_size, sizes_of}
 use Rattle.book.specs.Layout.{entry_of}
 use Rattle.book.specs.Layout.{cell_of, rec_of, book_of}
 use Rattle.book.specs.Form.{retention_ok, entry_ok, pbn_ok, rec_ok, afters_ok, enrolled, slot_ok, days_ok, pairs_ok, book_ok, state_ok, second_ok, raw_ok}
-use Rattle.book.specs.Form.{name_ok, names_differ, layout_as, form_as}
+use Rattle.book.specs.Form.{layout_as, form_as}
 use Rattle.book.proofs.FormNumber.{number_0, number_2}
 use Rattle.book.specs.FormFacts.{BookParts}
 use Rattle.book.proofs.Conditions.{slot-facts}
@@ -32,13 +31,12 @@ use Rattle.book.proofs.Clauses.{book-parts, parts-book, RawParts, raw-parts, par
 use Rattle.slots.proofs.DayLaws.{volume_ok, days-pass}
 use Rattle.slots.specs.Days.{days_from, no_lasts, none_gone}
 use Rattle.slots.specs.Slots.{slots_left}
-use Rattle.records.specs.Records.{records_left}
-use Rattle.records.proofs.RecordLaws.{records-by}
+use Rattle.slots.specs.Records.{records_left}
+use Rattle.slots.proofs.RecordLaws.{records-by}
 use Rattle.slots.proofs.SlotLaws.{no-retention}
-use Rattle.labels.specs.Cells.{names_left}
 use Rattle.sections.specs.Checks.{zeros_in, head_ok, retentions_ok, entries_ok, maps_ok}
 use Rattle.sections.proofs.CheckLaws.{head-facts, facts-head}
-use Rattle.form.specs.Passes.{blocks_ok, slots_ok, journal_ok, names_ok}
+use Rattle.form.specs.Passes.{blocks_ok, slots_ok, journal_ok}
 
 -- ---- section by section
 
@@ -120,7 +118,7 @@ module _ (b : List ℕ) where
 
 -- all but the layout
 abbrev pub sections_ok : List ℕ → Bool
-sections_ok b = head_ok b && blocks_ok b && slots_ok b && journal_ok b && names_ok b
+sections_ok b = head_ok b && blocks_ok b && slots_ok b && journal_ok b
 
 module _ (b : List ℕ) (len : length b ≡ book_size (sizes_of b)) where
   rest-slots : num b b_offset ≤ num b s_offset
@@ -132,13 +130,13 @@ module _ (b : List ℕ) (len : length b ≡ book_size (sizes_of b)) where
 
   rest-records : num b u_offset ≤ num b j_offset
       → all_zero (part b (rec_offset (sizes_of b) (num b u_offset)) ((num b j_offset - num b u_offset) * rec_size))
-      ≡ zeros_in b (rec_offset (sizes_of b) (num b u_offset)) (names_from (sizes_of b))
+      ≡ zeros_in b (rec_offset (sizes_of b) (num b u_offset)) (book_size (sizes_of b))
   rest-records h =
       zeros-each b ((num b j_offset - num b u_offset) * rec_size) (rec_offset (sizes_of b) (num b u_offset)) (omega arith)
       ∙ ap (zeros_in b (rec_offset (sizes_of b) (num b u_offset))) (omega arith)
 
   to-sections : RawParts b → BookParts (book_of b) → sections_ok b ≡ true
-  unfolding blocks_ok slots_ok journal_ok names_ok names_left book_of
+  unfolding blocks_ok slots_ok journal_ok book_of
   to-sections r p =
       let head : head_ok b ≡ true =
       facts-head b (record {
@@ -164,15 +162,13 @@ module _ (b : List ℕ) (len : length b ≡ book_size (sizes_of b)) where
         slots,
         sym (rest-slots r.slots) ∙ r.rest_slots,
         sym (records-pass b p.pairs) ∙ records,
-        sym (rest-records r.records) ∙ r.rest_records,
       )
-      (true_and (all (name_ok (book_of b)) (book_of b).names) (names_differ (book_of b).names) p.names p.differ)
+      (sym (rest-records r.records) ∙ r.rest_records)
 
   from-sections : sections_ok b ≡ true → RawParts b × BookParts (book_of b)
-  unfolding blocks_ok slots_ok journal_ok names_ok names_left book_of
+  unfolding blocks_ok slots_ok journal_ok book_of
   from-sections e =
-      let t₄ = and_true (head_ok b && blocks_ok b && slots_ok b && journal_ok b) (names_ok b) e in
-      let t₃ = and_true (head_ok b && blocks_ok b && slots_ok b) (journal_ok b) t₄.0 in
+      let t₃ = and_true (head_ok b && blocks_ok b && slots_ok b) (journal_ok b) e in
       let t₂ = and_true (head_ok b && blocks_ok b) (slots_ok b) t₃.0 in
       let t₁ = and_true (head_ok b) (blocks_ok b) t₂.0 in
       let h = head-facts b t₁.0 in
@@ -185,8 +181,7 @@ module _ (b : List ℕ) (len : length b ≡ book_size (sizes_of b)) where
       let s = and_true (slots_left b 0 no_lasts none_gone 0 0) (zeros_in b (slot_offset (sizes_of b) (num b b_offset)) (records_from (sizes_of b))) t₂.1 in
       let j =
       and_true (records_left b 0 0)
-      (zeros_in b (rec_offset (sizes_of b) (num b u_offset)) (names_from (sizes_of b))) t₃.1 in
-      let w = and_true (all (name_ok (book_of b)) (book_of b).names) (names_differ (book_of b).names) t₄.1 in
+      (zeros_in b (rec_offset (sizes_of b) (num b u_offset)) (book_size (sizes_of b))) t₃.1 in
       let second = all (second_ok b) (up_from 0 (num b b_offset)) in
       let used = all (slot_ok (book_of b)) (book_of b).slots in
       let s₃ =
@@ -217,8 +212,6 @@ module _ (b : List ℕ) (len : length b ≡ book_size (sizes_of b)) where
           pairs = s₃.1;
           records = r.0;
           afters = r.1;
-          names = w.0;
-          differ = w.1;
         },
       )
 
@@ -250,8 +243,9 @@ module _ (b : List ℕ) where
   unfolding slots_ok
   slots_tests ef eu es er ez = rw (er, ez, ef, eu, es)
 
-  pub journal_tests : {from used s end : ℕ} {r z : Bool} → from ≡ slots_from (sizes_of b) → s ≡ num b s_offset → used ≡ num b u_offset
-      → end ≡ names_from (sizes_of b) → r ≡ records_left b 0 0 → z ≡ zeros_in b (from + s * slot_size + used * rec_size) end
+  pub journal_tests : {from used s : ℕ} {r z : Bool} → length b ≡ book_size (sizes_of b) → from ≡ slots_from (sizes_of b)
+      → s ≡ num b s_offset → used ≡ num b u_offset
+      → r ≡ records_left b 0 0 → z ≡ zeros_in b (from + s * slot_size + used * rec_size) (length b)
       → (r && z) ≡ journal_ok b
   unfolding journal_ok
-  journal_tests ef es eu ee er ez = rw (er, ez, ee, ef, es, eu)
+  journal_tests len ef es eu er ez = rw (er, ez, len, ef, es, eu)

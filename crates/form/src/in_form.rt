@@ -1,9 +1,9 @@
 // Whether a book is in form (document 01, numbers 1 and 2), in one pass over each section.
 ghost use Rattle.std.specs.Prelude.{◌+◌, ◌*◌, ◌≤◌, ◌<◌, ◌≡◌, true, length};
-ghost use Rattle.book.specs.Layout.{header_size, entry_offset, slots_from, names_from, sizes_of};
+ghost use Rattle.book.specs.Layout.{header_size, entry_offset, slots_from, sizes_of};
 ghost use Rattle.book.specs.Form.{layout_as, form_as, form_number};
 ghost use Rattle.book.specs.FormFacts.{Laid};
-ghost use Rattle.form.specs.Passes.{blocks_ok, slots_ok, journal_ok, names_ok};
+ghost use Rattle.form.specs.Passes.{blocks_ok, slots_ok, journal_ok};
 ghost use Rattle.sections.specs.Checks.{head_ok, entries_ok, HeadIn};
 
 use fields::header::{
@@ -11,12 +11,11 @@ use fields::header::{
     NARROW_LAYOUT, S_OFFSET, U_OFFSET, ZERO_OFFSET,
 };
 use fields::offsets::{ENTRIES_FROM, REC_SIZE, SLOT_SIZE, VOLUMES};
-use fields::sizes::{entries_size, name_count, size_as, sizes_ok};
-use labels::cells::used_names_ok;
-use records::used_records_ok;
+use fields::sizes::{entries_size, size_as, sizes_ok};
 use sections::blocks::{entries_ok, maps_ok, narrow_entries_ok, retentions_ok};
 use sections::zeros::zeros;
 use slots::journal::used_slots_ok;
+use slots::records::used_records_ok;
 use words::limits::MAX_DAY;
 use words::{refusals, u16_at};
 
@@ -76,16 +75,6 @@ fn slots_from(b: &[u8], layout: u16) -> usize
         + VOLUMES * (u16_at(b, L_OFFSET) as usize * 2)
 }
 
-// Where the name cells start, which is where the records end.
-fn names_from(b: &[u8], layout: u16) -> usize
-    requires { Laid layout b.now }
-    ensures { result ≡ names_from (sizes_of b.now) }
-{
-    slots_from(b, layout)
-        + u16_at(b, S_OFFSET) as usize * SLOT_SIZE
-        + u16_at(b, J_OFFSET) as usize * REC_SIZE
-}
-
 fn slots_ok(b: &[u8], layout: u16) -> bool
     requires laid { Laid layout b.now }
     requires head_in { HeadIn b.now }
@@ -116,19 +105,7 @@ fn journal_ok(b: &[u8], layout: u16) -> bool
         from,
         u16_at(b, N_OFFSET),
         u16_at(b, L_OFFSET),
-    ) & zeros(b, from + used * REC_SIZE, names_from(b, layout))
-}
-
-// Layouts below 4 have none.
-fn names_ok(b: &[u8], layout: u16) -> bool
-    requires laid { Laid layout b.now }
-    requires head_in { HeadIn b.now }
-    ensures { result ≡ names_ok b.now }
-{
-    let slots = slots_from(b, layout);
-    let used = u16_at(b, B_OFFSET) as usize;
-    let from = names_from(b, layout);
-    used_names_ok(b, slots, used, from, name_count(layout))
+    ) & zeros(b, from + used * REC_SIZE, b.len())
 }
 
 // 0 for a book of this layout in form; 1 where its length, layout number or sizes break the layout, 2 where it is
@@ -149,9 +126,6 @@ pub fn form_as(book: &[u8], layout: u16) -> u16
         return refusals::BAD_FORM;
     }
     if !journal_ok(book, layout) {
-        return refusals::BAD_FORM;
-    }
-    if !names_ok(book, layout) {
         return refusals::BAD_FORM;
     }
     0

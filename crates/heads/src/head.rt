@@ -20,10 +20,6 @@ pub const RESTORE: u8 = 5;
 
 pub const RETIRE: u8 = 6;
 
-pub const NAME: u8 = 7;
-
-pub const UNNAME: u8 = 8;
-
 // How many bytes of data the call at `at` has.
 pub fn data_size(calls: &[u8], at: usize) -> usize
     requires { at + head_size ≤ length calls.now }
@@ -56,12 +52,6 @@ fn unused_zero(kind: u8, a: u16, b: u16, c: u16, d: u16, size: usize) -> bool
     }
     if kind == RETIRE {
         return (c == 0) & (d == 0) & (size == 0);
-    }
-    if kind == NAME {
-        return (c == 0) & (d == 0);
-    }
-    if kind == UNNAME {
-        return (a == 0) & (b == 0) & (c == 0) & (d == 0);
     }
     false
 }

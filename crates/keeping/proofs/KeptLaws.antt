@@ -11,9 +11,9 @@ use Rattle.words.proofs.Ranges.{below_or_not}
 use Rattle.book.specs.Book.{volumes, Book, retention_of}
 use Rattle.book.specs.Form.{days_ok}
 use Rattle.claims.proofs.agreement.AgreeLaws.{volume-inside}
-use Rattle.model.specs.Journal.{slots_of, backup_count, no_volume}
+use Rattle.model.specs.Days.{kept}
+use Rattle.model.specs.Journal.{slots_of, backup_count, days, no_volume}
 use Rattle.model.specs.Kept.{kept_number}
-use Rattle.model.specs.Names.{is_named, is_kept}
 use Rattle.claims.proofs.kept.ReadNumbers.{numbers}
 use Rattle.claims.proofs.kept.Retirements.{RetiresLast, slots_end, count-within, number-backup, no_number}
 use Rattle.keeping.specs.declared.After.{After}
@@ -73,39 +73,33 @@ module _ (x : Book) (v k : ℕ) where
           let w = count-within x v in
           (rw (there, ne_eqb k 0 some, lt-ltb (backup_count x v) k (omega arith)), omega arith)
 
-      module _ (full : a.missing ≡ 0) (ordered : days_ok x.slots ≡ true) where
+      module _ (full : a.missing ≡ 0) (days : days_ok x.slots ≡ true) where
         pub backup-retired : a.retire ≡ true → KeptIs x v k (Refused 15)
         unfolding kept_number
         backup-retired out =
-            let above = behind x v k a some is full (slots_end x v ordered) out in
+            let above = behind x v k a some is full (slots_end x v days) out in
             (rw (there, ne_eqb k 0 some, lt-ltb (backup_count x v) k above), omega arith)
 
         module _ (in_use : a.retire ≡ false) where
           number-there : (eqb k 0 || ltb (backup_count x v) k) ≡ false
           number-there =
-              let most = among x v k a some is full (slots_end x v ordered) in_use in
+              let most = among x v k a some is full (slots_end x v days) in_use in
               rw (ne_eqb k 0 some, le-ltb (backup_count x v) k most)
 
-          -- whether it is named, and whether its days keep it, as the code asked
-          module _ {n f : Bool} (named : n ≡ is_named x v k) (lasts : f ≡ kept_from x a.taken a.at r) where
-            asked : (n || f) ≡ is_kept x v k
-            unfolding is_kept
-            asked = rw (named, lasts, ← same, kept-after x v k r a some is full)
+          pub backup_lapsed : kept_from x a.taken a.at r ≡ false → KeptIs x v k (Refused 16)
+          unfolding kept_number
+          backup_lapsed f = (rw (there, number-there, ← same, kept-after x v k r a some is full, f), omega arith)
 
-            pub backup_lapsed : not (n || f) ≡ true → KeptIs x v k (Refused 16)
-            unfolding kept_number
-            backup_lapsed h = (rw (there, number-there, ← asked, h), omega arith)
-
-            pub backup-kept : not (n || f) ≡ false → KeptIs x v k (Before a.at)
-            unfolding kept_number
-            backup-kept h = (rw (there, number-there, ← asked, h), is.later)
+          pub backup-kept : kept_from x a.taken a.at r ≡ true → KeptIs x v k (Before a.at)
+          unfolding kept_number
+          backup-kept f = (rw (there, number-there, ← same, kept-after x v k r a some is full, f), is.later)
 
 -- the volume of a backup that is there
 pub kept-volume : (x : Book) (v k : ℕ) → kept_number x v k ≡ 0 → v < volumes
 unfolding kept_number
 kept-volume x v k e =
     volume-inside x v (go (no_volume x v) (eqb k 0 || ltb (backup_count x v) k)
-    (is_kept x v k) e)
+    (kept (days x v) (retention_of x v) x.day k) e)
   where
     go : (a b c : Bool) → numbers a b c 0 ≡ 0 → a ≡ false
     go true b c f = absurd (omega arith)

@@ -7,7 +7,6 @@ ghost use Rattle.keeping.specs.Kept.{KeptIs};
 
 use fields::header;
 use journal::slot;
-use names::finding::is_named;
 use words::limits::LAST_VOLUME;
 use words::refusals;
 
@@ -76,7 +75,7 @@ pub fn is_kept(book: &[u8], taken: u16, at: u16, days: u16) -> bool
     (taken as u32) + (days as u32) >= (header::day(book) as u32)
 }
 
-// Numbers 5, 15 and 16. A backup with a name is kept, whatever its day (document 02, K7).
+// Numbers 5, 15 and 16.
 pub fn kept_backup(book: &[u8], v: u16, k: u16) -> Kept
     requires { FormFacts book.now }
     ensures { KeptIs (told book.entry) v k result }
@@ -100,8 +99,7 @@ pub fn kept_backup(book: &[u8], v: u16, k: u16) -> Kept
         return Kept::Refused(refusals::NO_BACKUP);
     }
     let at = after.at;
-    let named = is_named(book, v, k);
-    if !(named | is_kept(book, after.taken, at, days)) {
+    if !is_kept(book, after.taken, at, days) {
         return Kept::Refused(refusals::NOT_KEPT);
     }
     Kept::Before(at)

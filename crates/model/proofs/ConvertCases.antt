@@ -1,26 +1,25 @@
 -- The converters between layouts 1 and 2 on the smallest book, of one block, one LBN, one slot and one record; that to layout 3 on one where a
--- block was replaced, and that to layout 4 on the same. Here, and not in `cases`, so that a wrong definition is refused by what it gives.
+-- block was replaced. Here, and not in `cases`, so that a wrong definition is refused by what it gives.
 use Prim.Native.Nat.{ℕ}
 use mathlib.Core.Path.{◌≡◌, refl}
 use mathlib.Core.Bool.{true, false}
-use mathlib.Core.List.{List, [], ◌∷◌, ◌++◌, map}
+use mathlib.Core.List.{List, [], ◌∷◌, map}
 use lib.ListN.{length, replicate}
 use Rattle.words.specs.Blocks.{unmapped}
 use Rattle.words.specs.Lists.{joined}
 use Rattle.words.specs.Numbers.{two}
 use Rattle.words.specs.Outcome.{refused, accepted}
-use Rattle.book.specs.Book.{Entry, Book, no_print, free_entry, no_slot, no_rec, no_name, name_count}
+use Rattle.book.specs.Book.{Entry, Book, no_print, free_entry, no_slot, no_rec}
 use Rattle.book.specs.Form.{between, sizes_as, layout_as, retention_ok, entry_ok, pbn_ok, rec_ok, after_ok, slot_ok, later_ok, book_ok, state_ok, second_ok}
-use Rattle.book.specs.Form.{names_differ, raw_ok, form_as}
+use Rattle.book.specs.Form.{raw_ok, form_as}
 use Rattle.book.specs.Layout.{entry_size, bytes, book_of}
 use Rattle.book.specs.Next.{with_day, with_entries, with_layout, expiry_as, made_free, with_entry}
-use Rattle.model.specs.Audit.{maps_sound, no_maps, named_maps, count_sound, expiry_sound, prints_sound, cell_sound, current_sound, backup_sound}
+use Rattle.model.specs.Audit.{maps_sound, no_maps, count_sound, expiry_sound, prints_sound, cell_sound, current_sound, backup_sound}
 use Rattle.model.specs.Audit.{backups_sound, audit}
 use Rattle.model.specs.AuditTwo.{kept_two, expiry_two, backup_two, backups_two, audit_two}
-use Rattle.model.specs.Convert.{room_number, converted, narrow_number, to_two, to_one, refreshed_entry, refreshed, to_three, to_four}
+use Rattle.model.specs.Convert.{room_number, converted, narrow_number, to_two, to_one, refreshed_entry, refreshed, to_three}
 use Rattle.model.specs.Days.{kept}
 use Rattle.model.specs.Journal.{journal, slots_of, backup_count, days}
-use Rattle.model.specs.Names.{is_named, is_kept}
 use Rattle.model.specs.Read.{image}
 
 -- a book whose layout number, count and state have these bytes: day 5, volume 0 keeps 9 days, the block expires on 258
@@ -68,8 +67,8 @@ pub record Converts : Type 0 where
 
 pub converts : Converts
 unfolding
-    narrow wide damaged to_two to_one converted room_number narrow_number with_layout no_print free_entry no_slot no_rec name_count entry_size bytes book_of
-    between sizes_as layout_as retention_ok entry_ok pbn_ok rec_ok after_ok slot_ok later_ok names_differ book_ok state_ok second_ok raw_ok form_as
+    narrow wide damaged to_two to_one converted room_number narrow_number with_layout no_print free_entry no_slot no_rec entry_size bytes book_of
+    between sizes_as layout_as retention_ok entry_ok pbn_ok rec_ok after_ok slot_ok later_ok book_ok state_ok second_ok raw_ok form_as
 converts = record {
   there = refl;
   back = refl;
@@ -139,10 +138,10 @@ pub record Renews : Type 0 where
 pub renews : Renews
 unfolding
     narrow replaced to_two to_one to_three converted room_number narrow_number refreshed_entry refreshed with_layout with_entries expiry_as journal
-    no_print free_entry no_slot no_rec name_count entry_size bytes book_of between sizes_as layout_as retention_ok entry_ok pbn_ok rec_ok after_ok slot_ok later_ok
-    names_differ book_ok state_ok second_ok raw_ok form_as
+    no_print free_entry no_slot no_rec entry_size bytes book_of between sizes_as layout_as retention_ok entry_ok pbn_ok rec_ok after_ok slot_ok later_ok book_ok
+    state_ok second_ok raw_ok form_as
     with_day made_free audit_two kept_two expiry_two backup_two backups_two audit maps_sound no_maps count_sound expiry_sound prints_sound cell_sound
-    current_sound backup_sound backups_sound kept slots_of backup_count days is_named is_kept image named_maps
+    current_sound backup_sound backups_sound kept slots_of backup_count days image
 renews = record {
   afresh = refl;
   none = refl;
@@ -157,27 +156,3 @@ renews = record {
   freed_now = refl;
   others = refl;
 }
-
--- ---- from layout 3 to 4: "the converter adds them empty" (document 02, K7)
-
--- what stands behind the journal then
-abbrev added : List ℕ → List ℕ
-added b = b ++ replicate 128 0
-
-pub record Adds : Type 0 where
-  -- every field is equal
-  pub written : to_four (replaced 3 unmapped 14 0) 250 ≡ accepted (added (replaced 4 unmapped 14 0))
-  pub lengths : length (replaced 3 unmapped 14 0) ∷ length (added (replaced 4 unmapped 14 0)) ∷ [] ≡ 122 ∷ 250 ∷ []
-  -- it takes layout 3 alone; 2, and 4 after it
-  pub layouts : to_four (replaced 2 unmapped 14 0) 999 ∷ to_four (added (replaced 4 unmapped 14 0)) 999 ∷ [] ≡ refused 1 ∷ refused 1 ∷ []
-  pub form : to_four (replaced 3 unmapped 65001 0) 0 ≡ refused 2
-  pub room : to_four (replaced 3 unmapped 14 0) 249 ≡ refused 4
-  pub more : to_four (replaced 3 unmapped 14 0) 251 ≡ accepted (added (replaced 4 unmapped 14 0))
-  -- the others don't take layout 4
-  pub others : map (λ f. f (added (replaced 4 unmapped 14 0)) 999) (to_two ∷ to_one ∷ to_three ∷ []) ≡ refused 1 ∷ refused 1 ∷ refused 1 ∷ []
-
-pub adds : Adds
-unfolding
-    replaced to_two to_one to_three to_four converted room_number with_layout no_print free_entry no_slot no_rec no_name name_count entry_size bytes book_of between
-    sizes_as layout_as retention_ok entry_ok pbn_ok rec_ok after_ok slot_ok later_ok names_differ book_ok state_ok second_ok raw_ok form_as
-adds = record { written = refl; lengths = refl; layouts = refl; form = refl; room = refl; more = refl; others = refl }

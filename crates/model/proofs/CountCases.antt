@@ -60,7 +60,6 @@ book = record {
   maps = maps;
   slots = map (λ v. record { volume = v; retire = false; day = 0; first = 0; number = 0 }) (up_from 0 8);
   records = [];
-  names = [];
 }
 
 unfoldable pub store : Plain
@@ -71,7 +70,6 @@ store = record {
   blocks = held (replicate print_size 0) blank ∷ [];
   retentions = replicate 8 9;
   taken = map (λ v. record { volume = v; day = 0; what = image (get_or maps v []); changes = 0 }) (up_from 0 8);
-  called = [];
 }
 
 unfoldable pub last : List ℕ

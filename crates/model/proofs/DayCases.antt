@@ -70,7 +70,6 @@ book = record {
       ∷ record { lbn = 0; before = 2; after = 0 }
       ∷ record { lbn = 1; before = 1; after = 2 }
       ∷ [];
-  names = [];
 }
 
 pub record Expiries : Type 0 where
@@ -96,7 +95,6 @@ held = record {
   maps = (0 ∷ []) ∷ replicate 7 (unmapped ∷ []);
   slots = record { volume = 0; retire = false; day = 5; first = 0; number = 1 } ∷ [];
   records = record { lbn = 0; before = unmapped; after = 0 } ∷ [];
-  names = [];
 }
 
 unfoldable pub sent : List ℕ

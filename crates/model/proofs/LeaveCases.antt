@@ -14,10 +14,10 @@ use Rattle.model.specs.PlainRetire.{retire_number, retired, retire}
 use Rattle.model.specs.Calls
 use Rattle.model.specs.Calls.{number, gave}
 use Rattle.model.specs.Sides.{step_of, plain}
-use Rattle.model.specs.History.{History, noted, day_noted, with_left, kept_noted, history_number, history_run_number, sent_block}
+use Rattle.model.specs.History.{History, noted, day_noted, with_left, history_number, history_run_number, sent_block}
 
 abbrev sizes : ℕ → ℕ → Sizes
-sizes s j = record { layout = 4; n = 2; l = 3; s = s; j = j }
+sizes s j = record { layout = 3; n = 2; l = 3; s = s; j = j }
 
 -- volume 0 keeps 10 days and has one backup, of day 5, with two of three cells mapped and two changes
 abbrev box : ℕ → ℕ → Plain
@@ -28,7 +28,6 @@ box s j = record {
   blocks = replicate 2 free;
   retentions = 10 ∷ 0 ∷ [];
   taken = record { volume = 0; day = 5; what = image (1 ∷ unmapped ∷ 0 ∷ []); changes = 2 } ∷ [];
-  called = [];
 }
 
 abbrev left : Plain
@@ -36,7 +35,7 @@ left = (retired (box 4 9) 0 6).store
 
 -- a history with a backup of day 5, and retired on these days
 abbrev sent : List ℕ → History
-sent days = record { retention = 10; sent = record { day = 5; changes = [] } ∷ []; left = days; called = [] }
+sent days = record { retention = 10; sent = record { day = 5; changes = [] } ∷ []; left = days }
 
 pub record Leaves : Type 0 where
   -- 5: "above 7", not enrolled; 7: not above its last backup
@@ -74,8 +73,8 @@ pub record Leaves : Type 0 where
 
 pub leaves-tried : Leaves
 unfolding
-    kept bad_day not_after at_day with_taken read_number backup_number retire_number retired retire step_of plain with_left kept_noted history_number
-    history_run_number sent_block
+    kept bad_day not_after at_day with_taken read_number backup_number retire_number retired retire step_of plain with_left history_number history_run_number
+    sent_block
 leaves-tried = record {
   numbers = refl;
   days = refl;

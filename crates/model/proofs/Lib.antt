@@ -1,13 +1,8 @@
 pub mod CaseBlocks
-pub mod CaseNames
 pub mod ConvertCases
 pub mod CountCases
 pub mod DayCases
 pub mod LeaveCases
-pub mod NameCases
-pub mod NameDropCases
-pub mod NamedCases
-pub mod PlainNameCases
 pub mod RestoreCases
 pub mod RetireCases
 pub mod StepCases

@@ -10,7 +10,6 @@ use Rattle.book.specs.Next.{new_sizes}
 use Rattle.model.specs.Days.{kept}
 use Rattle.model.specs.Journal.{journal, slots_of, backup_count, days, is_retired, no_volume, no_living}
 use Rattle.model.specs.Kept.{kept_number}
-use Rattle.model.specs.Names.{is_named, is_kept}
 use Rattle.model.specs.Read.{image, read_number, read}
 use Rattle.model.specs.Restore.{run_number, restore}
 use Rattle.model.proofs.CaseBlocks.{block}
@@ -30,7 +29,6 @@ thrice = record {
       ∷ record { lbn = 0; before = 0; after = 1 }
       ∷ record { lbn = 0; before = 1; after = 0 }
       ∷ [];
-  names = [];
 }
 
 -- volume, number, first LBN, length, room
@@ -52,8 +50,7 @@ pub record Tried : Type 0 where
   pub later : try 0 4 3 0 0 ≡ refused 15
 
 pub tried : Tried
-unfolding
-    try thrice restore run_number kept_number read read_number image kept journal slots_of backup_count days is_retired no_volume no_living is_named is_kept
+unfolding try thrice restore run_number kept_number read read_number image kept journal slots_of backup_count days is_retired no_volume no_living
 tried = record {
   run = refl;
   unmapped-lbn = refl;

@@ -12,7 +12,6 @@ use Rattle.model.specs.Days.{kept, bad_day, not_after}
 use Rattle.model.specs.Journal.{journal, slots_of, backup_count, days, is_retired, no_volume, no_living}
 use Rattle.model.specs.Backup.{lowered, lower, backup_number}
 use Rattle.model.specs.Retire.{Retired, mapped_cells, retire_number, clear_number, cleared, clear_cell, retired, retire}
-use Rattle.model.specs.Names.{is_named, is_kept}
 use Rattle.model.specs.Read.{image, read_number}
 use Rattle.model.specs.OnBytes.{number_of, after}
 use Rattle.model.proofs.CaseBlocks.{hold}
@@ -37,7 +36,6 @@ book_with s j count = record {
       ∷ record { lbn = 3; before = unmapped; after = 1 }
       ∷ record { lbn = 0; before = 2; after = 0 }
       ∷ [];
-  names = [];
 }
 
 abbrev book : Book
@@ -141,8 +139,7 @@ pub record Read : Type 0 where
 pub read-tried : Read
 unfolding
     book_with journal slots_of backup_count days is_retired no_volume no_living bad_day not_after kept free_entry with_day with_entries with_maps
-    with_record with_slot count_as expiry_as lowered lower mapped_cells retire_number clear_number cleared clear_cell retired retire is_named is_kept image
-    read_number
+    with_record with_slot count_as expiry_as lowered lower mapped_cells retire_number clear_number cleared clear_cell retired retire image read_number
 read-tried = record {
   before = refl;
   kept = refl;

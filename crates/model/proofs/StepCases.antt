@@ -10,9 +10,9 @@ use Rattle.words.specs.Blocks.{unmapped}
 use Rattle.words.specs.Numbers.{two}
 use Rattle.runs.specs.Changes
 use Rattle.runs.specs.Changes.{Change}
-use Rattle.book.specs.Book.{Entry, Book, no_print, free_entry, no_slot, no_rec, no_name, name_count, is_used}
-use Rattle.book.specs.Form.{between, sizes_as, layout_as, retention_ok, entry_ok, pbn_ok, rec_ok, after_ok, slot_ok, later_ok, name_ok, names_differ}
-use Rattle.book.specs.Form.{book_ok, state_ok, second_ok, raw_ok, form_as}
+use Rattle.book.specs.Book.{Entry, Book, no_print, free_entry, no_slot, no_rec}
+use Rattle.book.specs.Form.{between, sizes_as, layout_as, retention_ok, entry_ok, pbn_ok, rec_ok, after_ok, slot_ok, later_ok, book_ok}
+use Rattle.book.specs.Form.{state_ok, second_ok, raw_ok, form_as}
 use Rattle.book.specs.Layout.{entry_size, bytes, book_of}
 use Rattle.book.specs.Next.{new_sizes, with_cursor, with_entries, with_maps, with_record, count_as, expiry_as, held_as}
 use Rattle.model.specs.Days.{bad_day, not_after}
@@ -56,7 +56,6 @@ book = record {
   maps = (1 ∷ unmapped ∷ []) ∷ replicate 7 (unmapped ∷ unmapped ∷ []);
   slots = record { volume = 0; retire = false; day = 5; first = 0; number = 1 } ∷ [];
   records = record { lbn = 0; before = unmapped; after = 1 } ∷ [];
-  names = [];
 }
 
 -- with the cursor at c
@@ -116,7 +115,6 @@ box = record {
     maps = replicate 8 (unmapped ∷ unmapped ∷ []);
     slots = [];
     records = [];
-    names = replicate 8 no_name;
   });
   pool = block 9;
 }
@@ -125,14 +123,14 @@ unfoldable pub sent : List ℕ
 sent = two 1 ++ (two 0 ++ (two 2 ++ (print 1 ++ (print 2 ++ (block 1 ++ block 2)))))
 
 pub record Refused : Type 0 where
-  pub answer : (ours 237 box (backup 0 5 sent)).answer ≡ number 12
-  pub left : map (λ (e : Entry). e.held) (book_of (ours 237 box (backup 0 5 sent)).next.book).entries ≡ false ∷ []
-  pub nothing : (ours 237 box (backup 0 5 sent)).next ≡ box
+  pub answer : (ours 109 box (backup 0 5 sent)).answer ≡ number 12
+  pub left : map (λ (e : Entry). e.held) (book_of (ours 109 box (backup 0 5 sent)).next.book).entries ≡ false ∷ []
+  pub nothing : (ours 109 box (backup 0 5 sent)).next ≡ box
 
 pub refused-tried : Refused
 unfolding
-    box sent ours step_of backup_bytes pool_number spare_number no_print free_entry no_slot no_rec no_name name_count is_used entry_size bytes book_of
-    between sizes_as layout_as retention_ok entry_ok pbn_ok rec_ok after_ok slot_ok later_ok name_ok names_differ book_ok state_ok second_ok raw_ok form_as
+    box sent ours step_of backup_bytes pool_number spare_number no_print free_entry no_slot no_rec entry_size bytes book_of
+    between sizes_as layout_as retention_ok entry_ok pbn_ok rec_ok after_ok slot_ok later_ok book_ok state_ok second_ok raw_ok form_as
     with_cursor with_entries with_maps with_record count_as expiry_as held_as
     Changes.pair_count Changes.pair_at Changes.pairs Changes.change_count Changes.lbns Changes.prints_from Changes.blocks_from
     Changes.list_size Changes.change_at Changes.changes Changes.list_number

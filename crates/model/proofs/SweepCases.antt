@@ -10,9 +10,8 @@ use Rattle.book.specs.Book.{Entry, Book, no_print, free_entry}
 use Rattle.book.specs.Next.{new_sizes, with_day, with_entries, made_free}
 use Rattle.model.specs.Days.{kept, bad_day}
 use Rattle.model.specs.Journal.{journal, slots_of, backup_count, days}
-use Rattle.model.specs.Names.{is_named, is_kept}
 use Rattle.model.specs.Read.{image}
-use Rattle.model.specs.Audit.{no_maps, maps_sound, named_maps, count_sound, expiry_sound, prints_sound, cell_sound, current_sound, backup_sound}
+use Rattle.model.specs.Audit.{no_maps, maps_sound, count_sound, expiry_sound, prints_sound, cell_sound, current_sound, backup_sound}
 use Rattle.model.specs.Audit.{backups_sound, audit}
 use Rattle.model.specs.Collect.{Collected, collect_number, is_over, swept_entry, collected, collect}
 use Rattle.model.specs.OnBytes.{after}
@@ -33,7 +32,6 @@ waiting d = record {
   maps = [];
   slots = [];
   records = [];
-  names = [];
 }
 
 -- how many a collect on day t frees, the book after it, and which blocks are held there
@@ -74,7 +72,6 @@ store = record {
       ∷ record { volume = 0; day = 8; what = Plain.image (1 ∷ []); changes = 1 }
       ∷ record { volume = 0; day = 9; what = Plain.image (2 ∷ []); changes = 1 }
       ∷ [];
-  called = [];
 }
 
 pub record Marked : Type 0 where
@@ -101,7 +98,6 @@ leaving = record {
       ∷ record { volume = 0; day = 8; what = Plain.image (1 ∷ []); changes = 1 }
       ∷ record { volume = 0; day = 9; what = Plain.retirement; changes = 1 }
       ∷ [];
-  called = [];
 }
 
 pub record Left : Type 0 where
@@ -127,7 +123,6 @@ counted c₀ c₁ = record {
   maps = (1 ∷ unmapped ∷ []) ∷ replicate 7 (unmapped ∷ unmapped ∷ []);
   slots = record { volume = 0; retire = false; day = 5; first = 0; number = 1 } ∷ record { volume = 0; retire = false; day = 8; first = 1; number = 1 } ∷ [];
   records = record { lbn = 0; before = unmapped; after = 0 } ∷ record { lbn = 0; before = 0; after = 1 } ∷ [];
-  names = [];
 }
 
 pub record Audited : Type 0 where
@@ -136,6 +131,6 @@ pub record Audited : Type 0 where
 
 pub audited_tried : Audited
 unfolding
-    counted free_entry no_print kept journal slots_of backup_count days is_named is_kept image no_maps maps_sound named_maps count_sound expiry_sound prints_sound cell_sound
+    counted free_entry no_print kept journal slots_of backup_count days image no_maps maps_sound count_sound expiry_sound prints_sound cell_sound
     current_sound backup_sound backups_sound audit
 audited_tried = record { first = refl; second = refl }

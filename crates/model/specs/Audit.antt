@@ -1,12 +1,12 @@
 -- Audit (document 01, "Audit says yes exactly when").
-use Rattle.std.specs.Prelude.{ℕ, ◌+◌, max, Bool, true, not, ◌&&◌, ◌||◌, List, [], ◌∷◌, ◌++◌, map, get_or, set, replicate, eqb}
+use Rattle.std.specs.Prelude.{ℕ, ◌+◌, max, Bool, true, not, ◌&&◌, ◌||◌, List, [], ◌∷◌, map, get_or, set, replicate, eqb}
 use Rattle.words.specs.Blocks.{unmapped}
 use Rattle.words.specs.Choice.{if◌then◌else◌}
 use Rattle.words.specs.Lists.{all, some_of, those, count_of, joined, same, differ, up_from}
-use Rattle.book.specs.Book.{volumes, Rec, Name, Book, entry_at, is_used, retention_of}
-use Rattle.model.specs.Journal.{backup_count, Backup, since_of, journal}
-use Rattle.model.specs.Names.{is_kept}
-use Rattle.model.specs.Read.{image, image_of}
+use Rattle.book.specs.Book.{volumes, Rec, Book, entry_at, retention_of}
+use Rattle.model.specs.Days.{kept}
+use Rattle.model.specs.Journal.{backup_count, Backup, since_of, journal, days}
+use Rattle.model.specs.Read.{image}
 
 -- ---- "the maps are the records replayed in order from all unmapped"
 
@@ -38,21 +38,10 @@ same_map ms ns v = same (get_or ms v []) (get_or ns v [])
 unfoldable pub maps_sound : Book → Bool
 maps_sound x = befores (no_maps x) (journal x) && all (same_map x.maps (replayed (no_maps x) (journal x))) (up_from 0 volumes)
 
--- ---- "each count is the number of map cells naming the block"; "The audit's count takes in the named maps, once for each name" (document 02,
--- K7)
-
-abbrev pub map_named : Book → Name → List ℕ
-map_named x n = image_of x n.volume n.number
-
-unfoldable pub named_maps : Book → List (List ℕ)
-named_maps x = map (map_named x) (those is_used x.names)
-
--- the maps whose cells the counts count
-abbrev pub counted_maps : Book → List (List ℕ)
-counted_maps x = x.maps ++ named_maps x
+-- ---- "each count is the number of map cells naming the block"
 
 unfoldable pub count_sound : Book → ℕ → Bool
-count_sound x p = eqb (entry_at x.entries p).count (count_of (eqb p) (joined (counted_maps x)))
+count_sound x p = eqb (entry_at x.entries p).count (count_of (eqb p) (joined x.maps))
 
 -- ---- "each expiry is the largest slot day plus retention over records with that before, 0 if none"; "the audit's expiries take step 3's new
 -- day for the slot day" (document 02, K4)
@@ -88,7 +77,7 @@ current_sound x = all (all (cell_sound x)) x.maps
 -- "for audit, which has only the book, when read's rule gives that PBN at some LBN"
 unfoldable pub backup_sound : Book → ℕ → ℕ → Bool
 backup_sound x v k =
-    not (is_kept x v k)
+    not (kept (days x v) (retention_of x v) x.day k)
     || all (λ lbn. cell_sound x (image x v k lbn)) (up_from 0 x.sizes.l)
 
 unfoldable pub backups_sound : Book → Bool

@@ -1,5 +1,5 @@
 -- Calls and their answers, as lists of calls have them (document 01, "Lists hold enrol, backup, collect, read and audit"; document 02, K6,
--- "Compared lists include retiring"; K7, "compared lists include naming and dropping").
+-- "Compared lists include retiring").
 use Rattle.std.specs.Prelude.{ℕ, Bool, true, List, [], ◌∷◌, eqb}
 
 pub data Call : Type 0 where
@@ -7,8 +7,6 @@ pub data Call : Type 0 where
   backup : ℕ → ℕ → List ℕ → Call  -- volume, day, change list
   collect : ℕ → Call  -- day
   retire : ℕ → ℕ → Call  -- volume, day
-  name : ℕ → ℕ → List ℕ → Call  -- volume, number, name
-  unname : List ℕ → Call  -- name
   read : ℕ → ℕ → ℕ → Call  -- volume, number, LBN
   audit : Call
 

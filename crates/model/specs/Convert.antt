@@ -1,4 +1,4 @@
--- The converters: a book of one layout, written in another (document 02, K3, K4 and K7).
+-- The converters: a book of one layout, written in another (document 02, K3 and K4).
 use Rattle.std.specs.Prelude.{ℕ, Bool, List, leb, ltb}
 use Rattle.words.specs.Choice.{if◌then◌else◌}
 use Rattle.words.specs.Lists.{all}
@@ -47,7 +47,3 @@ refreshed x = with_entries (tab x.sizes.n (refreshed_entry x)) x
 
 unfoldable pub to_three : List ℕ → ℕ → Outcome (List ℕ)
 to_three b room = converted 2 3 (λ x. 0) refreshed b room
-
--- "layout is 4, and the converter adds them empty" (document 02, K7)
-unfoldable pub to_four : List ℕ → ℕ → Outcome (List ℕ)
-to_four b room = converted 3 4 (λ x. 0) (λ x. x) b room

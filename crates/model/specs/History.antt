@@ -3,13 +3,12 @@ use Rattle.std.specs.Prelude.{ℕ, ◌+◌, ◌*◌, Bool, true, false, not, ◌
 use Rattle.std.proofs.Math.Option.{Option, none, some}
 use Rattle.words.specs.Blocks.{block_size}
 use Rattle.words.specs.Choice.{if◌then◌else◌}
-use Rattle.words.specs.Lists.{some_of, those, or_else, same, joined, up_from}
+use Rattle.words.specs.Lists.{some_of, or_else, joined, up_from}
 use Rattle.words.specs.Outcome.{Outcome, accepted, unless}
 use Rattle.words.specs.Sections.{flat}
 use Rattle.runs.specs.Changes.{Change, changes}
-use Rattle.book.specs.Book.{Name}
 use Rattle.model.specs.Days.{kept}
-use Rattle.model.specs.Calls.{Call, enrol, backup, collect, retire, name, unname, read, audit, Answer, is_accepted}
+use Rattle.model.specs.Calls.{Call, enrol, backup, collect, retire, read, audit, Answer, is_accepted}
 use Rattle.model.specs.Sides.{read_answer}
 
 -- an accepted backup as it was sent
@@ -17,43 +16,32 @@ pub record Sent : Type 0 where
   pub day : ℕ
   pub changes : List Change
 
--- a volume's accepted enrol, its accepted backups, the days on which it was retired, of which there is one at most, and the names that its backups
--- have (document 02, K7); retention 0 means that there was no enrol
+-- a volume's accepted enrol, its accepted backups, and the days on which it was retired, of which there is one at most; retention 0 means that
+-- there was no enrol
 pub record History : Type 0 where
   pub retention : ℕ
   pub sent : List Sent
   pub left : List ℕ
-  pub called : List Name
 
 unfoldable pub no_history : History
-no_history = record { retention = 0; sent = []; left = []; called = [] }
+no_history = record { retention = 0; sent = []; left = [] }
 
 -- ---- from calls and their answers
 
 unfoldable pub with_enrol : ℕ → History → History
-with_enrol r h = record { retention = r; sent = h.sent; left = h.left; called = h.called }
+with_enrol r h = record { retention = r; sent = h.sent; left = h.left }
 
 unfoldable pub with_sent : Sent → History → History
-with_sent s h = record { retention = h.retention; sent = h.sent ++ (s ∷ []); left = h.left; called = h.called }
+with_sent s h = record { retention = h.retention; sent = h.sent ++ (s ∷ []); left = h.left }
 
 unfoldable pub with_left : ℕ → History → History
-with_left t h = record { retention = h.retention; sent = h.sent; left = h.left ++ (t ∷ []); called = h.called }
-
-unfoldable pub with_names : List Name → History → History
-with_names ns h = record { retention = h.retention; sent = h.sent; left = h.left; called = ns }
-
--- the names without this one, whichever volume has it
-abbrev pub without : List ℕ → List Name → List Name
-without t ns = those (λ (n : Name). not (same n.text t)) ns
+with_left t h = record { retention = h.retention; sent = h.sent; left = h.left ++ (t ∷ []) }
 
 abbrev pub noted : ℕ → History → Call → Answer → History
 noted v h (enrol u r) a = if eqb u v && is_accepted a then with_enrol r h else h
 noted v h (backup u t list) a = if eqb u v && is_accepted a then with_sent (record { day = t; changes = changes list }) h else h
 noted v h (collect t) a = h
 noted v h (retire u t) a = if eqb u v && is_accepted a then with_left t h else h
-noted v h (name u k t) a =
-    if eqb u v && is_accepted a then with_names (h.called ++ (record { text = t; volume = u; number = k } ∷ [])) h else h
-noted v h (unname t) a = if is_accepted a then with_names (without t h.called) h else h
 noted v h (read u k lbn) a = h
 noted v h audit a = h
 
@@ -72,8 +60,6 @@ day_noted d (enrol u r) a = d
 day_noted d (backup u t list) a = if is_accepted a then t else d
 day_noted d (collect t) a = if is_accepted a then t else d
 day_noted d (retire u t) a = if is_accepted a then t else d
-day_noted d (name u k t) a = d
-day_noted d (unname t) a = d
 day_noted d (read u k lbn) a = d
 day_noted d audit a = d
 
@@ -90,10 +76,6 @@ day_of cs answers = day_from 0 cs answers
 -- the days of its backups, and behind them its retirement's: "the newest is no longer exempt" then (document 02, K6)
 abbrev pub days_noted : History → List ℕ
 days_noted h = map (λ (s : Sent). s.day) h.sent ++ h.left
-
--- "A named backup counts as kept in every rule" (document 02, K7)
-unfoldable pub kept_noted : History → ℕ → ℕ → Bool
-kept_noted h d k = some_of (λ (n : Name). eqb n.number k) h.called || kept (days_noted h) h.retention d k
 
 -- the block of the last change at that LBN
 abbrev pub last_block : ℕ → List Change → Option (List ℕ)
@@ -117,7 +99,7 @@ unfoldable pub history_number : ℕ → History → ℕ → ℕ → ℕ → ℕ
 history_number l h d k lbn =
     if eqb h.retention 0 then 5 else
     if eqb k 0 || ltb (length h.sent) k then 15 else
-    if not (kept_noted h d k) then 16 else
+    if not (kept (days_noted h) h.retention d k) then 16 else
     if leb l lbn then 17 else
     if is_none (sent_block h k lbn) then 18 else
     0
@@ -132,7 +114,7 @@ unfoldable pub history_run_number : ℕ → History → ℕ → ℕ → ℕ → 
 history_run_number l h d k first many room =
     if eqb h.retention 0 then 5 else
     if eqb k 0 || ltb (length h.sent) k then 15 else
-    if not (kept_noted h d k) then 16 else
+    if not (kept (days_noted h) h.retention d k) then 16 else
     if ltb l (first + many) || ltb room (many * block_size) then 21 else
     if some_of (λ lbn. is_none (sent_block h k lbn)) (up_from first many) then 18 else
     0

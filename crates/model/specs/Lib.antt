@@ -1,6 +1,5 @@
 pub mod Days
 pub mod Journal
-pub mod Names
 pub mod Pool
 pub mod Enrol
 pub mod Backup
@@ -9,7 +8,6 @@ pub mod Collect
 pub mod Read
 pub mod Kept
 pub mod Restore
-pub mod Naming
 pub mod Audit
 pub mod AuditTwo
 pub mod Convert
@@ -19,7 +17,6 @@ pub mod Written
 pub mod Plain
 pub mod PlainBackup
 pub mod PlainRetire
-pub mod PlainNaming
 pub mod Calls
 pub mod Sides
 pub mod History

@@ -15,7 +15,6 @@ use Rattle.model.specs.Collect.{Collected, collect}
 use Rattle.model.specs.Read.{image, read}
 use Rattle.model.specs.Restore.{restore}
 use Rattle.model.specs.Audit.{audit}
-use Rattle.model.specs.Naming.{name, unname}
 
 -- ---- what stands after a call: "A refusal gives its number only; nothing but the spare may change"
 
@@ -53,7 +52,7 @@ format_bytes b z = unless (format_number b z) (accepted (bytes (fresh z)))
 unfoldable pub enrol_bytes : List ℕ → ℕ → ℕ → Outcome (List ℕ)
 enrol_bytes b v r = unless (form_number b) (and_then (enrol (book_of b) v r) (λ x. accepted (bytes x)))
 
--- the book after a format, an enrol, a naming or a dropping
+-- the book after a format or an enrol
 abbrev pub book_after : Outcome (List ℕ) → List ℕ → List ℕ
 book_after o b = after (λ a. a) o b
 
@@ -92,22 +91,6 @@ retire_bytes b spare v t =
     unless (form_number b)
     (unless (spare_number b spare)
     (and_then (retire (book_of b) v t) (λ d. accepted (retired_bytes d))))
-
--- ---- naming and dropping (document 02, K7): "Both calls take book and spare"
-
--- book, length of the spare, volume, number, name
-unfoldable pub naming_bytes : List ℕ → ℕ → ℕ → ℕ → List ℕ → Outcome (List ℕ)
-naming_bytes b spare v k t =
-    unless (form_number b)
-    (unless (spare_number b spare)
-    (and_then (name (book_of b) v k t) (λ x. accepted (bytes x))))
-
--- book, length of the spare, name
-unfoldable pub dropping_bytes : List ℕ → ℕ → List ℕ → Outcome (List ℕ)
-dropping_bytes b spare t =
-    unless (form_number b)
-    (unless (spare_number b spare)
-    (and_then (unname (book_of b) t) (λ x. accepted (bytes x))))
 
 -- ---- collect
 

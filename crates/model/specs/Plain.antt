@@ -5,7 +5,7 @@ use Rattle.words.specs.Choice.{if◌then◌else◌}
 use Rattle.words.specs.Lists.{some_of, those, last_of, up_from}
 use Rattle.words.specs.Outcome.{Outcome, accepted, unless}
 use Rattle.words.specs.Sections.{tab}
-use Rattle.book.specs.Book.{volumes, Sizes, Name}
+use Rattle.book.specs.Book.{volumes, Sizes}
 use Rattle.model.specs.Days.{kept_by, kept, bad_day, bad_retention}
 
 -- "N blocks each free or with fingerprint and bytes"
@@ -26,8 +26,7 @@ pub record Taken : Type 0 where
   pub changes : ℕ
 
 -- "for each enrolled volume a retention and a list" of (day, whole map): a retention for each volume, where 0 means not enrolled, and "all
--- volumes' maps and retirements in the order taken, each with its number of changes" (document 02, K10); and it "notes up to eight names with
--- volume and number" (K7)
+-- volumes' maps and retirements in the order taken, each with its number of changes" (document 02, K10)
 pub record Plain : Type 0 where
   pub sizes : Sizes
   pub day : ℕ
@@ -35,18 +34,17 @@ pub record Plain : Type 0 where
   pub blocks : List Block
   pub retentions : List ℕ
   pub taken : List Taken
-  pub called : List Name
 
 -- "It starts with the format's sizes, day and cursor 0, all blocks free and no volume enrolled"
 unfoldable pub start : Sizes → Plain
-start z = record { sizes = z; day = 0; cursor = 0; blocks = replicate z.n free; retentions = replicate volumes 0; taken = []; called = [] }
+start z = record { sizes = z; day = 0; cursor = 0; blocks = replicate z.n free; retentions = replicate volumes 0; taken = [] }
 
 -- a store with one thing changed
 unfoldable pub at_day : ℕ → Plain → Plain
-at_day t q = record { sizes = q.sizes; day = t; cursor = q.cursor; blocks = q.blocks; retentions = q.retentions; taken = q.taken; called = q.called }
+at_day t q = record { sizes = q.sizes; day = t; cursor = q.cursor; blocks = q.blocks; retentions = q.retentions; taken = q.taken }
 
 unfoldable pub with_blocks : List Block → ℕ → Plain → Plain
-with_blocks bs c q = record { sizes = q.sizes; day = q.day; cursor = c; blocks = bs; retentions = q.retentions; taken = q.taken; called = q.called }
+with_blocks bs c q = record { sizes = q.sizes; day = q.day; cursor = c; blocks = bs; retentions = q.retentions; taken = q.taken }
 
 unfoldable pub with_retention : ℕ → ℕ → Plain → Plain
 with_retention v r q = record {
@@ -56,7 +54,6 @@ with_retention v r q = record {
   blocks = q.blocks;
   retentions = set q.retentions v r;
   taken = q.taken;
-  called = q.called;
 }
 
 unfoldable pub with_taken : Taken → Plain → Plain
@@ -67,18 +64,6 @@ with_taken i q = record {
   blocks = q.blocks;
   retentions = q.retentions;
   taken = q.taken ++ (i ∷ []);
-  called = q.called;
-}
-
-unfoldable pub with_called : List Name → Plain → Plain
-with_called ns q = record {
-  sizes = q.sizes;
-  day = q.day;
-  cursor = q.cursor;
-  blocks = q.blocks;
-  retentions = q.retentions;
-  taken = q.taken;
-  called = ns;
 }
 
 -- ---- looking things up
@@ -146,13 +131,6 @@ abbrev pub bytes_of : Block → List ℕ
 bytes_of free = []
 bytes_of (held f b) = b
 
--- "A named backup counts as kept in every rule" (document 02, K7)
-abbrev pub is_named : Plain → ℕ → ℕ → Bool
-is_named q v k = some_of (λ (n : Name). eqb n.volume v && eqb n.number k) q.called
-
-abbrev pub is_kept : Plain → ℕ → ℕ → Bool
-is_kept q v k = is_named q v k || kept (days_of (taken_of v q.taken)) (retention_at q v) q.day k
-
 -- ---- enrol: "notes the retention with an empty list": a volume that isn't enrolled has none
 
 unfoldable pub enrol_number : Plain → ℕ → ℕ → ℕ
@@ -179,16 +157,10 @@ abbrev pub kept_names : ℕ → ℕ → ℕ → List Taken → Bool
 kept_names p r d [] = false
 kept_names p r d (i ∷ is) = (kept_by i.day (days_of is) r d && names_in p i.what) || kept_names p r d is
 
--- "marks from named maps too" (document 02, K7)
-abbrev pub named_names : ℕ → Plain → Bool
-named_names p q = some_of (λ (n : Name). names p (map_at q.sizes (taken_of n.volume q.taken) n.number)) q.called
-
--- a current map, a backup kept at day D or a named one points to the block
+-- a current map or a backup kept at day D points to the block
 unfoldable pub marked : Plain → ℕ → ℕ → Bool
 marked q d p =
-    some_of (names p) (current_maps q)
-    || some_of (λ v. kept_names p (retention_at q v) d (taken_of v q.taken)) (up_from 0 volumes)
-    || named_names p q
+    some_of (names p) (current_maps q) || some_of (λ v. kept_names p (retention_at q v) d (taken_of v q.taken)) (up_from 0 volumes)
 
 -- the blocks after it, and how many it freed, where the first block has PBN p
 abbrev pub swept : (ℕ → Bool) → ℕ → List Block → List Block
@@ -225,7 +197,7 @@ unfoldable pub read_number : Plain → ℕ → ℕ → ℕ → ℕ
 read_number q v k lbn =
     if ltb 7 v || not (is_enrolled q v) then 5 else
     if eqb k 0 || ltb (length (maps_of (taken_of v q.taken))) k then 15 else
-    if not (is_kept q v k) then 16 else
+    if not (kept (days_of (taken_of v q.taken)) (retention_at q v) q.day k) then 16 else
     if leb q.sizes.l lbn then 17 else
     if eqb (cell q v k lbn) unmapped then 18 else
     0

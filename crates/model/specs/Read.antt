@@ -5,10 +5,9 @@ use Rattle.words.specs.Blocks.{unmapped}
 use Rattle.words.specs.Choice.{if◌then◌else◌}
 use Rattle.words.specs.Lists.{first_that, joined}
 use Rattle.words.specs.Outcome.{Outcome, accepted, unless}
-use Rattle.words.specs.Sections.{tab}
-use Rattle.book.specs.Book.{Rec, Book, cell_at}
-use Rattle.model.specs.Journal.{backup_count, Backup, slots_of, no_volume}
-use Rattle.model.specs.Names.{is_kept}
+use Rattle.book.specs.Book.{Rec, Book, cell_at, retention_of}
+use Rattle.model.specs.Days.{kept}
+use Rattle.model.specs.Journal.{backup_count, Backup, slots_of, days, no_volume}
 use Rattle.model.specs.Pool.{block_at}
 
 abbrev pub records_of : List Backup → List Rec
@@ -23,15 +22,11 @@ before_or p (some r) = r.before
 unfoldable pub image : Book → ℕ → ℕ → ℕ → ℕ
 image x v k lbn = before_or (cell_at x.maps v lbn) (first_that (λ r. eqb r.lbn lbn) (records_of (drop k (slots_of x v))))
 
--- the map of backup k, whole
-unfoldable pub image_of : Book → ℕ → ℕ → List ℕ
-image_of x v k = tab x.sizes.l (image x v k)
-
 unfoldable pub read_number : Book → ℕ → ℕ → ℕ → ℕ
 read_number x v k lbn =
     if no_volume x v then 5 else
     if eqb k 0 || ltb (backup_count x v) k then 15 else
-    if not (is_kept x v k) then 16 else
+    if not (kept (days x v) (retention_of x v) x.day k) then 16 else
     if leb x.sizes.l lbn then 17 else
     if eqb (image x v k lbn) unmapped then 18 else
     0

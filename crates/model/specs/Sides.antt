@@ -5,16 +5,14 @@ use Rattle.words.specs.Choice.{if◌then◌else◌}
 use Rattle.words.specs.Outcome.{Outcome, refused, accepted, and_then}
 use Rattle.book.specs.Book.{Entry}
 use Rattle.book.specs.Layout.{book_of}
-use Rattle.model.specs.OnBytes.{BackedBytes, CollectedBytes, RetiredBytes, enrol_bytes, backup_bytes, collect_bytes, retire_bytes}
-use Rattle.model.specs.OnBytes.{naming_bytes, dropping_bytes, read_bytes, audit_bytes}
+use Rattle.model.specs.OnBytes.{BackedBytes, CollectedBytes, RetiredBytes, enrol_bytes, backup_bytes, collect_bytes, retire_bytes, read_bytes, audit_bytes}
 use Rattle.model.specs.Plain
 use Rattle.model.specs.Plain.{Block, free, held, Plain, current_maps, PlainCollected}
 use Rattle.model.specs.PlainBackup
 use Rattle.model.specs.PlainBackup.{PlainBacked}
 use Rattle.model.specs.PlainRetire
 use Rattle.model.specs.PlainRetire.{PlainRetired}
-use Rattle.model.specs.PlainNaming
-use Rattle.model.specs.Calls.{Call, enrol, backup, collect, retire, name, unname, read, audit, Answer, number, gave, block, sound}
+use Rattle.model.specs.Calls.{Call, enrol, backup, collect, retire, read, audit, Answer, number, gave, block, sound}
 
 -- what a call answers and where it leaves a side
 pub record Step (S : Type 0) : Type 0 where
@@ -69,9 +67,8 @@ pub record Ours : Type 0 where
 abbrev pub with_book : List ℕ → Ours → Ours
 with_book b o = record { book = b; pool = o.pool }
 
--- after a call that answers no number: enrol, naming, dropping
-abbrev pub book_to : Ours → List ℕ → Outcome (Changed Ours)
-book_to o b = became (with_book b o) []
+abbrev pub enrolled_to : Ours → List ℕ → Outcome (Changed Ours)
+enrolled_to o b = became (with_book b o) []
 
 abbrev pub backed_to : BackedBytes → Outcome (Changed Ours)
 backed_to d = became (record { book = d.book; pool = d.pool }) (d.number ∷ d.taken ∷ d.touched ∷ [])
@@ -84,19 +81,17 @@ retired_to o d = became (with_book d.book o) (d.cells ∷ [])
 
 -- spare is the spare's length
 unfoldable pub ours : ℕ → Ours → Call → Step Ours
-ours spare o (enrol v r) = step_of o (and_then (enrol_bytes o.book v r) (book_to o))
+ours spare o (enrol v r) = step_of o (and_then (enrol_bytes o.book v r) (enrolled_to o))
 ours spare o (backup v t list) = step_of o (and_then (backup_bytes o.book o.pool spare v t list) backed_to)
 ours spare o (collect t) = step_of o (and_then (collect_bytes o.book t) (collected_to o))
 ours spare o (retire v t) = step_of o (and_then (retire_bytes o.book spare v t) (retired_to o))
-ours spare o (name v k t) = step_of o (and_then (naming_bytes o.book spare v k t) (book_to o))
-ours spare o (unname t) = step_of o (and_then (dropping_bytes o.book spare t) (book_to o))
 ours spare o (read v k lbn) = record { answer = read_answer (read_bytes o.book o.pool v k lbn); next = o }
 ours spare o audit = record { answer = audit_answer (audit_bytes o.book); next = o }
 
 -- ---- the plain store: "A refused call changes nothing in it, and neither does read or audit"; "its audit says yes"
 
-abbrev pub store_to : Plain → Outcome (Changed Plain)
-store_to q = became q []
+abbrev pub store_enrolled : Plain → Outcome (Changed Plain)
+store_enrolled q = became q []
 
 abbrev pub store_backed : PlainBacked → Outcome (Changed Plain)
 store_backed d = became d.store (d.number ∷ d.taken ∷ d.touched ∷ [])
@@ -108,12 +103,10 @@ abbrev pub store_retired : PlainRetired → Outcome (Changed Plain)
 store_retired d = became d.store (d.cells ∷ [])
 
 unfoldable pub plain : Plain → Call → Step Plain
-plain q (enrol v r) = step_of q (and_then (Plain.enrol q v r) store_to)
+plain q (enrol v r) = step_of q (and_then (Plain.enrol q v r) store_enrolled)
 plain q (backup v t list) = step_of q (and_then (PlainBackup.backup q v t list) store_backed)
 plain q (collect t) = step_of q (and_then (Plain.collect q t) store_collected)
 plain q (retire v t) = step_of q (and_then (PlainRetire.retire q v t) store_retired)
-plain q (name v k t) = step_of q (and_then (PlainNaming.name q v k t) store_to)
-plain q (unname t) = step_of q (and_then (PlainNaming.unname q t) store_to)
 plain q (read v k lbn) = record { answer = read_answer (Plain.read q v k lbn); next = q }
 plain q audit = record { answer = sound true; next = q }
 

@@ -1,17 +1,16 @@
 -- What a host is shown of a book, beside the calls of document 01: its sizes, how much of it is used, a volume, its backups, its map, and
 -- the blocks. A host that goes by these knows no place in the book.
-use Rattle.std.specs.Prelude.{ℕ, suc, ◌+◌, Bool, ◌||◌, List, [], ◌∷◌, ◌++◌, map, length, get_or, drop, ltb, eqb}
+use Rattle.std.specs.Prelude.{ℕ, ◌+◌, List, [], ◌∷◌, ◌++◌, map, length, get_or, drop, ltb, eqb}
 use Rattle.words.specs.Choice.{if◌then◌else◌}
 use Rattle.words.specs.Lists.{bit}
 use Rattle.words.specs.Numbers.{two}
 use Rattle.words.specs.Outcome.{Outcome, accepted, unless}
 use Rattle.words.specs.Sections.{flat}
 use Rattle.book.specs.Book.{Sizes, Entry, Book, retention_of}
-use Rattle.book.specs.Layout.{name_bytes, book_of}
+use Rattle.book.specs.Layout.{book_of}
 use Rattle.book.specs.Form.{form_number}
 use Rattle.model.specs.Days.{kept_by}
 use Rattle.model.specs.Journal.{Backup, slots_of, backup_count, no_volume}
-use Rattle.model.specs.Names.{is_named}
 use Rattle.model.specs.OnBytes.{after}
 
 -- ---- their numbers
@@ -55,26 +54,19 @@ abbrev pub kept_until : ℕ → List ℕ → ℕ → ℕ
 kept_until t [] r = 65535
 kept_until t (u ∷ us) r = t + r
 
--- a backup in 8 bytes: its day, how many records it has, until when it is kept, and 1 if it is kept on day d, else 0. One with a name is kept
--- until the name is dropped, and no day says when (document 02, K7)
-abbrev pub backup_row : Bool → Backup → List ℕ → ℕ → ℕ → List ℕ
-backup_row named b later r d =
-    flat two
-    (b.day
-    ∷ length b.records
-    ∷ (if named then 65535 else kept_until b.day later r)
-    ∷ bit (named || kept_by b.day later r d)
-    ∷ [])
+-- a backup in 8 bytes: its day, how many records it has, until when it is kept, and 1 if it is kept on day d, else 0
+abbrev pub backup_row : Backup → List ℕ → ℕ → ℕ → List ℕ
+backup_row b later r d =
+    flat two (b.day ∷ length b.records ∷ kept_until b.day later r ∷ bit (kept_by b.day later r d) ∷ [])
 
--- of a volume's slots, the first of which has number k: a retire slot has no row
-abbrev pub backup_rows : (ℕ → Bool) → ℕ → ℕ → ℕ → List Backup → List ℕ
-backup_rows named k r d [] = []
-backup_rows named k r d (b ∷ bs) =
-    (if b.retire then [] else backup_row (named k) b (map (λ (b : Backup). b.day) bs) r d) ++ backup_rows named (suc k) r d bs
+-- of a volume's slots: a retire slot has no row
+abbrev pub backup_rows : ℕ → ℕ → List Backup → List ℕ
+backup_rows r d [] = []
+backup_rows r d (b ∷ bs) = (if b.retire then [] else backup_row b (map (λ (b : Backup). b.day) bs) r d) ++ backup_rows r d bs
 
 -- the volume's backups by their numbers
 unfoldable pub backups_of : Book → ℕ → List ℕ
-backups_of x v = backup_rows (is_named x v) 1 (retention_of x v) x.day (slots_of x v)
+backups_of x v = backup_rows (retention_of x v) x.day (slots_of x v)
 
 -- the volume's current map, a PBN for each LBN
 unfoldable pub cells_of : Book → ℕ → List ℕ
@@ -86,10 +78,6 @@ block_row e = flat two (bit e.held ∷ e.count ∷ e.expiry ∷ []) ++ e.print
 
 unfoldable pub blocks_of : Book → List ℕ
 blocks_of x = flat block_row x.entries
-
--- the name cells as they stand in the book, 16 bytes each
-unfoldable pub names_of : Book → List ℕ
-names_of x = flat name_bytes x.names
 
 -- ---- on bytes
 
@@ -115,9 +103,6 @@ cells_bytes b v room = unless (enrolled_number b v) (with_room (cells_of (book_o
 
 unfoldable pub blocks_bytes : List ℕ → ℕ → Outcome (List ℕ)
 blocks_bytes b room = unless (form_number b) (with_room (blocks_of (book_of b)) room)
-
-unfoldable pub names_bytes : List ℕ → ℕ → Outcome (List ℕ)
-names_bytes b room = unless (form_number b) (with_room (names_of (book_of b)) room)
 
 -- "an output buffer past what is written is unchanged", and all of it on a refusal
 abbrev pub output_after : Outcome (List ℕ) → List ℕ → List ℕ

@@ -5,10 +5,10 @@ use mathlib.Core.List.{List, [], ◌∷◌, ◌++◌}
 use native.Mathlib.Omega.{arith}
 use lib.ListN.{length}
 use Rattle.words.specs.Lists.{joined}
-use Rattle.book.specs.Book.{no_print, free_entry, no_slot, no_rec, name_count, no_name, is_used}
+use Rattle.book.specs.Book.{no_print, free_entry, no_slot, no_rec}
 use Rattle.book.specs.Layout.{entry_size, book_size, bytes, book_of}
 use Rattle.book.specs.Form.{between, sizes_as, layout_as, retention_ok, entry_ok, pbn_ok, rec_ok, after_ok, slot_ok, later_ok, book_ok, state_ok, second_ok}
-use Rattle.book.specs.Form.{name_ok, names_differ, backup_slots, raw_ok, form_as}
+use Rattle.book.specs.Form.{raw_ok, form_as}
 use Rattle.book.specs.Next.{new_sizes, with_day}
 use Rattle.book.proofs.AfterD.{after_d}
 use Rattle.pages.specs.Tally.{tally_number, digits, decimal, line, blocks_word, held_word, free_word, waiting_word, references_word}
@@ -34,8 +34,8 @@ page_after_d =
 -- opens all that the cases compute with
 unfoldable opened : ℕ
 unfolding
-    no_print free_entry no_slot no_rec name_count no_name is_used entry_size bytes book_of between sizes_as layout_as retention_ok entry_ok pbn_ok rec_ok after_ok slot_ok later_ok
-    book_ok state_ok second_ok name_ok names_differ backup_slots raw_ok
+    no_print free_entry no_slot no_rec entry_size bytes book_of between sizes_as layout_as retention_ok entry_ok pbn_ok rec_ok after_ok slot_ok later_ok
+    book_ok state_ok second_ok raw_ok
     form_as with_day tally_number blocks held free waiting references decimal line book_page tally_page after_d page_after_d
 opened = 0
 
@@ -43,26 +43,26 @@ page : tally_page after_d ≡ page_after_d
 unfolding opened
 page = refl
 
--- ---- a book of 65,536 bytes has room for 3,111 entries: 36 + 21N + 16 + 8 + 6 + 128
+-- ---- a book of 65,536 bytes has room for 3,117 entries: 36 + 21N + 16 + 8 + 6
 
--- "blocks 3111", "held 3111", "free 0", "waiting 0", "references 203879385": every count is 65,535
+-- "blocks 3117", "held 3117", "free 0", "waiting 0", "references 204272595": every count is 65,535
 unfoldable pub most_references : List ℕ
 most_references =
     joined
-    ((98 ∷ 108 ∷ 111 ∷ 99 ∷ 107 ∷ 115 ∷ 32 ∷ 51 ∷ 49 ∷ 49 ∷ 49 ∷ 10 ∷ [])
-    ∷ (104 ∷ 101 ∷ 108 ∷ 100 ∷ 32 ∷ 51 ∷ 49 ∷ 49 ∷ 49 ∷ 10 ∷ [])
+    ((98 ∷ 108 ∷ 111 ∷ 99 ∷ 107 ∷ 115 ∷ 32 ∷ 51 ∷ 49 ∷ 49 ∷ 55 ∷ 10 ∷ [])
+    ∷ (104 ∷ 101 ∷ 108 ∷ 100 ∷ 32 ∷ 51 ∷ 49 ∷ 49 ∷ 55 ∷ 10 ∷ [])
     ∷ (102 ∷ 114 ∷ 101 ∷ 101 ∷ 32 ∷ 48 ∷ 10 ∷ [])
     ∷ (119 ∷ 97 ∷ 105 ∷ 116 ∷ 105 ∷ 110 ∷ 103 ∷ 32 ∷ 48 ∷ 10 ∷ [])
-    ∷ (114 ∷ 101 ∷ 102 ∷ 101 ∷ 114 ∷ 101 ∷ 110 ∷ 99 ∷ 101 ∷ 115 ∷ 32 ∷ 50 ∷ 48 ∷ 51 ∷ 56 ∷ 55 ∷ 57 ∷ 51 ∷ 56 ∷ 53 ∷ 10 ∷ [])
+    ∷ (114 ∷ 101 ∷ 102 ∷ 101 ∷ 114 ∷ 101 ∷ 110 ∷ 99 ∷ 101 ∷ 115 ∷ 32 ∷ 50 ∷ 48 ∷ 52 ∷ 50 ∷ 55 ∷ 50 ∷ 53 ∷ 57 ∷ 53 ∷ 10 ∷ [])
     ∷ [])
 
--- "blocks 3111", "held 2526", "free 585", "waiting 1000", "references 100006410": 1,526 counts are 65,535
+-- "blocks 3117", "held 2526", "free 591", "waiting 1000", "references 100006410": 1,526 counts are 65,535
 unfoldable pub longest_page : List ℕ
 longest_page =
     joined
-    ((98 ∷ 108 ∷ 111 ∷ 99 ∷ 107 ∷ 115 ∷ 32 ∷ 51 ∷ 49 ∷ 49 ∷ 49 ∷ 10 ∷ [])
+    ((98 ∷ 108 ∷ 111 ∷ 99 ∷ 107 ∷ 115 ∷ 32 ∷ 51 ∷ 49 ∷ 49 ∷ 55 ∷ 10 ∷ [])
     ∷ (104 ∷ 101 ∷ 108 ∷ 100 ∷ 32 ∷ 50 ∷ 53 ∷ 50 ∷ 54 ∷ 10 ∷ [])
-    ∷ (102 ∷ 114 ∷ 101 ∷ 101 ∷ 32 ∷ 53 ∷ 56 ∷ 53 ∷ 10 ∷ [])
+    ∷ (102 ∷ 114 ∷ 101 ∷ 101 ∷ 32 ∷ 53 ∷ 57 ∷ 49 ∷ 10 ∷ [])
     ∷ (119 ∷ 97 ∷ 105 ∷ 116 ∷ 105 ∷ 110 ∷ 103 ∷ 32 ∷ 49 ∷ 48 ∷ 48 ∷ 48 ∷ 10 ∷ [])
     ∷ (114 ∷ 101 ∷ 102 ∷ 101 ∷ 114 ∷ 101 ∷ 110 ∷ 99 ∷ 101 ∷ 115 ∷ 32 ∷ 49 ∷ 48 ∷ 48 ∷ 48 ∷ 48 ∷ 54 ∷ 52 ∷ 49 ∷ 48 ∷ 10 ∷ [])
     ∷ [])
@@ -81,9 +81,9 @@ unfolding counts_page line
 page_few n t h = rw (decimal-few 8 t.references h)
 
 pub record Large : Type 0 where
-  pub entries : book_size (new_sizes 3111 1 1 1) ≡ 65525
-  pub most : counts_page 3111 (record { held = 3111; free = 0; waiting = 0; references = 3111 * 65535 }) ≡ most_references
-  pub long : counts_page 3111 (record { held = 2526; free = 585; waiting = 1000; references = 1526 * 65535 }) ≡ longest_page
+  pub entries : book_size (new_sizes 3117 1 1 1) ≡ 65523
+  pub most : counts_page 3117 (record { held = 3117; free = 0; waiting = 0; references = 3117 * 65535 }) ≡ most_references
+  pub long : counts_page 3117 (record { held = 2526; free = 591; waiting = 1000; references = 1526 * 65535 }) ≡ longest_page
   pub bytes : length longest_page ≡ 65
 
 large : Large
@@ -91,8 +91,8 @@ unfolding opened most_references longest_page
 large =
     record {
       entries = refl;
-      most = page_few 3111 (record { held = 3111; free = 0; waiting = 0; references = 3111 * 65535 }) (omega arith);
-      long = page_few 3111 (record { held = 2526; free = 585; waiting = 1000; references = 1526 * 65535 }) (omega arith);
+      most = page_few 3117 (record { held = 3117; free = 0; waiting = 0; references = 3117 * 65535 }) (omega arith);
+      long = page_few 3117 (record { held = 2526; free = 591; waiting = 1000; references = 1526 * 65535 }) (omega arith);
       bytes = refl;
     }
 

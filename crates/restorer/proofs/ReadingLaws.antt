@@ -8,11 +8,11 @@ use borrow.Author.Tests.{eq-eqb, ne_eqb, eqb-false, le-leb, lt-leb}
 use Rattle.words.specs.Blocks.{unmapped}
 use Rattle.words.specs.Choice.{if◌then◌else◌}
 use Rattle.words.specs.Outcome.{refused, accepted, unless}
-use Rattle.book.specs.Book.{Book}
-use Rattle.model.specs.Journal.{backup_count, no_volume}
+use Rattle.book.specs.Book.{Book, retention_of}
+use Rattle.model.specs.Days.{kept}
+use Rattle.model.specs.Journal.{backup_count, days, no_volume}
 use Rattle.model.specs.JournalAt.{image_from}
 use Rattle.model.specs.Kept.{kept_number}
-use Rattle.model.specs.Names.{is_kept}
 use Rattle.model.specs.Read.{image, read_number}
 use Rattle.claims.proofs.kept.ReadNumbers.{numbers, numbers-then}
 use Rattle.keeping.specs.Kept.{KeptIs}
@@ -42,7 +42,7 @@ sought_order : (x : Book) (v k lbn : ℕ)
     (unless (mapped_number x lbn (image x v k lbn)) (accepted (image x v k lbn)))
 unfolding sought_in read_number kept_number mapped_number
 sought_order x v k lbn =
-    numbers-then (no_volume x v) (eqb k 0 || ltb (backup_count x v) k) (is_kept x v k) _
+    numbers-then (no_volume x v) (eqb k 0 || ltb (backup_count x v) k) (kept (days x v) (retention_of x v) x.day k) _
     (accepted (image x v k lbn))
 
 pub sought_refused : (x : Book) (v k lbn n : ℕ) → KeptIs x v k (Refused n) → sought_in x v k lbn ≡ refused n
@@ -61,7 +61,7 @@ pub number_mapped : (x : Book) (v k lbn : ℕ) → read_number x v k lbn ≡ 0 �
 unfolding read_number
 number_mapped x v k lbn e =
     eqb-false (image x v k lbn) unmapped
-    (go (no_volume x v) (eqb k 0 || ltb (backup_count x v) k) (is_kept x v k)
+    (go (no_volume x v) (eqb k 0 || ltb (backup_count x v) k) (kept (days x v) (retention_of x v) x.day k)
     (leb x.sizes.l lbn) (eqb (image x v k lbn) unmapped) e)
   where
     go : (a b c d u : Bool) → numbers a b c (if d then 17 else if u then 18 else 0) ≡ 0 → u ≡ false

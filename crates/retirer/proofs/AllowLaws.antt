@@ -22,7 +22,7 @@ use Rattle.model.specs.OnBytes.{spare_number, RetiredBytes, retired_bytes, retir
 use Rattle.claims.proofs.kept.DayLaws.{good-day, last-before}
 use Rattle.permit.specs.Allowing.{day_refused, room_number}
 use Rattle.permit.proofs.AllowLaws.{then-then}
-use Rattle.clearer.specs.Clearing.{clear_all}
+use Rattle.retirer.specs.Clearing.{clear_all}
 use Rattle.retirer.specs.Allowing.{goes_on}
 
 -- ---- numbers 5 to 10, in order

@@ -1,2 +1,3 @@
+pub mod ClearLaws
 pub mod AllowLaws
 pub mod RetireLaws

@@ -11,8 +11,8 @@ use Rattle.book.specs.Layout.{told, book_of, Is}
 use Rattle.book.proofs.Holding.{bytes-is, is_same}
 use Rattle.model.specs.Retire.{retired}
 use Rattle.model.specs.OnBytes.{retired_bytes}
-use Rattle.clearer.specs.Clearing.{clear_all}
 use Rattle.retirer.specs.Allowing.{Ready, AllowedBy}
+use Rattle.retirer.specs.Clearing.{clear_all}
 use Rattle.retirer.specs.Closing.{closed_book, WorkedBy}
 use Rattle.retirer.specs.Promises.{outcome, RetiredBy}
 use Rattle.retirer.specs.declared.allowing.Plan.{Plan}

@@ -8,7 +8,7 @@ use Rattle.book.specs.FormFacts.{FormFacts}
 use Rattle.model.specs.Backup.{until_next}
 use Rattle.model.specs.Retire.{mapped_cells, retired}
 use Rattle.model.specs.OnBytes.{RetiredBytes, retired_bytes, retire_bytes}
-use Rattle.clearer.specs.Clearing.{clear_all}
+use Rattle.retirer.specs.Clearing.{clear_all}
 use Rattle.retirer.specs.declared.allowing.Plan.{Plan}
 use Rattle.retirer.specs.declared.allowing.Allowed.{Allowed}
 use Rattle.retirer.specs.declared.allowing.Allowed.TheVariants.{Go, Refused}

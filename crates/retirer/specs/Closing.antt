@@ -5,7 +5,7 @@ use Rattle.words.specs.Outcome.{refused, accepted}
 use Rattle.book.specs.Book.{Book}
 use Rattle.book.specs.Layout.{told, Is}
 use Rattle.book.specs.Next.{with_day, with_slot}
-use Rattle.clearer.specs.Clearing.{clear_all}
+use Rattle.retirer.specs.Clearing.{clear_all}
 
 -- "a backup slot whose second byte is 1"; "day becomes T"
 abbrev pub closed_book : ℕ → ℕ → ℕ → ℕ → Book → Book

@@ -1,3 +1,4 @@
 pub mod Promises
+pub mod Clearing
 pub mod Allowing
 pub mod Closing

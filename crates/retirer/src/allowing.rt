@@ -2,7 +2,7 @@
 ghost use Rattle.std.specs.Prelude.{◌≡◌};
 ghost use Rattle.retirer.specs.Allowing.{AllowedBy, allowed_number};
 
-use clearer::clearing::mapped_cells;
+use super::clearing::mapped_cells;
 use fields::header;
 use form::form_number;
 use permit::allowing::{bad_day, room};

@@ -9,7 +9,7 @@ ghost use Rattle.retirer.specs.Closing.{WorkedBy};
 ghost use Rattle.retirer.specs.Promises.{RetiredBy};
 
 use super::allowing::{Allowed, allow, allowed_number};
-use clearer::clearing::clear_cells;
+use super::clearing::clear_cells;
 use fields::header;
 use journal::slot;
 use words::{put_bytes, refusals};

@@ -1,10 +1,9 @@
-// A book's bytes in another layout: its counts in the other width, all else as it stands, and name cells where the layout has them.
+// A book's bytes in another layout: its counts in the other width, and all else as it stands.
 ghost use Rattle.std.specs.Prelude.{◌≡◌, ◌++◌, true, ◌+◌, ◌≤◌, ◌<◌, length};
 ghost use Rattle.std.proofs.lemmas.List.Edits.{sets};
 ghost use Rattle.words.specs.Laying.{Stored};
 ghost use Rattle.words.specs.Lists.{all};
 ghost use Rattle.words.specs.Sections.{flat};
-ghost use Rattle.book.specs.Book.{name_count};
 ghost use Rattle.book.specs.FormFacts.{FormFactsAs};
 ghost use Rattle.book.specs.Layout.{count_size, entry_size, entries_from, book_size};
 ghost use Rattle.book.specs.Layout.{count_bytes, entry_bytes, bytes, count_in, told};
@@ -12,9 +11,9 @@ ghost use Rattle.book.specs.Next.{sizes_in, with_layout};
 ghost use Rattle.model.specs.Convert.{is_narrow};
 
 use fields::header::{N_OFFSET, NARROW_LAYOUT};
-use fields::offsets::{ENTRIES_FROM, ENTRY_SIZE, NAME_SIZE, NARROW_ENTRY_SIZE};
-use fields::sizes::{entries_size, name_count};
-use words::{fill, put_bytes, put_u16, u16_at, wide};
+use fields::offsets::{ENTRIES_FROM, ENTRY_SIZE, NARROW_ENTRY_SIZE};
+use fields::sizes::entries_size;
+use words::{put_bytes, put_u16, u16_at, wide};
 
 // State, expiry and fingerprint, which follow the count.
 const REST_SIZE: usize = 19;
@@ -80,10 +79,9 @@ fn put_entries(book: &[u8], from: u16, to: u16, out: &mut [u8]) -> usize
     at
 }
 
-// The book in layout `to`, at the front of the output. Name cells that `to` has are unused, since `from` has none.
+// The book in layout `to`, at the front of the output.
 pub fn rewrite(book: &[u8], from: u16, to: u16, out: &mut [u8])
     requires form_facts_as { FormFactsAs from book.now }
-    requires from_value { name_count from ≡ 0 }
     requires book_value { to ≡ 1 → all is_narrow (told book).entries ≡ true }
     requires book_in_bounds { book_size (sizes_in to (told book).sizes) ≤ length out.old }
     ensures { out.new ≡ sets out.old 0 (bytes (with_layout to (told book.entry))) }
@@ -95,5 +93,4 @@ pub fn rewrite(book: &[u8], from: u16, to: u16, out: &mut [u8])
     put_bytes(out, 2, &book[2..ENTRIES_FROM]);
     let at = put_entries(book, from, to, out);
     put_bytes(out, at, &book[rest..end]);
-    fill(out, at + (end - rest), name_count(to) * NAME_SIZE, 0);
 }

@@ -1,4 +1,4 @@
--- What the three calls leave on each way out.
+-- What the two calls leave on each way out.
 use Prim.Native.Nat.{ℕ, ◌≤◌, ◌<◌}
 use mathlib.Core.Path.{◌≡◌, ap, ◌∙◌}
 use mathlib.Core.List.{List}
@@ -8,7 +8,7 @@ use lib.Seq.{sets}
 use Rattle.words.specs.Outcome.{Outcome}
 use Rattle.book.specs.Form.{form_number}
 use Rattle.book.specs.Layout.{book_of}
-use Rattle.model.specs.Views.{enrolled_number, blocks_of, cells_of, names_of, with_room, blocks_bytes, cells_bytes, names_bytes}
+use Rattle.model.specs.Views.{enrolled_number, blocks_of, cells_of, with_room, blocks_bytes, cells_bytes}
 use Rattle.model.specs.Written.{Written}
 use Rattle.claims.proofs.views.WrittenLaws.{written-refused, written-past, written-short, written-whole}
 
@@ -53,24 +53,3 @@ module _ (b : List ℕ) (v : ℕ) (out : List ℕ) where
     cells-done e h s =
         let whole = s ∙ ap (λ (r : List ℕ). sets out 0 r) e in
         written-past room p (written-whole (cells_of (book_of b) v) out (omega (arith, ap length e)) whole)
-
--- ---- the name cells
-
-module _ (b out : List ℕ) where
-  abbrev whole : Outcome (List ℕ)
-  whole = with_room (names_of (book_of b)) (length out)
-
-  pub names_misformed : {r : ℕ} → r ≡ form_number b → (r ≡ 0 → ⊥) → Written (names_bytes b (length out)) out r out
-  unfolding names_bytes
-  names_misformed e n = written-refused (form_number b) whole out e n
-
-  module _ (f : form_number b ≡ 0) {row : List ℕ} (e : row ≡ names_of (book_of b)) where
-    pub names-short : length out < length row → Written (names_bytes b (length out)) out 20 out
-    unfolding names_bytes
-    names-short h = written-past whole f (written-short (names_of (book_of b)) out (omega (arith, ap length e)))
-
-    pub names-done : {out' : List ℕ} → length row ≤ length out → out' ≡ sets out 0 row → Written (names_bytes b (length out)) out 0 out'
-    unfolding names_bytes
-    names-done h s =
-        let copied = s ∙ ap (λ (r : List ℕ). sets out 0 r) e in
-        written-past whole f (written-whole (names_of (book_of b)) out (omega (arith, ap length e)) copied)

@@ -1,7 +1,7 @@
--- What telling a volume's map, the pool's blocks or the name cells leaves, for all inputs, by `model`'s definitions on bytes.
+-- What telling a volume's map or the pool's blocks leaves, for all inputs, by `model`'s definitions on bytes.
 use Rattle.std.specs.Prelude.{ℕ, List, length}
 use Rattle.words.specs.Lent.{Lent}
-use Rattle.model.specs.Views.{cells_bytes, blocks_bytes, names_bytes}
+use Rattle.model.specs.Views.{cells_bytes, blocks_bytes}
 use Rattle.model.specs.Written.{Written}
 
 -- r is what the call returns
@@ -12,7 +12,3 @@ CellsTold b v out r =
 abbrev pub BlocksTold : Lent (List ℕ) → Lent (List ℕ) → ℕ → Type 0
 BlocksTold b out r =
     Written (blocks_bytes b.entry.now (length out.entry.now)) out.entry.now r out.exit.now
-
-abbrev pub NamesTold : Lent (List ℕ) → Lent (List ℕ) → ℕ → Type 0
-NamesTold b out r =
-    Written (names_bytes b.entry.now (length out.entry.now)) out.entry.now r out.exit.now

@@ -1,4 +1,3 @@
-// Rows that a host shows of a book: the map of a volume, the blocks of the pool, and the name cells.
+// Rows that a host shows of a book: the map of a volume, and the blocks of the pool.
 pub mod blocks;
 pub mod cells;
-pub mod name_cells;

@@ -1,5 +1,5 @@
 // The sizes of the season's book, small enough that pool, journal and slots fill up.
-use fields::offsets::{ENTRIES_FROM, ENTRY_SIZE, NAME_SIZE, NAMES, REC_SIZE, SLOT_SIZE, VOLUMES};
+use fields::offsets::{ENTRIES_FROM, ENTRY_SIZE, REC_SIZE, SLOT_SIZE, VOLUMES};
 use words::BLOCK_SIZE;
 
 // N, L, S and J.
@@ -17,8 +17,7 @@ pub const BOOK_SIZE: usize = ENTRIES_FROM
     + BLOCKS as usize * ENTRY_SIZE
     + VOLUMES * (CELLS as usize * 2)
     + SLOTS as usize * SLOT_SIZE
-    + RECORDS as usize * REC_SIZE
-    + NAMES * NAME_SIZE;
+    + RECORDS as usize * REC_SIZE;
 
 pub const POOL_SIZE: usize = BLOCKS as usize * BLOCK_SIZE;
 

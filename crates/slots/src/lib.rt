@@ -1,2 +1,3 @@
-// The used slots of the journal in form.
+// The sections of the journal in form: the used slots, and the used records.
 pub mod journal;
+pub mod records;

@@ -43,11 +43,6 @@ pub or_r : (a b : Bool) → b ≡ true → (a || b) ≡ true
 or_r true b e = refl
 or_r false b e = e
 
--- where each of two tests gives another
-pub or-through : (a b c d : Bool) → (a ≡ true → c ≡ true) → (b ≡ true → d ≡ true) → (a || b) ≡ true → (c || d) ≡ true
-or-through true b c d f g e = or_l c d (f refl)
-or-through false b c d f g e = or_r c d (g e)
-
 pub or_assoc : (a b c : Bool) → (a || (b || c)) ≡ ((a || b) || c)
 or_assoc true b c = refl
 or_assoc false b c = refl

@@ -24,4 +24,3 @@ pub mod Prefixes
 pub mod SectionsLaid
 pub mod Lending
 pub mod PartStores
-pub mod Those

@@ -1,11 +1,11 @@
--- More laws of tests: equality either way round, tests of which neither holds, tests that can't fail, tests that give others.
+-- More laws of tests: equality either way round, tests of which neither holds, tests that can't fail.
 use Prim.Native.Nat.{ℕ}
 use mathlib.Core.Path.{◌≡◌, refl, sym}
 use mathlib.Core.Bool.{Bool, true, false, ◌||◌}
 use mathlib.Core.List.{List, [], ◌∷◌}
 use lib.Dec.{eqb}
 use borrow.Author.Tests.{eqb-true, eq-eqb}
-use Rattle.words.proofs.ChoiceLaws.{same_test, or-through}
+use Rattle.words.proofs.ChoiceLaws.{same_test}
 use Rattle.words.specs.Lists.{some_of}
 
 pub eqb_swap : (a b : ℕ) → eqb a b ≡ eqb b a
@@ -33,9 +33,3 @@ some_neither f g (x ∷ xs) e =
     let b = or_neither (f x) (g x) a.0 in
     let ih = some_neither f g xs a.1 in
     (rw b.0 ih.0, rw b.1 ih.1)
-
--- where every element that passes one test passes another
-pub some-through : {A : Type 0} (f g : A → Bool) (xs : List A) → ((x : A) → f x ≡ true → g x ≡ true) → some_of f xs ≡ true
-    → some_of g xs ≡ true
-some-through f g [] h e = e
-some-through f g (x ∷ xs) h e = or-through (f x) (some_of f xs) (g x) (some_of g xs) (h x) (some-through f g xs h) e

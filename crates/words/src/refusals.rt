@@ -44,8 +44,3 @@ pub const BAD_RUN: u16 = 21;
 
 // Document 02, K3.
 pub const COUNT_WIDE: u16 = 22;
-
-// Document 02, K7.
-pub const BAD_NAME: u16 = 23;
-
-pub const NO_NAME_CELL: u16 = 24;

@@ -3,10 +3,9 @@
 use reference_c::{
     reference_audit, reference_backup, reference_backups, reference_blocks, reference_cells,
     reference_collect, reference_convert_1_2, reference_convert_2_1, reference_convert_2_3,
-    reference_convert_3_4, reference_count, reference_enrol, reference_form, reference_format,
-    reference_name, reference_names, reference_play, reference_read, reference_restore,
-    reference_retire, reference_sizes, reference_unname, reference_used, reference_volume,
-    reference_write_list,
+    reference_count, reference_enrol, reference_form, reference_format, reference_play,
+    reference_read, reference_restore, reference_retire, reference_sizes, reference_used,
+    reference_volume, reference_write_list,
 };
 
 type Format = unsafe extern "C" fn(*mut u8, usize, u16, u16, u16, u16) -> u16;
@@ -27,8 +26,6 @@ type Backup = unsafe extern "C" fn(
     touched: *mut u16,
 ) -> u16;
 type Retire = unsafe extern "C" fn(*mut u8, usize, *mut u8, usize, u16, u16, *mut u16) -> u16;
-type Name = unsafe extern "C" fn(*mut u8, usize, *mut u8, usize, u16, u16, *const u8, usize) -> u16;
-type Unname = unsafe extern "C" fn(*mut u8, usize, *mut u8, usize, *const u8, usize) -> u16;
 type Collect = unsafe extern "C" fn(*mut u8, usize, u16, *mut u16) -> u16;
 type Read =
     unsafe extern "C" fn(*const u8, usize, *const u8, usize, u16, u16, u16, *mut u32) -> u16;
@@ -53,7 +50,6 @@ type Volume = unsafe extern "C" fn(*const u8, usize, u16, *mut u16, *mut u16, *m
 type Backups = unsafe extern "C" fn(*const u8, usize, u16, *mut u8, usize, *mut u16) -> u16;
 type Cells = unsafe extern "C" fn(*const u8, usize, u16, *mut u8, usize) -> u16;
 type Blocks = unsafe extern "C" fn(*const u8, usize, *mut u8, usize) -> u16;
-type Names = unsafe extern "C" fn(*const u8, usize, *mut u8, usize) -> u16;
 type Play = unsafe extern "C" fn(
     book: *mut u8,
     book_len: usize,
@@ -86,8 +82,6 @@ pub struct Interface {
     pub enrol: Enrol,
     pub backup: Backup,
     pub retire: Retire,
-    pub name: Name,
-    pub unname: Unname,
     pub collect: Collect,
     pub read: Read,
     pub restore: Restore,
@@ -100,13 +94,11 @@ pub struct Interface {
     pub backups: Backups,
     pub cells: Cells,
     pub blocks: Blocks,
-    pub names: Names,
     pub play: Play,
     pub write_list: WriteList,
     pub convert_1_2: Convert,
     pub convert_2_1: Convert,
     pub convert_2_3: Convert,
-    pub convert_3_4: Convert,
 }
 
 mod archive {
@@ -136,24 +128,6 @@ mod archive {
             volume: u16,
             day: u16,
             cells: *mut u16,
-        ) -> u16;
-        pub fn aspen_name(
-            book: *mut u8,
-            book_len: usize,
-            spare: *mut u8,
-            spare_len: usize,
-            volume: u16,
-            number: u16,
-            name: *const u8,
-            name_len: usize,
-        ) -> u16;
-        pub fn aspen_unname(
-            book: *mut u8,
-            book_len: usize,
-            spare: *mut u8,
-            spare_len: usize,
-            name: *const u8,
-            name_len: usize,
         ) -> u16;
         pub fn aspen_collect(book: *mut u8, len: usize, day: u16, freed: *mut u16) -> u16;
         pub fn aspen_read(
@@ -227,7 +201,6 @@ mod archive {
             out_len: usize,
         ) -> u16;
         pub fn aspen_blocks(book: *const u8, len: usize, out: *mut u8, out_len: usize) -> u16;
-        pub fn aspen_names(book: *const u8, len: usize, out: *mut u8, out_len: usize) -> u16;
         pub fn aspen_play(
             book: *mut u8,
             book_len: usize,
@@ -256,7 +229,6 @@ mod archive {
         pub fn aspen_convert_1_2(book: *const u8, len: usize, out: *mut u8, out_len: usize) -> u16;
         pub fn aspen_convert_2_1(book: *const u8, len: usize, out: *mut u8, out_len: usize) -> u16;
         pub fn aspen_convert_2_3(book: *const u8, len: usize, out: *mut u8, out_len: usize) -> u16;
-        pub fn aspen_convert_3_4(book: *const u8, len: usize, out: *mut u8, out_len: usize) -> u16;
     }
 }
 
@@ -265,8 +237,6 @@ pub const ARCHIVE: Interface = Interface {
     enrol: archive::aspen_enrol,
     backup: archive::aspen_backup,
     retire: archive::aspen_retire,
-    name: archive::aspen_name,
-    unname: archive::aspen_unname,
     collect: archive::aspen_collect,
     read: archive::aspen_read,
     restore: archive::aspen_restore,
@@ -279,13 +249,11 @@ pub const ARCHIVE: Interface = Interface {
     backups: archive::aspen_backups,
     cells: archive::aspen_cells,
     blocks: archive::aspen_blocks,
-    names: archive::aspen_names,
     play: archive::aspen_play,
     write_list: archive::aspen_write_list,
     convert_1_2: archive::aspen_convert_1_2,
     convert_2_1: archive::aspen_convert_2_1,
     convert_2_3: archive::aspen_convert_2_3,
-    convert_3_4: archive::aspen_convert_3_4,
 };
 
 pub const REFERENCE: Interface = Interface {
@@ -293,8 +261,6 @@ pub const REFERENCE: Interface = Interface {
     enrol: reference_enrol,
     backup: reference_backup,
     retire: reference_retire,
-    name: reference_name,
-    unname: reference_unname,
     collect: reference_collect,
     read: reference_read,
     restore: reference_restore,
@@ -307,11 +273,9 @@ pub const REFERENCE: Interface = Interface {
     backups: reference_backups,
     cells: reference_cells,
     blocks: reference_blocks,
-    names: reference_names,
     play: reference_play,
     write_list: reference_write_list,
     convert_1_2: reference_convert_1_2,
     convert_2_1: reference_convert_2_1,
     convert_2_3: reference_convert_2_3,
-    convert_3_4: reference_convert_3_4,
 };

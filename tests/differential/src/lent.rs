@@ -92,7 +92,6 @@ impl Lent {
                 }
                 View::Cells { volume } => (side.cells)(book.0, book.1, volume, out.0, out.1),
                 View::Blocks => (side.blocks)(book.0, book.1, out.0, out.1),
-                View::Names => (side.names)(book.0, book.1, out.0, out.1),
                 _ => unreachable!("the others have no outputs"),
             }
         }
@@ -106,8 +105,6 @@ impl Lent {
                 Call::Enrol { volume, retention } => (side.enrol)(book, length, volume, retention),
                 Call::Backup { volume, day, .. } => self.backup(side, volume, day),
                 Call::Retire { volume, day } => self.retire(side, volume, day),
-                Call::Name { volume, number, .. } => self.name(side, volume, number),
-                Call::Unname { .. } => self.unname(side),
                 Call::Collect { day } => (side.collect)(book, length, day, self.answer(0)),
                 Call::Read {
                     volume,
@@ -137,22 +134,6 @@ impl Lent {
         let cells = self.answer(0);
         // SAFETY: the buffers are apart and as long as said, and `cells` is a lent number.
         unsafe { (side.retire)(book.0, book.1, spare.0, spare.1, volume, day, cells) }
-    }
-
-    fn name(&mut self, side: &Interface, volume: u16, number: u16) -> u16 {
-        let [book, spare, name] = std::array::from_fn(|index| self.part(index));
-        // SAFETY: the buffers are apart and as long as said.
-        unsafe {
-            (side.name)(
-                book.0, book.1, spare.0, spare.1, volume, number, name.0, name.1,
-            )
-        }
-    }
-
-    fn unname(&mut self, side: &Interface) -> u16 {
-        let [book, spare, name] = std::array::from_fn(|index| self.part(index));
-        // SAFETY: the buffers are apart and as long as said.
-        unsafe { (side.unname)(book.0, book.1, spare.0, spare.1, name.0, name.1) }
     }
 
     fn read(&mut self, side: &Interface, volume: u16, number: u16, lbn: u16) -> u16 {
@@ -204,7 +185,6 @@ impl Lent {
             Way::OneToTwo => side.convert_1_2,
             Way::TwoToOne => side.convert_2_1,
             Way::TwoToThree => side.convert_2_3,
-            Way::ThreeToFour => side.convert_3_4,
         };
         // SAFETY: the buffers are apart and as long as said.
         unsafe { convert(book.0, book.1, out.0, out.1) }

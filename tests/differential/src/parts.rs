@@ -2,14 +2,12 @@
 
 mod alike;
 mod books;
-mod clinic;
 mod converts;
 mod counts;
 mod days;
 mod faults;
 mod formats;
 mod lengths;
-mod names;
 mod play;
 mod restores;
 mod retires;
@@ -62,9 +60,10 @@ pub fn check() -> Vec<Job> {
             lists.extend(play::jobs(shape, seed..seed + 1));
         }
     }
-    let parts = vec![
+    let parts = [
         quick,
         lists,
+        play::broken(),
         runs::jobs(Shape::Pieces, 0..30),
         runs::jobs(Shape::AnySizes, 0..40),
         runs::jobs(Shape::LongLists, 0..12),
@@ -73,30 +72,17 @@ pub fn check() -> Vec<Job> {
         upgrades::jobs(Shape::Largest, 0..1),
         formats::jobs(0..2_000),
         writer::jobs(0..10_000),
-        books::pairs(),
-    ];
-    mixed(parts, soon())
-}
-
-/// Those of a few calls.
-fn soon() -> Vec<Job> {
-    let parts = [
-        faults::jobs(),
-        lengths::jobs(),
-        counts::jobs(),
-        days::jobs(),
-        retires::jobs(),
-        names::jobs(),
-        play::broken(),
         books::vectors(),
-        alike::jobs(),
+        books::pairs(),
+        lengths::jobs(),
+        faults::jobs(),
     ];
-    parts.into_iter().flatten().collect()
+    let soon = [counts::jobs(), days::jobs(), alike::jobs(), retires::jobs()];
+    mixed(parts.into(), soon.into_iter().flatten().collect())
 }
 
-/// Where jobs of a few calls stand: some runs come before them, and no pairs of broken conditions. What
-/// they alone notice of a mutant is then noticed after some thousand calls.
-const SOON: f64 = 0.015;
+/// Where jobs of a few calls stand: some runs come before them.
+const SOON: f64 = 0.02;
 
 /// Puts the jobs in order of their place in their part, counted from 0 to 1: a part of many jobs
 /// starts before one of few.

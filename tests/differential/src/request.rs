@@ -62,13 +62,11 @@ pub enum Request<'a> {
 }
 
 /// The names of the calls, in the order of the coverage table.
-pub const NAMES: [&str; 25] = [
+pub const NAMES: [&str; 21] = [
     "format",
     "enrol",
     "backup",
     "retire",
-    "name",
-    "unname",
     "collect",
     "read",
     "restore",
@@ -81,13 +79,11 @@ pub const NAMES: [&str; 25] = [
     "backups",
     "cells",
     "blocks",
-    "names",
     "play",
     "write_list",
     "convert_1_2",
     "convert_2_1",
     "convert_2_3",
-    "convert_3_4",
 ];
 
 pub fn call_name(call: &Call) -> &'static str {
@@ -95,8 +91,6 @@ pub fn call_name(call: &Call) -> &'static str {
         Call::Enrol { .. } => "enrol",
         Call::Backup { .. } => "backup",
         Call::Retire { .. } => "retire",
-        Call::Name { .. } => "name",
-        Call::Unname { .. } => "unname",
         Call::Collect { .. } => "collect",
         Call::Read { .. } => "read",
         Call::Restore(_) => "restore",
@@ -112,22 +106,13 @@ fn call_buffers<'a>(stored: &'a Stored, call: &'a Call) -> Sent<'a> {
     if matches!(call, Call::Read { .. } | Call::Backup { .. }) {
         buffers.push((POOL, &stored.pool));
     }
-    if takes_spare(call) {
+    if matches!(call, Call::Backup { .. } | Call::Retire { .. }) {
         buffers.push((SPARE, &stored.spare));
     }
-    match call {
-        Call::Backup { list, .. } => buffers.push(("the list", list)),
-        Call::Name { name, .. } | Call::Unname { name } => buffers.push(("the name", name)),
-        _ => {}
+    if let Call::Backup { list, .. } = call {
+        buffers.push(("the list", list));
     }
     buffers
-}
-
-pub fn takes_spare(call: &Call) -> bool {
-    matches!(
-        call,
-        Call::Backup { .. } | Call::Retire { .. } | Call::Name { .. } | Call::Unname { .. }
-    )
 }
 
 impl<'a> Request<'a> {
@@ -143,7 +128,6 @@ impl<'a> Request<'a> {
                 View::Backups { .. } => "backups",
                 View::Cells { .. } => "cells",
                 View::Blocks => "blocks",
-                View::Names => "names",
             },
             Request::Call { call, .. } => call_name(call),
             Request::Restore(_) => "restore",
@@ -153,7 +137,6 @@ impl<'a> Request<'a> {
                 Way::OneToTwo => "convert_1_2",
                 Way::TwoToOne => "convert_2_1",
                 Way::TwoToThree => "convert_2_3",
-                Way::ThreeToFour => "convert_3_4",
             },
         }
     }

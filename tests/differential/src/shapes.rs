@@ -9,7 +9,6 @@ mod buffers;
 mod convert;
 mod days;
 mod lists;
-mod name;
 mod others;
 mod play;
 mod replaced;
@@ -104,10 +103,6 @@ impl Shapes {
         self.count(name, converted.shapes());
         match converting.way {
             Way::OneToTwo => self.count(name, converted.longer_shapes()),
-            Way::ThreeToFour => {
-                self.count(name, converted.longer_shapes());
-                self.count(name, converted.last_shapes());
-            }
             Way::TwoToOne => {
                 self.count(name, converted.shorter_shapes());
                 self.count(name, converted.retired_shapes());
@@ -135,7 +130,6 @@ impl Shapes {
             self.count("restore", restored.found_shapes());
             self.count("restore", restored.day_shapes());
             self.count("restore", restored.retired_shapes());
-            self.count("restore", restored.named_shapes());
             self.count("restore", restored.refused_shapes());
             self.count("restore", restored.room_shapes());
             self.count("restore", restored.unmapped_shapes());
@@ -154,7 +148,6 @@ impl Shapes {
         if seen.number == 0 {
             self.count(name, views::shown(viewed, seen));
             self.count(name, views::retired(viewed, seen));
-            self.count(name, views::named(viewed, seen));
         }
     }
 
@@ -164,7 +157,6 @@ impl Shapes {
             0 => {
                 self.count("play", play::played(playing, seen));
                 self.count("play", play::told(playing, seen));
-                self.count("play", play::named(playing, seen));
             }
             _ => {}
         }
@@ -173,14 +165,8 @@ impl Shapes {
 
     /// Of a call that was refused by 5.
     fn note_volume(&mut self, book: &[u8], call: &Call) {
-        match call {
-            Call::Backup { volume, .. } | Call::Retire { volume, .. } => {
-                self.count(call_name(call), retire::refused_volume(book, *volume));
-            }
-            Call::Name { volume, .. } => {
-                self.count("name", views::volume(*volume, 5));
-            }
-            _ => {}
+        if let Call::Backup { volume, .. } | Call::Retire { volume, .. } = call {
+            self.count(call_name(call), retire::refused_volume(book, *volume));
         }
     }
 
@@ -188,22 +174,17 @@ impl Shapes {
         match call {
             Call::Backup { volume, day, list } => {
                 let backup = backup::Backup::new(book, (*volume, *day), list, seen);
-                self.note_backup(&backup, pool);
+                self.count("backup", backup.change_shapes());
+                self.count("backup", backup.count_shapes());
+                self.count("backup", backup.accepted_shapes());
+                self.count("backup", backup.replaced().expiry_shapes());
+                self.count("backup", backup.replaced().previous_shapes());
+                self.count("backup", backup.list_shapes());
+                self.count("backup", backup.refused_shapes(pool));
+                self.note_alike(&backup.alike());
             }
             Call::Retire { volume, day } => {
                 self.note_retire(&retire::Retired::new(book, (*volume, *day), seen));
-            }
-            Call::Name {
-                volume,
-                number,
-                name,
-            } => {
-                let naming = name::Naming::new(book, name, seen);
-                self.note_name(&name::Given::new(naming, (*volume, *number)));
-            }
-            Call::Unname { name } => {
-                let naming = name::Naming::new(book, name, seen);
-                self.note_unname(&name::Dropped::new(naming));
             }
             Call::Collect { day } => {
                 self.count("collect", others::Collect::new(book, *day, seen).shapes());
@@ -217,7 +198,6 @@ impl Shapes {
                 self.count("read", read.shapes(seen.number));
                 self.count("read", read.day_shapes(seen.number));
                 self.count("read", read.retired_shapes(seen.number));
-                self.count("read", read.named_shapes(seen.number));
             }
             Call::Enrol { volume, retention } => {
                 let shapes = others::enrol(book, *volume, *retention, seen.number);
@@ -228,38 +208,11 @@ impl Shapes {
         }
     }
 
-    fn note_backup(&mut self, backup: &backup::Backup, pool: &[u8]) {
-        self.count("backup", backup.change_shapes());
-        self.count("backup", backup.count_shapes());
-        self.count("backup", backup.accepted_shapes());
-        self.count("backup", backup.replaced().expiry_shapes());
-        self.count("backup", backup.replaced().previous_shapes());
-        self.count("backup", backup.list_shapes());
-        self.count("backup", backup.refused_shapes(pool));
-        self.note_alike(&backup.alike());
-    }
-
-    fn note_name(&mut self, given: &name::Given) {
-        self.count("name", given.cell_shapes());
-        self.count("name", given.backup_shapes());
-        self.count("name", given.text_shapes());
-        self.count("name", given.refused_shapes());
-        self.count("name", given.stopped_shapes());
-    }
-
-    fn note_unname(&mut self, dropped: &name::Dropped) {
-        self.count("unname", dropped.cell_shapes());
-        self.count("unname", dropped.backup_shapes());
-        self.count("unname", dropped.text_shapes());
-        self.count("unname", dropped.refused_shapes());
-    }
-
     fn note_audit(&mut self, book: &[u8]) {
         self.count("audit", audit::shapes(book));
         let retired = audit::Retired::new(book);
         self.count("audit", retired.yes_shapes());
         self.count("audit", retired.no_shapes());
-        self.count("audit", audit::named(book));
     }
 
     fn note_retire(&mut self, retired: &retire::Retired) {

@@ -7,7 +7,7 @@ use std::path::PathBuf;
 use crate::fault::Fault;
 use crate::judge::Judge;
 use crate::program::{status, Ended, Program};
-use crate::story::{images_of, letters, names_of, Command, Standing, Story, OUT, STORE};
+use crate::story::{images_of, letters, Command, Standing, Story, OUT, STORE};
 use crate::tree::Tree;
 
 /// How much of what a store holds is read through the program too.
@@ -114,36 +114,28 @@ impl<'a> Bench<'a> {
         if audit.status != Some(status::DONE) {
             return Err(format!("audit ends with {}", audit.words()));
         }
+        let kept = self.judge.kept(standing.store);
         self.checks += 1;
         let turn = self.checks;
-        let chosen = |at: usize, of: usize| self.reading == Reading::All || at == turn % of;
-        let kept = self.judge.kept(standing.store);
+        let chosen = |at: usize| self.reading == Reading::All || at == turn % kept.len();
         for (at, (volume, number, bytes)) in kept.iter().enumerate() {
-            if chosen(at, kept.len()) {
+            if chosen(at) {
                 self.restores(*volume, *number, bytes)?;
-            }
-        }
-        let named = self.judge.named(standing.store);
-        for (at, (name, bytes)) in named.iter().enumerate() {
-            if chosen(at, named.len()) {
-                self.gives(&format!("--name {name}"), bytes)?;
             }
         }
         Ok(())
     }
 
     pub fn restores(&self, volume: u16, number: u16, bytes: &[u8]) -> Result<(), String> {
-        self.gives(&format!("{volume} {number}"), bytes)
-    }
-
-    /// The backup that is chosen so is restored to these bytes.
-    fn gives(&self, chosen: &str, bytes: &[u8]) -> Result<(), String> {
-        let restored = self.ask(&format!("restore {STORE} {chosen} -"))?;
+        let restored = self.ask(&format!("restore {STORE} {volume} {number} -"))?;
         if restored.status != Some(status::DONE) {
-            return Err(format!("restore {chosen} ends with {}", restored.words()));
+            return Err(format!(
+                "restore {volume} {number} ends with {}",
+                restored.words()
+            ));
         }
         if restored.output != bytes {
-            return Err(format!("restore {chosen} gives other bytes"));
+            return Err(format!("restore {volume} {number} gives other bytes"));
         }
         Ok(())
     }
@@ -166,14 +158,6 @@ impl<'a> Bench<'a> {
             Some(name) => Err(format!("{name} is left")),
             None => Ok(()),
         }
-    }
-
-    /// Drops the names that are given, for the room that they take.
-    pub fn drop_names(&self, upto: usize) -> Result<(), String> {
-        let story = self.judge.story();
-        let names = names_of(story.taken(story.standing(upto + 1).store));
-        let mut drops = names.into_keys().map(|name| Command::Unname { name });
-        drops.try_for_each(|command| self.run_well(&command))
     }
 
     /// The aid takes one more backup, of an image with one new block, and it reads back. One that

@@ -8,6 +8,7 @@ use std::os::unix::fs::MetadataExt;
 use std::path::Path;
 
 use reference::form;
+use reference::layout::LAYOUT;
 use reference::store;
 
 use crate::bench::{or_complain, Bench};
@@ -44,6 +45,8 @@ enum Wanted {
 enum Verdict {
     /// The book is out of form, by this number.
     Refused(u16),
+    /// It is in form in the layout before today's, which one bit of the layout number makes of it.
+    Older,
     /// It is in form, and something else is wrong with it.
     Faulty,
     Sound,
@@ -58,20 +61,18 @@ struct Line {
 }
 
 const UPGRADE: Line = line("upgrade box --force", true, false);
-const WRITERS: [Line; 8] = [
+const WRITERS: [Line; 6] = [
     line("enrol box 2 --keep 3", true, false),
     line("collect box --day-number 300 --ahead", true, false),
     line("backup box 0 aid0 --day-number 300 --ahead", true, true),
     line("retire box 0 --day-number 300 --ahead --yes", true, false),
-    line("name box 0 4 another", true, false),
-    line("unname box kept --yes", true, false),
     line("scrub box --heal aid0", true, true),
     UPGRADE,
 ];
 const AUDIT: Line = line("audit box", false, false);
 const RESTORE: Line = line("restore box 0 5 -", false, true);
 const RESTORE_TO_FILE: &str = "restore box 0 5 new";
-const READERS: [Line; 9] = [
+const READERS: [Line; 8] = [
     AUDIT,
     line("tally box", false, false),
     line("list box", false, false),
@@ -79,19 +80,15 @@ const READERS: [Line; 9] = [
     line("book box", false, false),
     line("read box 0 5 0", false, true),
     RESTORE,
-    line("restore box --name kept -", false, true),
     line("scrub box", false, true),
 ];
 /// Lines that a whole store refuses.
-const REFUSED: [&str; 8] = [
+const REFUSED: [&str; 5] = [
     "enrol box 0 --keep 5",
     "collect box --day-number 1",
     "backup box 0 aid0 --day-number 1",
     "retire box 0 --day-number 300 --ahead",
     "retire box 1 --day-number 300 --ahead --yes",
-    "name box 0 1 another",
-    "name box 0 4 kept",
-    "unname box another --yes",
 ];
 
 const fn line(line: &'static str, writes: bool, takes_pool: bool) -> Line {
@@ -107,18 +104,17 @@ fn lines() -> impl Iterator<Item = Line> {
 }
 
 /// Damages of a whole store. Each changed byte is shown to a command that writes and to one that
-/// reads, others at each byte; where `all` are wanted, it is changed in every bit. `older` has a store
-/// for each older layout that there can be in it.
-pub fn cases(whole: &Tree, older: &[(u16, &Tree)], all: bool) -> Vec<Case> {
+/// reads, others at each byte; where `all` are wanted, it is changed in every bit. Older layouts have
+/// no retired volume, and neither has the second store.
+pub fn cases(whole: &Tree, unretired: &Tree, all: bool) -> Vec<Case> {
     let mut cases = Cases(Vec::new());
     cases.add_changed_books(whole, all, |_| true);
     cases.add_changed_books(&made_first(whole), all, |verdict| {
-        !matches!(verdict, Verdict::Refused(_))
+        !matches!(verdict, Verdict::Refused(_) | Verdict::Older)
     });
     cases.add_books_of_other_lengths(whole);
     cases.add_books_of_others(whole);
-    cases.add_older_layouts(older, all);
-    cases.add_later_layout(whole);
+    cases.add_other_layouts(unretired, all);
     cases.add_changed_locks(whole, all);
     cases.add_missing(whole);
     cases.add_pools(whole);
@@ -153,13 +149,16 @@ fn unsound_book(parts: &Parts) -> Vec<u8> {
     unsound.next().expect("some byte that the audit looks at")
 }
 
-/// A store with a lock of four lines has a sealed book; the lock itself is whole. No bit of today's
-/// layout number makes an older one of it.
+/// A store with a lock of four lines has a sealed book; the lock itself is whole.
 fn verdict(tree: &Tree) -> Verdict {
     let parts = sealed::open(file(tree, BOOK));
     let lines = file(tree, LOCK).iter().filter(|&&byte| byte == b'\n');
     if let Err(refusal) = form::check(parts.book) {
-        return Verdict::Refused(refusal.number());
+        return match form::check_in(LAYOUT - 1, parts.book) {
+            Ok(_) => Verdict::Older,
+            // One bit makes a book of that layout of it, which has no retired volume: refused by 2.
+            Err(older) => Verdict::Refused(refusal.number().max(older.number())),
+        };
     }
     let sealed = match &parts.seal {
         Some(seal) => seal.fits,
@@ -196,6 +195,7 @@ impl Cases {
     fn add_judged(&mut self, what: &str, tree: &Tree, line: Line) {
         let wanted = match verdict(tree) {
             Verdict::Refused(number) => Wanted::Told(format!("refused {number}:")),
+            Verdict::Older => Wanted::Told("box/book is damaged: ".into()),
             Verdict::Faulty if line.writes => Wanted::Told("box/book is damaged: ".into()),
             Verdict::Faulty => Wanted::Warned,
             Verdict::Sound if line.writes => return,

@@ -12,9 +12,7 @@ use reference::store;
 
 use crate::digest::sha256;
 use crate::sealed::{self, Length, Parts};
-use crate::story::{
-    history_of, images_of, names_of, Command, Images, Names, Standing, Story, OUT, SIZES,
-};
+use crate::story::{history_of, images_of, Command, Images, Standing, Story, OUT, SIZES};
 use crate::tree::Tree;
 
 pub const BOOK: &str = "box/book";
@@ -25,11 +23,10 @@ pub const VOLUMES: u16 = 2;
 
 pub struct Judge<'a> {
     story: &'a Story,
-    /// What the store holds, the images that it got, its names, and its day, by its standing; there
-    /// is none at 0.
+    /// What the store holds, the images that it got, and its day, by its standing; there is none
+    /// at 0.
     histories: Vec<History>,
     images: Vec<Images>,
-    names: Vec<Names>,
     days: Vec<u16>,
     /// What the restored file holds, by its standing.
     outs: Vec<Option<Vec<u8>>>,
@@ -57,9 +54,6 @@ impl<'a> Judge<'a> {
         Judge {
             story,
             images,
-            names: (0..=changing)
-                .map(|store| names_of(story.taken(store)))
-                .collect(),
             days: (0..=changing).map(|store| story.day(store)).collect(),
             histories,
             outs,
@@ -139,9 +133,6 @@ impl<'a> Judge<'a> {
         if sorted(&parts.lengths) != self.lengths(store) {
             return Err(format!("lengths are noted as {:?}", parts.lengths));
         }
-        if names_in(parts.book) != self.names[store] {
-            return Err(format!("names are given as {:?}", names_in(parts.book)));
-        }
         let (day, wanted) = (Book::over(parts.book).header(Header::Day), self.days[store]);
         if day != wanted {
             return Err(format!("the book's day is {day}, not {wanted}"));
@@ -167,15 +158,6 @@ impl<'a> Judge<'a> {
         images
             .filter(|((volume, number), _)| is_kept(history, *volume, *number))
             .map(|((volume, number), bytes)| (*volume, *number, &bytes[..]))
-            .collect()
-    }
-
-    /// The names there, each with the image of its backup.
-    pub fn named(&self, store: usize) -> Vec<(&str, &[u8])> {
-        let image = |backup| &self.images[store][backup][..];
-        let names = self.names[store].iter();
-        names
-            .map(|(name, backup)| (name.as_str(), image(backup)))
             .collect()
     }
 
@@ -215,17 +197,6 @@ fn is_kept(history: &History, volume: u16, number: u16) -> bool {
         history.read(volume, number, 0),
         Ok(_) | Err(Refusal::Unmapped)
     )
-}
-
-/// The names that a book has, without the zeros behind them.
-fn names_in(book: &[u8]) -> Names {
-    let book = Book::over(book);
-    let cells = book.names().map(|cell| {
-        let name = String::from_utf8_lossy(&cell.name);
-        let name = name.trim_end_matches('\0').to_string();
-        (name, (cell.volume, cell.number))
-    });
-    cells.collect()
 }
 
 fn is_sealed(parts: &Parts, id: &[u8]) -> Result<(), String> {

@@ -11,18 +11,18 @@ use crate::sealed;
 use crate::tree::Tree;
 
 /// The layouts that there were.
-pub const LAYOUTS: [u16; 3] = [1, 2, 3];
+pub const LAYOUTS: [u16; 2] = [1, 2];
 
-/// A book of today's layout, without names, in an older one, with the expiries that books had there.
-/// It holds the same blocks, so it may lack some that were kept for longer there.
+/// A book of today's layout in an older one, with the expiries that books had there. It holds the
+/// same blocks, so it may lack some that were kept for longer there.
 pub fn book_in(layout: u16, book: &[u8]) -> Vec<u8> {
-    let mut wide = layout_2::renumbered(layout.max(2), book);
-    if layout < 3 {
-        settle_expiries(&mut Book::over(&mut wide[..]), FROM_REPLACING);
-    }
+    let mut wide = book.to_vec();
+    let mut fields = Book::over(&mut wide[..]);
+    settle_expiries(&mut fields, FROM_REPLACING);
+    fields.set_header(Header::Layout, 2);
     match layout {
-        1 => converted(Way::TwoToOne, &wide),
-        _ => wide,
+        2 => wide,
+        _ => converted(Way::TwoToOne, &wide),
     }
 }
 
@@ -36,12 +36,9 @@ pub fn store_in(layout: u16, whole: &Tree) -> Tree {
     tree
 }
 
-/// What the converters make of a book of layout 2 or 3.
+/// What the converters make of a book of layout 2.
 pub fn upgraded(book: &[u8]) -> Vec<u8> {
-    match Book::over(book).header(Header::Layout) {
-        2 => upgraded(&converted(Way::TwoToThree, book)),
-        _ => converted(Way::ThreeToFour, book),
-    }
+    converted(Way::TwoToThree, book)
 }
 
 fn converted(way: Way, book: &[u8]) -> Vec<u8> {
@@ -50,16 +47,15 @@ fn converted(way: Way, book: &[u8]) -> Vec<u8> {
     other
 }
 
-/// Whether the upgrade from a layout to this book ends a backup: one that was kept by the rule of
-/// layouts 1 and 2 and isn't by today's.
-pub fn ends_one(layout: u16, book: &[u8]) -> bool {
+/// Whether the upgrade to this book ends a backup: one that was kept by the rule of the older
+/// layouts and isn't by today's.
+pub fn ends_one(book: &[u8]) -> bool {
     let book = Book::over(book);
     let day = book.header(Header::Day);
-    let ends = |volume| {
+    (0..VOLUMES).any(|volume| {
         let backups = book.backups_of(volume);
         (1..=backups.days.len()).any(|number| {
             layout_2::is_kept(&backups, number, day) && !keeping::is_kept(&backups, number, day)
         })
-    };
-    layout < 3 && (0..VOLUMES).any(ends)
+    })
 }

@@ -12,8 +12,7 @@ use crate::damage;
 use crate::first;
 use crate::heal;
 use crate::level::Level;
-use crate::older::LAYOUTS;
-use crate::played::{learn, play, possible_in, Scene};
+use crate::played::{before_retirements, learn, play, Scene};
 use crate::power;
 use crate::program::Program;
 use crate::report::Report;
@@ -378,13 +377,9 @@ impl Stage {
     }
 
     fn damage(&self, hunt: Option<&Hunt>) -> Outcome {
-        let last = self.scenes.len() - 1;
-        let older = LAYOUTS.map(|layout| {
-            let possible = possible_in(layout, &self.scenes);
-            let at = *possible.last().expect("a store that every layout can have");
-            (layout, &self.scenes[at].after)
-        });
-        let cases = damage::cases(&self.scenes[last].after, &older, self.level.all);
+        let last = |scenes: &[Scene]| scenes.last().expect("a story has commands").after.clone();
+        let unretired = last(before_retirements(&self.scenes));
+        let cases = damage::cases(&last(&self.scenes), &unretired, self.level.all);
         let outcome = self.share(
             "damaged stores",
             hunt,

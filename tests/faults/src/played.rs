@@ -1,13 +1,9 @@
 //! The story played once, without a fault.
 
-use reference::layout::{Book, VOLUMES};
-
 use crate::bench::Bench;
 use crate::calls::Logged;
 use crate::disk::Disk;
-use crate::judge::BOOK;
 use crate::program::status;
-use crate::sealed;
 use crate::story::Command;
 use crate::tree::Tree;
 
@@ -71,15 +67,9 @@ pub fn learn(bench: &mut Bench, scenes: &[Scene]) {
     }
 }
 
-/// Where an older layout can have the stores that the commands left, by the numbers of the commands:
-/// none has names, and layouts 1 and 2 have no retired volume.
-pub fn possible_in(layout: u16, scenes: &[Scene]) -> Vec<usize> {
-    let is_possible = |at: &usize| {
-        let file = scenes[*at].after.file(BOOK).expect("a store has a book");
-        let book = Book::over(sealed::open(file).book);
-        let retired = (0..VOLUMES).any(|volume| book.retired_on(volume).is_some());
-        let named = book.names().next().is_some();
-        !named && (layout > 2 || !retired)
-    };
-    (0..scenes.len()).filter(is_possible).collect()
+/// The scenes whose stores have no retired volume: older layouts have none.
+pub fn before_retirements(scenes: &[Scene]) -> &[Scene] {
+    let retires = |scene: &Scene| matches!(scene.command, Command::Retire { .. });
+    let first = scenes.iter().position(retires);
+    &scenes[..first.unwrap_or(scenes.len())]
 }

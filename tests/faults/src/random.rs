@@ -11,11 +11,10 @@ use crate::story::{letters, Command, Story, SIZES};
 
 const COMMANDS: usize = 12;
 const LETTERS: &[u8] = b"ABCDEFGHIJ";
-const NAMES: &[&str] = &["plan", "trial"];
 
 impl Story {
-    /// Two volumes with backups, collections, names and restores that the box takes; the second may
-    /// be retired.
+    /// Two volumes with backups, collections and restores that the box takes; the second may be
+    /// retired.
     pub fn random(seed: u64) -> Self {
         let mut prng = Prng::seeded(seed);
         let mut plain = Plain::new(SIZES);
@@ -40,21 +39,13 @@ impl Story {
 
 fn draw(prng: &mut Prng, commands: &[Command], day: u16) -> Command {
     let volume = prng.between(0, 1);
-    match prng.below(20) {
+    match prng.below(16) {
         0..=3 => Command::Collect { day },
         4 | 5 => Command::Restore {
             volume,
             number: prng.between(1, 4),
         },
         6 => Command::Retire { volume: 1, day },
-        7 | 8 => Command::Name {
-            volume,
-            number: prng.between(1, 4),
-            name: prng.pick(NAMES).into(),
-        },
-        9 | 10 => Command::Unname {
-            name: prng.pick(NAMES).into(),
-        },
         _ => Command::Backup {
             volume,
             day,

@@ -71,7 +71,6 @@ pub fn try_seed(program: &Program, folder: PathBuf, seed: u64) -> Result<Counts,
     }
     let last = story.0.len() - 1;
     soak.bench.opens(soak.standing)?;
-    soak.bench.drop_names(last)?;
     for volume in 0..2 {
         soak.bench.next_backup(last, volume)?;
     }

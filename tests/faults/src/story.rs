@@ -6,7 +6,7 @@ use std::fmt;
 use reference::call::{Answer, Call};
 use reference::change_list;
 use reference::history::History;
-use reference::layout::{Block, Sizes, BLOCK_BYTES, FINGERPRINT_BYTES, NAME_BYTES};
+use reference::layout::{Block, Sizes, BLOCK_BYTES, FINGERPRINT_BYTES};
 use reference::prng::Prng;
 
 /// Small, so that freed blocks are soon taken again.
@@ -19,7 +19,7 @@ pub const SIZES: Sizes = Sizes {
 pub const STORE: &str = "box";
 /// Where volumes are restored to.
 pub const OUT: &str = "out";
-/// What a retirement, and a name without which a backup is lost, need where nobody can be asked.
+/// What a retirement needs where nobody can be asked.
 pub const YES: &str = "--yes";
 /// Zeros at the end of every block of an image. A file is cut off among them, so that its last
 /// block is the same as elsewhere and its length is no multiple of a block's.
@@ -45,14 +45,6 @@ pub enum Command {
         volume: u16,
         day: u16,
     },
-    Name {
-        volume: u16,
-        number: u16,
-        name: String,
-    },
-    Unname {
-        name: String,
-    },
     Restore {
         volume: u16,
         number: u16,
@@ -75,12 +67,6 @@ impl Command {
             Command::Retire { volume, day } => {
                 format!("retire {STORE} {volume} {} {YES}", on_day(*day))
             }
-            Command::Name {
-                volume,
-                number,
-                name,
-            } => format!("name {STORE} {volume} {number} {name}"),
-            Command::Unname { name } => format!("unname {STORE} {name} {YES}"),
             Command::Restore { volume, number } => {
                 format!("restore {STORE} {volume} {number} {OUT} --force")
             }
@@ -116,18 +102,6 @@ impl Command {
                 volume: *volume,
                 day: *day,
             }),
-            Command::Name {
-                volume,
-                number,
-                name,
-            } => Some(Call::Name {
-                volume: *volume,
-                number: *number,
-                name: name_bytes(name),
-            }),
-            Command::Unname { name } => Some(Call::Unname {
-                name: name_bytes(name),
-            }),
             Command::Format | Command::Restore { .. } => None,
         }
     }
@@ -149,12 +123,6 @@ impl fmt::Display for Command {
             Command::Retire { volume, day } => {
                 write!(to, "retirement of volume {volume} on day {day}")
             }
-            Command::Name {
-                volume,
-                number,
-                name,
-            } => write!(to, "naming of volume {volume} number {number} as {name}"),
-            Command::Unname { name } => write!(to, "dropping of {name}"),
             Command::Restore { volume, number } => {
                 write!(to, "restore of volume {volume} number {number}")
             }
@@ -165,13 +133,6 @@ impl fmt::Display for Command {
 /// The file with the image of a volume.
 pub fn aid(volume: u16) -> String {
     format!("aid{volume}")
-}
-
-/// A name as it stands in the book.
-fn name_bytes(name: &str) -> Vec<u8> {
-    let mut bytes = name.as_bytes().to_vec();
-    bytes.resize(NAME_BYTES, 0);
-    bytes
 }
 
 /// Whatever the clock says.
@@ -237,29 +198,6 @@ pub fn images_of<'a>(commands: impl Iterator<Item = &'a Command>) -> Images {
     images
 }
 
-/// The names that are given, each with volume and number.
-pub type Names = BTreeMap<String, (u16, u16)>;
-
-pub fn names_of<'a>(commands: impl Iterator<Item = &'a Command>) -> Names {
-    let mut names = Names::new();
-    for command in commands {
-        match command {
-            Command::Name {
-                volume,
-                number,
-                name,
-            } => {
-                names.insert(name.clone(), (*volume, *number));
-            }
-            Command::Unname { name } => {
-                names.remove(name);
-            }
-            _ => {}
-        }
-    }
-    names
-}
-
 /// How far a story got: how many of its commands that change the store were taken, and how many
 /// of its restores have been written.
 #[derive(Clone, Copy, Debug, PartialEq, Eq)]
@@ -304,21 +242,14 @@ pub struct Story(pub Vec<Command>);
 
 impl Story {
     /// Shared and replaced blocks, blocks that a collection frees and the next backup takes
-    /// again, an image that changes in its length alone, a volume that is retired, backups that are
-    /// kept by their names alone and whose blocks go the same way once these are dropped, and volumes
-    /// brought back. At the end there is a name.
+    /// again, an image that changes in its length alone, a volume that is retired and whose last
+    /// backup stays for some days, and volumes brought back.
     pub fn fixed() -> Self {
         let backup = |volume, day, image: &str| Command::Backup {
             volume,
             day,
             image: image.into(),
         };
-        let name = |volume, number, name: &str| Command::Name {
-            volume,
-            number,
-            name: name.into(),
-        };
-        let drop = |name: &str| Command::Unname { name: name.into() };
         Story(vec![
             Command::Format,
             Command::Enrol { volume: 0, keep: 7 },
@@ -329,29 +260,23 @@ impl Story {
             backup(1, 4, "EEFD"),
             Command::Collect { day: 9 }, // frees B
             backup(0, 10, "GEC"),        // takes its block
-            name(0, 2, "plan-A"),        // on the last of its days
             Command::Restore {
                 volume: 0,
                 number: 2,
             },
             backup(1, 11, "EEC"),
             Command::Retire { volume: 1, day: 12 },
-            name(1, 3, "left-us"),
-            Command::Collect { day: 16 }, // frees F; A and D are there for the names alone
             Command::Restore {
                 volume: 1,
                 number: 3,
             },
-            drop("plan-A"),
-            Command::Collect { day: 17 }, // frees A
-            backup(0, 17, "HIC"),         // takes both blocks
+            Command::Collect { day: 16 }, // frees A, F and, of the retired volume, D
+            backup(0, 17, "HIC"),         // takes two of their blocks
             backup(0, 18, "HIC"),
-            drop("left-us"),
             Command::Restore {
                 volume: 0,
                 number: 4,
             },
-            name(0, 5, "kept"),
         ])
     }
 

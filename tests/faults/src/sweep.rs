@@ -56,10 +56,7 @@ pub fn try_case(bench: &mut Bench, scenes: &[Scene], case: &Case) -> Result<(), 
     let scene = &scenes[case.at];
     let story = bench.judge.story();
     bench.store(&scene.tree)?;
-    if matches!(
-        scene.command,
-        Command::Retire { .. } | Command::Unname { .. }
-    ) {
+    if matches!(scene.command, Command::Retire { .. }) {
         needs_a_yes(bench, scene)?;
     }
     let ended = if case.unheard {
@@ -89,7 +86,6 @@ pub fn try_case(bench: &mut Bench, scenes: &[Scene], case: &Case) -> Result<(), 
     bench.goes_on(standing, case.at + 1)?;
     if let Command::Backup { volume, .. } = scene.command {
         let upto = (case.at + 1).min(story.0.len() - 1);
-        bench.drop_names(upto)?;
         bench.next_backup(upto, volume)?;
     }
     // What a cut left, the commands since have removed.
@@ -134,7 +130,6 @@ fn again(bench: &mut Bench, command: &Command, standing: Standing) -> Result<(),
         }
         Command::Enrol { .. } | Command::Retire { .. } => refused(&ended, 5),
         Command::Backup { .. } => refused(&ended, 7),
-        Command::Name { .. } | Command::Unname { .. } => refused(&ended, 23),
         Command::Collect { .. } | Command::Restore { .. } => ended.status == Some(status::DONE),
     };
     if !fine {

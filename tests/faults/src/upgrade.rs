@@ -10,7 +10,7 @@ use crate::fault::{Fault, How};
 use crate::first::made_first;
 use crate::judge::{BOOK, LOCK, POOL};
 use crate::older::{ends_one, store_in, LAYOUTS};
-use crate::played::{possible_in, Scene};
+use crate::played::{before_retirements, Scene};
 use crate::program::{status, Ended};
 use crate::sealed;
 use crate::story::{Standing, STORE};
@@ -45,32 +45,32 @@ enum Book {
     New,
 }
 
-/// The last store of the story that an older layout can have, for each of these, and in layout 1 also
-/// as the first version had it, without a seal; where `all` are wanted, every store that it can have.
+/// The last store of the story that older layouts can have, in each of these, and in layout 1 also as
+/// the first version had it, without a seal; where `all` are wanted, every store up to that one.
 pub fn upgrades(bench: &Bench, scenes: &[Scene], all: bool) -> Result<Vec<Upgrade>, String> {
+    let scenes = before_retirements(scenes);
     let mut upgrades = Vec::new();
-    for layout in LAYOUTS {
-        let possible = possible_in(layout, scenes);
-        let skipped = if all { 0 } else { possible.len() - 1 };
-        for &at in &possible[skipped..] {
-            let after = &scenes[at].after;
-            let old = store_in(layout, after);
-            let first = made_first(&old);
-            let resealed = without_lengths(after, &first);
-            let stores = [(old, after.clone(), true), (first, resealed, false)];
-            for (old, new, lengths) in stores.into_iter().take(if layout == 1 { 2 } else { 1 }) {
-                let kind = if lengths { "store" } else { "first store" };
-                let what = format!("upgrade of the {kind} of layout {layout} after the");
-                upgrades.push(Upgrade {
-                    what: format!("{what} {}", scenes[at].command),
-                    kept: format!("box/book.{layout}"),
-                    calls: calls_of(bench, layout, &old, &new)?,
-                    old,
-                    new,
-                    standing: bench.judge.story().standing(at + 1),
-                    lengths,
-                });
-            }
+    for (at, scene) in scenes.iter().enumerate() {
+        if !all && at + 1 < scenes.len() {
+            continue;
+        }
+        let standing = bench.judge.story().standing(at + 1);
+        let after = &scene.after;
+        let first = made_first(&store_in(1, after));
+        let resealed = without_lengths(after, &first);
+        let sealed = LAYOUTS.map(|layout| (layout, store_in(layout, after), after.clone(), true));
+        for (layout, old, new, lengths) in sealed.into_iter().chain([(1, first, resealed, false)]) {
+            let kind = if lengths { "store" } else { "first store" };
+            let what = format!("upgrade of the {kind} of layout {layout} after the");
+            upgrades.push(Upgrade {
+                what: format!("{what} {}", scene.command),
+                kept: format!("box/book.{layout}"),
+                calls: calls_of(bench, &old, &new)?,
+                old,
+                new,
+                standing,
+                lengths,
+            });
         }
     }
     Ok(upgrades)
@@ -78,12 +78,15 @@ pub fn upgrades(bench: &Bench, scenes: &[Scene], all: bool) -> Result<Vec<Upgrad
 
 /// The calls of an upgrade. Where a backup ends by it, it has to be forced, and else nothing is
 /// written.
-fn calls_of(bench: &Bench, layout: u16, old: &Tree, new: &Tree) -> Result<Vec<Logged>, String> {
-    let ends = ends_one(layout, sealed::open(file(new, BOOK)).book);
-    let wanted = if ends { status::USAGE } else { status::DONE };
+fn calls_of(bench: &Bench, old: &Tree, new: &Tree) -> Result<Vec<Logged>, String> {
+    let ends = ends_one(sealed::open(file(new, BOOK)).book);
+    let (wanted, left) = match ends {
+        true => (status::USAGE, old),
+        false => (status::DONE, new),
+    };
     bench.store(old)?;
     let unforced = bench.ask(UNFORCED)?;
-    if unforced.status != Some(wanted) || (ends && bench.load()? != *old) {
+    if unforced.status != Some(wanted) || bench.load()? != *left {
         return Err(format!(
             "upgrade without --force ends with {}",
             unforced.words()

@@ -1,8 +1,7 @@
-/* aspen_convert_1_2, aspen_convert_2_1, aspen_convert_2_3 and aspen_convert_3_4, all of them on any
- * book; what the first two write goes back again. The first number asks for a layout: a multiple of 4
- * for layout 2, one more for layout 1, two more for layout 3, others leave the book as it is. The
- * spare stands for the output: it is as long as the book to write, and as much longer as the control
- * says. */
+/* aspen_convert_1_2, aspen_convert_2_1 and aspen_convert_2_3, all of them on any book; what the first
+ * two write goes back again. The first number asks for a layout: a multiple of 4 for layout 2, one
+ * more for layout 1, others leave the book as it is. The spare stands for the output: it is as long
+ * as the book to write, and as much longer as the control says. */
 #include "../fuzz.h"
 
 #include <stdio.h>
@@ -22,18 +21,17 @@ struct way {
 static const struct way to_2 = { aspen_convert_1_2, reference_convert_1_2, 2 };
 static const struct way to_1 = { aspen_convert_2_1, reference_convert_2_1, 1 };
 static const struct way to_3 = { aspen_convert_2_3, reference_convert_2_3, 3 };
-static const struct way to_4 = { aspen_convert_3_4, reference_convert_3_4, 4 };
 
 enum { ENTRIES = 36, ENTRY = 21, EXPIRY = 3 };
 
 /* How many books were written in each layout, with how many expiries that weren't as given, and how
  * many not, by 4 and by 22; printed at the end. */
-static unsigned long written[5], moved, no_room, wide;
+static unsigned long written[4], moved, no_room, wide;
 
 static void print_books(void)
 {
-    fprintf(stderr, "books: 1_2=%lu 2_1=%lu 2_3=%lu moved=%lu 3_4=%lu 4=%lu 22=%lu\n", written[2],
-            written[1], written[3], moved, written[4], no_room, wide);
+    fprintf(stderr, "books: 1_2=%lu 2_1=%lu 2_3=%lu moved=%lu 4=%lu 22=%lu\n", written[2],
+            written[1], written[3], moved, no_room, wide);
 }
 
 static void note_book(uint16_t number, uint16_t to)
@@ -55,14 +53,11 @@ static uint16_t call(convert_call *convert, struct side *side)
     return convert(book->bytes, book->length, out->bytes, out->length);
 }
 
-/* Today's layout number becomes that of layout 2 or 3, and the names go. */
-static void make_older(struct buffer *book, uint8_t layout)
+/* Today's layout number becomes that of layout 2, whose books are as long. */
+static void make_older(struct buffer *book)
 {
-    if (aspen_layout(book->bytes, book->length) != ASPEN_LAYOUT)
-        return;
-    book->bytes[0] = layout;
-    if (book->length == aspen_converted_size(ASPEN_LAYOUT, book->bytes, book->length))
-        buffer_resize(book, book->length - ASPEN_NAMES_SIZE);
+    if (aspen_layout(book->bytes, book->length) == ASPEN_LAYOUT)
+        book->bytes[0] = 2;
 }
 
 /* Drops the high bytes of the counts, if the book is as long as its sizes ask in layout 2. */
@@ -89,9 +84,8 @@ static void make_narrow(struct buffer *book)
 static size_t room_for(const struct way *way, const struct buffer *book)
 {
     size_t room = aspen_converted_size(way->to, book->bytes, book->length);
-    size_t most = 2 * book->length + ASPEN_NAMES_SIZE;
 
-    return room <= most ? room : most;
+    return room <= 2 * book->length ? room : 2 * book->length;
 }
 
 /* Sends the book to both sides, with an output that is so much longer. Frees all parts but that of
@@ -132,28 +126,13 @@ static void check_back(const struct way *back, const struct buffer *other,
     buffer_free(&out);
 }
 
-/* In layout 4 the book is in form, every byte is as given but the number, and there is no name. */
-static void check_named(const struct buffer *other, const struct buffer *book)
-{
-    struct buffer wanted = buffer_filled(book->length + ASPEN_NAMES_SIZE, 0);
-
-    memcpy(wanted.bytes, book->bytes, book->length);
-    wanted.bytes[0] = 4;
-    CHECK_EQ(other->length, wanted.length);
-    CHECK_BYTES(other->bytes, wanted.bytes, wanted.length);
-    CHECK_EQ(aspen_form(other->bytes, other->length), ASPEN_OK);
-    buffer_free(&wanted);
-}
-
-/* In layout 3 the book is in form, so that it goes on to layout 4, and every byte is as given but the
- * number and the expiries. */
+/* In layout 3 the book is in form, and every byte is as given but the number and the expiries. */
 static void check_afresh(const struct buffer *other, const struct buffer *book)
 {
-    struct buffer rest = buffer_copy(other), next = buffer_new(other->length + ASPEN_NAMES_SIZE);
+    struct buffer rest = buffer_copy(other);
     size_t blocks = aspen_u16(book->bytes + 2), i;
 
-    CHECK_EQ(aspen_convert_3_4(other->bytes, other->length, next.bytes, next.length), ASPEN_OK);
-    check_named(&next, other);
+    CHECK_EQ(aspen_form(other->bytes, other->length), ASPEN_OK);
     CHECK_EQ(aspen_layout(other->bytes, other->length), 3);
     rest.bytes[0] = book->bytes[0];
     for (i = 0; i < blocks; i++) {
@@ -164,19 +143,18 @@ static void check_afresh(const struct buffer *other, const struct buffer *book)
     }
     CHECK_BYTES(rest.bytes, book->bytes, book->length);
     buffer_free(&rest);
-    buffer_free(&next);
 }
 
 /* The book in the layout that the first number asks for. */
 static void choose_layout(struct buffer *book, unsigned asked)
 {
-    if (asked % 4 <= 2)
-        make_older(book, asked % 4 == 2 ? 3 : 2);
+    if (asked % 4 <= 1)
+        make_older(book);
     if (asked % 4 == 1)
         make_narrow(book);
 }
 
-/* `back` is none from layouts 3 and 4. */
+/* `back` is none from layout 3. */
 static void try_way(const struct way *way, const struct way *back, const uint8_t *input,
                     size_t length)
 {
@@ -189,10 +167,8 @@ static void try_way(const struct way *way, const struct way *back, const uint8_t
     other = converted(way, &sent, control.longer[SPARE]);
     if (other.length != 0 && back != NULL)
         check_back(back, &other, &book);
-    else if (other.length != 0 && way->to == 3)
-        check_afresh(&other, &book);
     else if (other.length != 0)
-        check_named(&other, &book);
+        check_afresh(&other, &book);
     buffer_free(&book);
     buffer_free(&other);
 }
@@ -202,6 +178,5 @@ int LLVMFuzzerTestOneInput(const uint8_t *input, size_t length)
     try_way(&to_2, &to_1, input, length);
     try_way(&to_1, &to_2, input, length);
     try_way(&to_3, NULL, input, length);
-    try_way(&to_4, NULL, input, length);
     return 0;
 }

@@ -17,8 +17,8 @@ enum { N = 4, L = 4, S = 6, J = 8 };
 
 enum { MOST_ROOM = 1000000 };
 
-/* How often each tag came, and how many names were given and dropped, printed at the end. */
-static unsigned long times[ASPEN_ANSWER_RUN + 1], named, dropped;
+/* How often each tag came, printed at the end. */
+static unsigned long times[ASPEN_ANSWER_RUN + 1];
 
 static void print_times(void)
 {
@@ -28,24 +28,10 @@ static void print_times(void)
     for (i = 0; i <= ASPEN_ANSWER_RUN; i++)
         if (times[i] != 0)
             fprintf(stderr, " %lu=%lu", (unsigned long)i, times[i]);
-    fprintf(stderr, "\nnames: given=%lu dropped=%lu\n", named, dropped);
+    fprintf(stderr, "\n");
 }
 
-static size_t data_length(const uint8_t *head)
-{
-    return aspen_u16(head + 10) + (size_t)65536 * aspen_u16(head + 12);
-}
-
-static size_t answer_length(const uint8_t *answer)
-{
-    return answer[0] == ASPEN_ANSWER_BACKED  ? aspen_answers_bound(1, 0, 0)
-           : answer[0] == ASPEN_ANSWER_BLOCK ? aspen_answers_bound(0, 1, 0)
-           : answer[0] == ASPEN_ANSWER_RUN   ? aspen_runs_bound(1, aspen_u16(answer + 1))
-                                             : aspen_answers_bound(0, 0, 1);
-}
-
-/* The calls and their answers, side by side. */
-static void note_answers(const uint8_t *head, const uint8_t *answers, size_t written)
+static void note_answers(const uint8_t *answers, size_t written)
 {
     static int noted;
     size_t at = 0;
@@ -53,24 +39,28 @@ static void note_answers(const uint8_t *head, const uint8_t *answers, size_t wri
     if (!noted)
         noted = atexit(print_times) == 0;
     while (at < written) {
-        const uint8_t *answer = answers + at;
+        uint8_t tag = answers[at];
 
-        times[answer[0]]++;
-        named += head[0] == ASPEN_CALL_NAME && aspen_u16(answer + 1) == ASPEN_OK;
-        dropped += head[0] == ASPEN_CALL_UNNAME && aspen_u16(answer + 1) == ASPEN_OK;
-        at += answer_length(answer);
-        head += ASPEN_CALL_HEAD + data_length(head);
+        times[tag]++;
+        at += tag == ASPEN_ANSWER_BACKED  ? aspen_answers_bound(1, 0, 0)
+              : tag == ASPEN_ANSWER_BLOCK ? aspen_answers_bound(0, 1, 0)
+              : tag == ASPEN_ANSWER_RUN   ? aspen_runs_bound(1, aspen_u16(answers + at + 1))
+                                          : aspen_answers_bound(0, 0, 1);
     }
+}
+
+static size_t data_length(const uint8_t *head)
+{
+    return aspen_u16(head + 10) + (size_t)65536 * aspen_u16(head + 12);
 }
 
 /* Makes a call of the head here, with no more data than so many bytes; gives how many. A restore
  * has fewer than 256 blocks. */
 static size_t mend_head(uint8_t *head, size_t most)
 {
-    static const size_t used[] = { 4, 4, 2, 6, 0, 7, 4, 4, 0 };
-    uint8_t kind = head[0] % (ASPEN_CALL_UNNAME + 1);
-    int has_data = kind == ASPEN_CALL_BACKUP || kind >= ASPEN_CALL_NAME;
-    size_t data = has_data ? data_length(head) % (most + 1) : 0;
+    static const size_t used[] = { 4, 4, 2, 6, 0, 7, 4 };
+    uint8_t kind = head[0] % (ASPEN_CALL_RETIRE + 1);
+    size_t data = kind == ASPEN_CALL_BACKUP ? data_length(head) % (most + 1) : 0;
     size_t unused = 2 + used[kind];
 
     head[0] = kind;
@@ -168,7 +158,7 @@ int LLVMFuzzerTestOneInput(const uint8_t *input, size_t length)
     CHECK_GUARDS(&answers);
     CHECK_BYTES(answers.bytes, number == ASPEN_OK ? expected.bytes : before.bytes, answers.length);
     if (number == ASPEN_OK)
-        note_answers(sent.part[LIST].bytes, answers.bytes, written);
+        note_answers(answers.bytes, written);
     check_left(number, &sent, &ours, &theirs);
     buffer_free(&before);
     buffer_free(&answers);

@@ -1,14 +1,11 @@
-/* The seven calls that show a book, all of them on any book: aspen_sizes, aspen_used, aspen_volume,
- * aspen_backups, aspen_cells, aspen_blocks and aspen_names. The spare stands for the output: it is as
- * long as the rows, and as much longer as the control says. */
+/* The six calls that show a book, all of them on any book: aspen_sizes, aspen_used, aspen_volume,
+ * aspen_backups, aspen_cells and aspen_blocks. The spare stands for the output: it is as long as the
+ * rows, and as much longer as the control says. */
 #include "../fuzz.h"
-
-#include <stdio.h>
-#include <stdlib.h>
 
 int LLVMFuzzerTestOneInput(const uint8_t *input, size_t length);
 
-enum view { SIZES, USED, VOLUME, BACKUPS, CELLS, BLOCKS, NAMES, VIEWS };
+enum view { SIZES, USED, VOLUME, BACKUPS, CELLS, BLOCKS, VIEWS };
 
 /* The functions of one side. */
 struct calls {
@@ -18,14 +15,12 @@ struct calls {
     __typeof__(aspen_backups) *backups;
     __typeof__(aspen_cells) *cells;
     __typeof__(aspen_blocks) *blocks;
-    __typeof__(aspen_names) *names;
 };
 
-static const struct calls archive = { aspen_sizes, aspen_used, aspen_volume, aspen_backups,
-                                      aspen_cells, aspen_blocks, aspen_names };
+static const struct calls archive = { aspen_sizes, aspen_used, aspen_volume,
+                                      aspen_backups, aspen_cells, aspen_blocks };
 static const struct calls reference = { reference_sizes, reference_used, reference_volume,
-                                        reference_backups, reference_cells, reference_blocks,
-                                        reference_names };
+                                        reference_backups, reference_cells, reference_blocks };
 
 static uint16_t call(const struct calls *calls, enum view view, struct side *side, uint16_t volume,
                      uint16_t a[4])
@@ -47,10 +42,8 @@ static uint16_t call(const struct calls *calls, enum view view, struct side *sid
         return calls->backups(book->bytes, book->length, volume, out->bytes, out->length, &a[0]);
     case CELLS:
         return calls->cells(book->bytes, book->length, volume, out->bytes, out->length);
-    case BLOCKS:
-        return calls->blocks(book->bytes, book->length, out->bytes, out->length);
     default:
-        return calls->names(book->bytes, book->length, out->bytes, out->length);
+        return calls->blocks(book->bytes, book->length, out->bytes, out->length);
     }
 }
 
@@ -64,29 +57,7 @@ static size_t rows_length(enum view view, const struct buffer *book, uint16_t vo
     return view == BACKUPS  ? aspen_backups_size(backups)
            : view == CELLS  ? aspen_cells_size(cells)
            : view == BLOCKS ? aspen_blocks_size(blocks)
-           : view == NAMES  ? ASPEN_NAMES_SIZE
                             : 0;
-}
-
-/* How many names were shown, and how many backups without an end, printed at the end. */
-static unsigned long names, endless;
-
-static void print_shown(void)
-{
-    fprintf(stderr, "shown: names=%lu endless=%lu\n", names, endless);
-}
-
-static void note(enum view view, uint16_t count, const struct buffer *out)
-{
-    static int noted;
-    size_t i;
-
-    if (!noted)
-        noted = atexit(print_shown) == 0;
-    for (i = 0; view == NAMES && i < ASPEN_NAMES; i++)
-        names += out->bytes[ASPEN_NAME_ROW * i] != 0;
-    for (i = 0; view == BACKUPS && i < count; i++)
-        endless += aspen_u16(out->bytes + ASPEN_BACKUP_ROW * i + 4) == ASPEN_NO_END;
 }
 
 static void try_view(enum view view, const uint8_t *input, size_t length)
@@ -107,8 +78,6 @@ static void try_view(enum view view, const uint8_t *input, size_t length)
     CHECK_EQ(number, call(&reference, view, &theirs, volume, expected));
     for (i = 0; i < 4; i++)
         check_answer(number, answers[i], expected[i], UNTOUCHED);
-    if (number == ASPEN_OK)
-        note(view, answers[0], &ours.part[SPARE]);
     check_left(number, &sent, &ours, &theirs);
 }
 

@@ -1,12 +1,12 @@
 //! What the box and the plain store must have alike after any list of calls: the held blocks
-//! with PBN, fingerprint and bytes, the current maps of all volumes, and the names.
+//! with PBN, fingerprint and bytes, and the current maps of all volumes.
 
 mod views;
 
 pub use views::check_view;
 
 use crate::form;
-use crate::layout::{NameCell, HELD, VOLUMES};
+use crate::layout::{HELD, VOLUMES};
 use crate::plain::Plain;
 
 /// Says what differs first.
@@ -31,16 +31,6 @@ pub fn check(book: &[u8], pool: &[u8], plain: &Plain) -> Result<(), String> {
     let differs = (0..VOLUMES).find(|&volume| view.map(volume) != plain.current_map(volume));
     match differs {
         Some(volume) => Err(format!("volume {volume}'s map isn't the plain store's")),
-        None if !names_agree(plain, view.names()) => {
-            Err("the names aren't the plain store's".into())
-        }
         None => Ok(()),
     }
-}
-
-/// The same names, in any cells.
-fn names_agree(plain: &Plain, names: impl Iterator<Item = NameCell>) -> bool {
-    let names: Vec<NameCell> = names.collect();
-    let known = |cell: &NameCell| plain.names().contains(cell);
-    names.len() == plain.names().len() && names.iter().all(known)
 }

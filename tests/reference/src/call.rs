@@ -23,14 +23,6 @@ pub enum Call {
         volume: u16,
         day: u16,
     },
-    Name {
-        volume: u16,
-        number: u16,
-        name: Vec<u8>,
-    },
-    Unname {
-        name: Vec<u8>,
-    },
     Read {
         volume: u16,
         number: u16,
@@ -48,8 +40,6 @@ pub enum Answer {
     Freed(u16),
     /// How many cells the volume's map had.
     Retired(u16),
-    Named,
-    Unnamed,
     Block(Box<Block>),
     /// The bytes of a restored run.
     Run(Vec<u8>),
@@ -99,14 +89,6 @@ pub fn call_on(book: &mut [u8], pool: &mut [u8], spare: &mut [u8], call: &Call) 
         Call::Retire { volume, day } => {
             answer(store::retire(book, spare, *volume, *day), Answer::Retired)
         }
-        Call::Name {
-            volume,
-            number,
-            name,
-        } => answer(store::name(book, spare, *volume, *number, name), |()| {
-            Answer::Named
-        }),
-        Call::Unname { name } => answer(store::unname(book, spare, name), |()| Answer::Unnamed),
         Call::Read {
             volume,
             number,
@@ -134,12 +116,6 @@ impl Plain {
             }
             Call::Collect { day } => answer(self.collect(*day), Answer::Freed),
             Call::Retire { volume, day } => answer(self.retire(*volume, *day), Answer::Retired),
-            Call::Name {
-                volume,
-                number,
-                name,
-            } => answer(self.name(*volume, *number, name), |()| Answer::Named),
-            Call::Unname { name } => answer(self.unname(name), |()| Answer::Unnamed),
             Call::Read {
                 volume,
                 number,

@@ -2,8 +2,7 @@
 
 use crate::call::{Answer, Call, Stored};
 use crate::layout::{
-    Block, Book, Fingerprint, Header, Name, Pbn, Sizes, BLOCK_BYTES, FINGERPRINT_BYTES, NAME_BYTES,
-    UNUSED_SLOT,
+    Block, Book, Fingerprint, Header, Pbn, Sizes, BLOCK_BYTES, FINGERPRINT_BYTES, UNUSED_SLOT,
 };
 use crate::store;
 
@@ -57,27 +56,6 @@ pub fn backup(volume: u16, day: u16, runs: &[(u16, &str)]) -> Call {
         volume,
         day,
         list: list(runs),
-    }
-}
-
-/// A text as a name: zeros after it.
-pub fn padded(text: &str) -> Name {
-    let mut name = [0; NAME_BYTES];
-    name[..text.len()].copy_from_slice(text.as_bytes());
-    name
-}
-
-pub fn name(volume: u16, number: u16, text: &str) -> Call {
-    Call::Name {
-        volume,
-        number,
-        name: padded(text).to_vec(),
-    }
-}
-
-pub fn unname(text: &str) -> Call {
-    Call::Unname {
-        name: padded(text).to_vec(),
     }
 }
 

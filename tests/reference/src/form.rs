@@ -1,11 +1,8 @@
 //! When a byte string is a book in form: the numbers of refusal 1 and 2.
 
-use std::collections::HashSet;
-
 use crate::layout::{
-    Book, Entry, Header, NameCell, Pbn, Slot, BACKUP, DAY_MAX, EXPIRY_MAX, FREE, HEADER_BYTES,
-    HELD, LAYOUT, RETENTION_RANGE, RETIREMENT, UNMAPPED, UNUSED_NAME, UNUSED_RECORD, UNUSED_SLOT,
-    VOLUMES,
+    Book, Entry, Header, Pbn, Slot, BACKUP, DAY_MAX, EXPIRY_MAX, FREE, HEADER_BYTES, HELD, LAYOUT,
+    RETENTION_RANGE, RETIREMENT, UNMAPPED, UNUSED_RECORD, UNUSED_SLOT, VOLUMES,
 };
 use crate::refusal::{require, Refusal};
 
@@ -44,8 +41,6 @@ fn in_form(book: &Book<&[u8]>) -> bool {
         && slot_pairs_in_form(book)
         && afters_in_form(book)
         && retirements_end_volumes(book)
-        && book.name_cells().all(|cell| name_in_form(book, &cell))
-        && names_differ(book)
 }
 
 fn header_in_form(book: &Book<&[u8]>) -> bool {
@@ -159,22 +154,4 @@ fn retirements_end_volumes(book: &Book<&[u8]>) -> bool {
         let slots = book.used_slots_of(volume);
         slots.windows(2).all(|pair| !pair[0].is_retirement())
     })
-}
-
-/// An unused cell is all zero; a name is that of a backup in the book.
-fn name_in_form(book: &Book<&[u8]>, cell: &NameCell) -> bool {
-    if !cell.is_used() {
-        return *cell == UNUSED_NAME;
-    }
-    let numbers = match u8::try_from(cell.volume) {
-        Ok(volume) => 1..=book.backup_slots_of(volume).len(),
-        Err(_) => return false,
-    };
-    numbers.contains(&cell.number.into())
-}
-
-/// By the twelve bytes of each alone.
-fn names_differ(book: &Book<&[u8]>) -> bool {
-    let mut seen = HashSet::new();
-    book.names().all(|cell| seen.insert(cell.name))
 }

@@ -1,5 +1,5 @@
 //! What each volume held at each accepted backup, worked out from the calls as sent. A retirement ends
-//! the exemption of the newest, and a name keeps what it names.
+//! the exemption of the newest.
 
 use std::rc::Rc;
 
@@ -20,8 +20,6 @@ struct Volume {
     backups: Vec<(u16, Image)>,
     /// The day on which it was retired.
     retired: Option<u16>,
-    /// Its names, each with the number of a backup.
-    names: Vec<(Vec<u8>, usize)>,
 }
 
 pub struct History {
@@ -58,20 +56,6 @@ impl History {
                 let volume = self.volumes[usize::from(*volume)].as_mut();
                 volume.expect("an enrolled volume").retired = Some(*day);
                 self.day = *day;
-            }
-            Call::Name {
-                volume,
-                number,
-                name,
-            } => {
-                let volume = self.volumes[usize::from(*volume)].as_mut();
-                let names = &mut volume.expect("an enrolled volume").names;
-                names.push((name.clone(), (*number).into()));
-            }
-            Call::Unname { name } => {
-                for volume in self.volumes.iter_mut().flatten() {
-                    volume.names.retain(|(other, _)| other != name);
-                }
             }
             Call::Read { .. } | Call::Restore(_) | Call::Audit => {}
         }
@@ -151,7 +135,6 @@ impl History {
             days: volume.backups.iter().map(|(day, _)| *day).collect(),
             retention: volume.retention,
             retired: volume.retired,
-            named: volume.names.iter().map(|(_, number)| *number).collect(),
         };
         let kept = is_kept(&backups, number, self.day);
         require(kept, Refusal::NotKept)?;

@@ -1,6 +1,5 @@
 //! How long a backup is kept, and with it the blocks that it names: so many days from the day it was
-//! taken, the newest without end while its volume isn't retired, and one with a name as long as it has
-//! the name.
+//! taken, and the newest without end while its volume isn't retired.
 
 /// What the rule looks at in a volume.
 #[derive(Clone, Debug, PartialEq, Eq)]
@@ -10,8 +9,6 @@ pub struct Backups {
     pub retention: u16,
     /// The day on which the volume was retired.
     pub retired: Option<u16>,
-    /// The numbers of the backups with a name.
-    pub named: Vec<usize>,
 }
 
 /// Whether backup `number`, from 1, of a volume is kept on a day.
@@ -22,11 +19,10 @@ pub fn last_day(taken: u16, retention: u16) -> u16 {
     taken + retention
 }
 
-/// The last day on which a backup is kept; none for the newest of a volume that isn't retired, and for
-/// one with a name.
+/// The last day on which a backup is kept; none for the newest of a volume that isn't retired.
 pub fn kept_until(backups: &Backups, number: usize) -> Option<u16> {
     let newest = number == backups.days.len();
-    let exempt = newest && backups.retired.is_none() || backups.named.contains(&number);
+    let exempt = newest && backups.retired.is_none();
     (!exempt).then(|| last_day(backups.days[number - 1], backups.retention))
 }
 

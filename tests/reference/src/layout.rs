@@ -7,15 +7,10 @@ pub use book::Book;
 use std::ops::{Range, RangeInclusive};
 
 /// The layout that `format` makes and that the calls take.
-pub const LAYOUT: u16 = 4;
+pub const LAYOUT: u16 = 3;
 pub const VOLUMES: u8 = 8;
 pub const BLOCK_BYTES: usize = 512;
 pub const FINGERPRINT_BYTES: usize = 16;
-/// Name cells of a book.
-pub const NAMES: usize = 8;
-pub const NAME_BYTES: usize = 12;
-/// A name with its volume and number.
-pub const NAME_CELL_BYTES: usize = NAME_BYTES + 4;
 
 pub const BLOCKS_RANGE: RangeInclusive<u16> = 1..=4_096;
 pub const LBNS_RANGE: RangeInclusive<u16> = 1..=1_024;
@@ -35,7 +30,6 @@ const RECORD_BYTES: usize = 6;
 
 pub type Fingerprint = [u8; 16];
 pub type Block = [u8; 512];
-pub type Name = [u8; NAME_BYTES];
 
 /// Number of a block of an aid's volume.
 #[derive(Clone, Copy, Debug, PartialEq, Eq, PartialOrd, Ord)]
@@ -145,38 +139,6 @@ pub const UNUSED_RECORD: Record = Record {
     after: Pbn(0),
 };
 
-/// A backup with a name, which is kept until the name is dropped.
-#[derive(Clone, Copy, Debug, PartialEq, Eq)]
-pub struct NameCell {
-    pub name: Name,
-    pub volume: u16,
-    pub number: u16,
-}
-
-pub const UNUSED_NAME: NameCell = NameCell {
-    name: [0; NAME_BYTES],
-    volume: 0,
-    number: 0,
-};
-
-impl NameCell {
-    /// That of sixteen bytes.
-    pub fn of_bytes(bytes: &[u8]) -> Self {
-        let mut name = [0; NAME_BYTES];
-        name.copy_from_slice(&bytes[..NAME_BYTES]);
-        NameCell {
-            name,
-            volume: get_u16(bytes, NAME_BYTES),
-            number: get_u16(bytes, NAME_BYTES + 2),
-        }
-    }
-
-    /// By the first byte, which is zero in no name.
-    pub fn is_used(&self) -> bool {
-        self.name[0] != 0
-    }
-}
-
 /// The four sizes: N pool blocks, L logical blocks a volume, S backup slots, J records.
 #[derive(Clone, Copy, Debug, PartialEq, Eq)]
 pub struct Sizes {
@@ -203,7 +165,7 @@ impl Sizes {
             layout,
             sizes: self,
         };
-        places.name_at(places.name_cells())
+        places.record_at(usize::from(self.records))
     }
 
     pub fn pool_bytes(self) -> usize {
@@ -242,18 +204,6 @@ impl Places {
 
     fn record_at(self, record: usize) -> usize {
         self.slot_at(usize::from(self.sizes.slots)) + RECORD_BYTES * record
-    }
-
-    /// There are names from layout 4 on.
-    fn name_cells(self) -> usize {
-        match self.layout {
-            1..=3 => 0,
-            _ => NAMES,
-        }
-    }
-
-    fn name_at(self, cell: usize) -> usize {
-        self.record_at(usize::from(self.sizes.records)) + NAME_CELL_BYTES * cell
     }
 }
 

@@ -6,7 +6,7 @@ use crate::call::{Answer, Call, Stored};
 use crate::cases::{calls_to_d, SIZES};
 use crate::form;
 use crate::keeping::{self, Backups};
-use crate::layout::{Book, Header, Sizes, HEADER_BYTES, LAYOUT, NAMES, NAME_CELL_BYTES};
+use crate::layout::{Book, Header, Sizes, LAYOUT};
 use crate::random_calls::RandomCalls;
 use crate::refusal::Refusal;
 use crate::store::{settle_expiries, Days, Fault, FROM_TAKING};
@@ -31,23 +31,19 @@ pub fn days_of(layout: u16) -> Days {
     }
 }
 
-/// All that audit found wrong with a book of an older layout.
+/// All that audit found wrong with a book of layout 1 or 2.
 pub fn faults(layout: u16, book: &[u8]) -> Result<Vec<Fault>, Refusal> {
     let book = form::check_in(layout, book)?;
-    Ok(Fault::all_in(&book, days_of(layout)).collect())
+    Ok(Fault::all_in(&book, FROM_REPLACING).collect())
 }
 
-/// A book of today's layout without its name cells, under the number of layout 2 or 3, with the counts
-/// and expiries that it has. Another number stays, and an older book does.
-pub fn renumbered(layout: u16, book: &[u8]) -> Vec<u8> {
+/// A book of today's layout under the number of layout 2, with the expiries that it has. Another
+/// number stays.
+pub fn renumbered(book: &[u8]) -> Vec<u8> {
     let mut book = book.to_vec();
-    if book.len() < HEADER_BYTES || Book::over(&book[..]).header(Header::Layout) < LAYOUT {
-        return book;
-    }
     if book.starts_with(&LAYOUT.to_le_bytes()) {
-        Book::over(&mut book[..]).set_header(Header::Layout, layout);
+        book[0] = 2;
     }
-    book.truncate(book.len().saturating_sub(NAMES * NAME_CELL_BYTES));
     book
 }
 
@@ -98,10 +94,10 @@ impl OldBox {
         Some(answer)
     }
 
-    /// Its book and pool, with a spare that is long enough for today's layout too.
+    /// Its book and pool, with a spare as long as the book.
     pub fn stored(&self) -> Stored {
         let mut stored = self.0.clone();
-        stored.book = renumbered(2, &stored.book);
+        Book::over(&mut stored.book[..]).set_header(Header::Layout, 2);
         stored
     }
 }

@@ -18,7 +18,6 @@ pub mod prng;
 pub mod random_books;
 pub mod random_calls;
 pub mod random_lists;
-pub mod random_names;
 pub mod refusal;
 pub mod store;
 pub mod tally;

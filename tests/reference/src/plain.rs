@@ -7,8 +7,7 @@ use std::rc::Rc;
 use crate::change_list;
 use crate::keeping::{self, Backups, IsKept};
 use crate::layout::{
-    Block, Fingerprint, Lbn, NameCell, Pbn, Sizes, DAY_MAX, NAMES, RETENTION_RANGE, UNMAPPED,
-    VOLUMES,
+    Block, Fingerprint, Lbn, Pbn, Sizes, DAY_MAX, RETENTION_RANGE, UNMAPPED, VOLUMES,
 };
 use crate::refusal::{require, Refusal};
 use crate::store::{BackedUp, Run};
@@ -54,8 +53,6 @@ pub struct Plain {
     retentions: [Option<u16>; VOLUMES as usize],
     /// The maps and retirements of all volumes, in the order taken.
     taken: Vec<Taken>,
-    /// At most eight, in the order given.
-    names: Vec<NameCell>,
     is_kept: IsKept,
 }
 
@@ -69,7 +66,6 @@ impl Plain {
             blocks: vec![None; usize::from(sizes.blocks)],
             retentions: Default::default(),
             taken: Vec::new(),
-            names: Vec::new(),
             is_kept: keeping::is_kept,
         }
     }
@@ -93,32 +89,12 @@ impl Plain {
         (self.taken.len(), changes)
     }
 
-    /// A volume's retention, the days of its backups and that of its retirement, and what has a name.
+    /// A volume's retention, the days of its backups, and that of its retirement.
     pub fn volume(&self, volume: u16) -> Result<Backups, Refusal> {
         Ok(Backups {
             retention: self.retention(volume)?,
             days: self.maps(volume).map(|(day, _)| day).collect(),
             retired: self.retired_on(volume),
-            named: self.named_of(volume).collect(),
-        })
-    }
-
-    /// The numbers of a volume's backups with a name, once for each name.
-    fn named_of(&self, volume: u16) -> impl Iterator<Item = usize> + '_ {
-        let names = self.names.iter().filter(move |cell| cell.volume == volume);
-        names.map(|cell| cell.number.into())
-    }
-
-    pub fn names(&self) -> &[NameCell] {
-        &self.names
-    }
-
-    /// The map that each name names.
-    pub fn named_maps(&self) -> impl Iterator<Item = &Map> {
-        self.names.iter().map(|cell| {
-            let mut maps = self.maps(cell.volume);
-            let map = maps.nth(usize::from(cell.number) - 1);
-            map.expect("a name of a backup").1
         })
     }
 
@@ -224,8 +200,8 @@ impl Plain {
         Ok(freed)
     }
 
-    /// The maps of the backups kept at `day`, by a name too. The current maps are among them: each is the
-    /// newest of a volume that isn't retired.
+    /// The maps of the backups kept at `day`. The current maps are among them: each is the newest of a
+    /// volume that isn't retired.
     fn kept_maps(&self, day: u16) -> impl Iterator<Item = &Map> {
         let volumes = 0..u16::from(VOLUMES);
         let enrolled = volumes.filter_map(|v| Some((v, self.volume(v).ok()?)));
@@ -234,26 +210,6 @@ impl Plain {
             let maps = (1..).zip(self.maps(volume));
             maps.filter_map(move |(number, (_, map))| kept(number).then_some(map))
         })
-    }
-
-    pub fn name(&mut self, volume: u16, number: u16, name: &[u8]) -> Result<(), Refusal> {
-        self.kept_map(volume, number)?;
-        let twelve = name.try_into().map_err(|_| Refusal::Name)?;
-        let taken = self.names.iter().any(|cell| cell.name == name);
-        require(name[0] != 0 && !taken, Refusal::Name)?;
-        require(self.names.len() < NAMES, Refusal::NamesFull)?;
-        self.names.push(NameCell {
-            name: twelve,
-            volume,
-            number,
-        });
-        Ok(())
-    }
-
-    pub fn unname(&mut self, name: &[u8]) -> Result<(), Refusal> {
-        let place = self.names.iter().position(|cell| cell.name == name);
-        self.names.remove(place.ok_or(Refusal::Name)?);
-        Ok(())
     }
 
     pub fn read(&self, volume: u16, number: u16, lbn: u16) -> Result<&Block, Refusal> {

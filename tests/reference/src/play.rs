@@ -15,11 +15,6 @@ const READ: u8 = 3;
 const AUDIT: u8 = 4;
 const RESTORE: u8 = 5;
 const RETIRE: u8 = 6;
-const NAME: u8 = 7;
-const UNNAME: u8 = 8;
-
-/// The kinds that have data: a list, or a name of any length.
-const WITH_DATA: [u8; 3] = [BACKUP, NAME, UNNAME];
 
 /// The calls that the bytes are; refusal 19 if they are no list.
 pub fn decode(bytes: &[u8]) -> Result<Vec<Call>, Refusal> {
@@ -40,8 +35,7 @@ pub fn split_call(bytes: &[u8]) -> Result<(Call, &[u8]), Refusal> {
     let fields = [2, 4, 6, 8].map(|at| get_u16(head, at));
     let (data, rest) = split(rest, data_bytes(head))?;
     require(zero == 0, Refusal::Input)?;
-    let with_data = WITH_DATA.contains(&kind);
-    require(with_data || data.is_empty(), Refusal::Input)?;
+    require(kind == BACKUP || data.is_empty(), Refusal::Input)?;
     let (call, used) = call_of(kind, fields, data).ok_or(Refusal::Input)?;
     let unused = &fields[used..];
     require(unused.iter().all(|&field| field == 0), Refusal::Input)?;
@@ -59,7 +53,7 @@ pub fn data_bytes(head: &[u8]) -> usize {
 
 /// The call of a head and its data, and how many of the fields it uses.
 fn call_of(kind: u8, [a, b, c, d]: [u16; 4], data: &[u8]) -> Option<(Call, usize)> {
-    let (volume, data) = (a, data.to_vec());
+    let (volume, list) = (a, data.to_vec());
     let call = match kind {
         ENROL => Call::Enrol {
             volume,
@@ -68,7 +62,7 @@ fn call_of(kind: u8, [a, b, c, d]: [u16; 4], data: &[u8]) -> Option<(Call, usize
         BACKUP => Call::Backup {
             volume,
             day: b,
-            list: data,
+            list,
         },
         COLLECT => Call::Collect { day: a },
         READ => Call::Read {
@@ -84,15 +78,9 @@ fn call_of(kind: u8, [a, b, c, d]: [u16; 4], data: &[u8]) -> Option<(Call, usize
             length: d,
         }),
         RETIRE => Call::Retire { volume, day: b },
-        NAME => Call::Name {
-            volume,
-            number: b,
-            name: data,
-        },
-        UNNAME => Call::Unname { name: data },
         _ => return None,
     };
-    let used = [2, 2, 1, 3, 0, 4, 2, 2, 0][usize::from(kind)];
+    let used = [2, 2, 1, 3, 0, 4, 2][usize::from(kind)];
     Some((call, used))
 }
 
@@ -118,12 +106,6 @@ fn call_bytes(call: &Call) -> Vec<u8> {
             &[],
         ),
         Call::Retire { volume, day } => (RETIRE, [*volume, *day, 0, 0], &[]),
-        Call::Name {
-            volume,
-            number,
-            name,
-        } => (NAME, [*volume, *number, 0, 0], name),
-        Call::Unname { name } => (UNNAME, [0; 4], name),
     };
     let mut bytes = vec![kind, 0];
     bytes.extend(fields.iter().flat_map(|field| field.to_le_bytes()));
@@ -140,7 +122,6 @@ pub fn longest_answers(calls: &[Call]) -> usize {
 fn longest_answer(call: &Call) -> usize {
     match call {
         Call::Enrol { .. } | Call::Collect { .. } | Call::Retire { .. } | Call::Audit => 3,
-        Call::Name { .. } | Call::Unname { .. } => 3,
         Call::Backup { .. } => 7,
         Call::Read { .. } => 1 + BLOCK_BYTES,
         Call::Restore(run) => 3 + run.bytes(),
@@ -154,7 +135,7 @@ pub fn answer_bytes(answer: &Answer) -> Vec<u8> {
         [tag].into_iter().chain(numbers).collect()
     };
     match answer {
-        Answer::Enrolled | Answer::Named | Answer::Unnamed => tagged(0, &[0]),
+        Answer::Enrolled => tagged(0, &[0]),
         Answer::Refused(refusal) => tagged(0, &[refusal.number()]),
         Answer::BackedUp(b) => tagged(1, &[b.number, b.taken, b.touched]),
         Answer::Freed(number) | Answer::Retired(number) => tagged(2, &[*number]),

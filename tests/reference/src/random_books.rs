@@ -2,12 +2,11 @@
 //! in form. And such a book in layout 1.
 
 use crate::layout::{
-    Book, Entry, Header, Lbn, NameCell, Pbn, Slot, EXPIRY_MAX, FREE, HEADER_BYTES, HELD, NAMES,
-    NAME_BYTES, UNMAPPED, UNUSED_NAME, UNUSED_SLOT, VOLUMES,
+    Book, Entry, Header, Lbn, Pbn, Slot, EXPIRY_MAX, FREE, HEADER_BYTES, HELD, UNMAPPED,
+    UNUSED_SLOT, VOLUMES,
 };
 use crate::layout_2;
 use crate::prng::Prng;
-use crate::random_names;
 use crate::store::settle_expiries;
 
 /// Changes up to three fields of a book in form; now and then merges slots or flips a bit.
@@ -63,7 +62,6 @@ fn disturb_field(prng: &mut Prng, book: &mut Book<&mut [u8]>) {
         5 | 6 => free_waiting(prng, book),
         7 => disturb_mapped(prng, book),
         8 if book.header(Header::Layout) > 2 => disturb_kind(prng, book),
-        9 if book.header(Header::Layout) > 3 => disturb_name(prng, book),
         _ => disturb_entry(prng, book),
     }
 }
@@ -158,38 +156,6 @@ fn free_waiting(prng: &mut Prng, book: &mut Book<&mut [u8]>) {
     if !waiting.is_empty() {
         book.edit_entry(prng.pick(&waiting), Entry::set_free);
     }
-}
-
-/// A name moves to another backup, comes, goes or is given twice, without the counts; or a field of
-/// its cell is another.
-fn disturb_name(prng: &mut Prng, book: &mut Book<&mut [u8]>) {
-    let cell = prng.index(NAMES);
-    let other = book.name_cell(prng.index(NAMES));
-    let volume = prng.between(0, 8);
-    // An earlier change may have put more slots to use than there are.
-    let used = book.header(Header::SlotsUsed).min(book.sizes().slots);
-    let slots = (0..usize::from(used)).map(|slot| book.slot(slot));
-    let of_volume = |slot: &Slot| u16::from(slot.volume) == volume && !slot.is_retirement();
-    let backups = slots.filter(of_volume).count() as u16;
-    let number = match prng.below(6) {
-        0 => prng.pick(&[0, backups + 1, 65_535]),
-        _ => prng.between(1, backups.max(1)),
-    };
-    let any = random_names::member(prng);
-    book.edit_name_cell(cell, |cell| match prng.below(8) {
-        0 => *cell = UNUSED_NAME,
-        1 => cell.name = other.name,
-        2 => cell.name[prng.index(NAME_BYTES)] = 0,
-        3 => cell.number = number,
-        4 => cell.volume = prng.pick(&[volume, 256 + cell.volume]),
-        _ => {
-            *cell = NameCell {
-                name: any,
-                volume,
-                number,
-            }
-        }
-    });
 }
 
 /// Gives a block that a map names a count at one end, or one that a single cell of it takes.

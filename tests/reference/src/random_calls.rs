@@ -5,10 +5,9 @@ mod shape;
 pub use shape::Shape;
 
 use crate::call::{Answer, Call, Stored};
-use crate::layout::{NameCell, Sizes, DAY_MAX, RETENTION_RANGE};
+use crate::layout::{Sizes, DAY_MAX, RETENTION_RANGE};
 use crate::prng::Prng;
 use crate::random_lists::RandomLists;
-use crate::random_names;
 use crate::store::Run;
 use crate::view::View;
 
@@ -26,10 +25,6 @@ pub struct RandomCalls {
     /// Each volume's backups so far.
     backups: [u16; 8],
     retired: [bool; 8],
-    /// The names that are given, as far as it knows.
-    names: Vec<NameCell>,
-    /// How rarely a name is given or dropped.
-    names_once_in: u64,
 }
 
 impl RandomCalls {
@@ -52,8 +47,6 @@ impl RandomCalls {
             day: if late { DAY_MAX - 100 } else { 0 },
             backups: [0; 8],
             retired: [false; 8],
-            names: Vec::new(),
-            names_once_in: prng.pick(&[5, 12, 25, 60]),
             prng,
         }
     }
@@ -85,12 +78,6 @@ impl RandomCalls {
         if self.enrolled < self.volumes {
             self.enrolled += 1;
             return self.enrol(self.enrolled - 1);
-        }
-        if self.prng.once_in(self.names_once_in) {
-            return match self.prng.below(6) {
-                0 => self.unname(),
-                _ => self.name(),
-            };
         }
         match self.prng.below(60) {
             0..=2 => {
@@ -126,10 +113,6 @@ impl RandomCalls {
             1..=3 => prng.between(1, newest.max(1)),
             _ => newest.saturating_sub(prng.between(0, 3)).max(1),
         };
-        let (volume, number) = match prng.below(6) {
-            0 if !self.names.is_empty() => named_by(prng.pick(&self.names)),
-            _ => (volume, number),
-        };
         let (first, length) = self.any_run(prng);
         Run {
             volume,
@@ -144,30 +127,6 @@ impl RandomCalls {
         let volume = prng.between(0, self.volumes - 1);
         let day = self.day.saturating_add(prng.between(0, 3));
         Call::Retire { volume, day }
-    }
-
-    /// A naming or a dropping; as for a view, another generator draws it.
-    pub fn naming(&self, prng: &mut Prng) -> Call {
-        if prng.once_in(2) {
-            return Call::Unname {
-                name: self.given_name(prng),
-            };
-        }
-        let volume = prng.between(0, self.volumes - 1);
-        let newest = self.newest(volume);
-        Call::Name {
-            volume,
-            number: newest.saturating_sub(prng.between(0, 3)).max(1),
-            name: random_names::any(prng),
-        }
-    }
-
-    /// Mostly one that is given, if there is one.
-    fn given_name(&self, prng: &mut Prng) -> Vec<u8> {
-        if self.names.is_empty() || prng.once_in(5) {
-            return random_names::any(prng);
-        }
-        prng.pick(&self.names).name.to_vec()
     }
 
     /// Mostly a short run in the volume; now and then all of it, none of it, or one past its end.
@@ -195,7 +154,7 @@ impl RandomCalls {
         newest.copied().unwrap_or(0)
     }
 
-    /// Learns from an answer how many backups a volume has, whether it is retired, and the names.
+    /// Learns from an answer how many backups a volume has, and whether it is retired.
     pub fn learn(&mut self, call: &Call, answer: &Answer) {
         match (call, answer) {
             (Call::Backup { volume, .. }, Answer::BackedUp(backed_up)) => {
@@ -203,21 +162,6 @@ impl RandomCalls {
             }
             (Call::Retire { volume, .. }, Answer::Retired(_)) => {
                 self.retired[usize::from(*volume)] = true;
-            }
-            (
-                Call::Name {
-                    volume,
-                    number,
-                    name,
-                },
-                Answer::Named,
-            ) => self.names.push(NameCell {
-                name: name[..].try_into().expect("twelve bytes"),
-                volume: *volume,
-                number: *number,
-            }),
-            (Call::Unname { name }, Answer::Unnamed) => {
-                self.names.retain(|cell| cell.name != **name);
             }
             _ => {}
         }
@@ -281,10 +225,6 @@ impl RandomCalls {
             1 => self.prng.between(0, newest),
             _ => newest.saturating_sub(self.prng.between(0, 3)).max(1),
         };
-        let (volume, number) = match self.prng.below(6) {
-            0 if !self.names.is_empty() => named_by(self.prng.pick(&self.names)),
-            _ => (volume, number),
-        };
         let lbn = match self.prng.below(20) {
             0 => self.prng.pick(&[self.sizes.lbns, 65_535]),
             _ => self.prng.between(0, self.sizes.lbns - 1),
@@ -306,34 +246,10 @@ impl RandomCalls {
         Call::Retire { volume, day }
     }
 
-    /// Mostly one of the newest backups, and now and then one that has a name.
-    fn name(&mut self) -> Call {
-        let Call::Read { volume, number, .. } = self.read() else {
-            unreachable!("a read");
-        };
-        Call::Name {
-            volume,
-            number,
-            name: random_names::any(&mut self.prng),
-        }
-    }
-
-    fn unname(&mut self) -> Call {
-        let mut prng = Prng::seeded(self.prng.draw());
-        Call::Unname {
-            name: self.given_name(&mut prng),
-        }
-    }
-
     fn backup(&mut self) -> Call {
         let volume = self.living_volume();
         let day = self.day();
         let list = self.lists.next_list(&mut self.prng);
         Call::Backup { volume, day, list }
     }
-}
-
-/// Volume and number of a backup with a name.
-fn named_by(cell: NameCell) -> (u16, u16) {
-    (cell.volume, cell.number)
 }

@@ -25,8 +25,6 @@ pub enum Refusal {
     ShortOutput = 20,
     Run = 21,
     CountWide = 22,
-    Name = 23,
-    NamesFull = 24,
 }
 
 impl Refusal {

@@ -4,7 +4,6 @@
 mod audit;
 mod backup;
 mod convert;
-mod name;
 mod restore;
 mod retire;
 mod taking;
@@ -13,10 +12,9 @@ mod views;
 pub use audit::{expiries, settle_expiries, Days, Fault, FROM_TAKING};
 pub use backup::backup;
 pub use convert::{convert, Way};
-pub use name::{name, unname};
 pub use restore::{restore, Run};
 pub use retire::retire;
-pub use views::{backups, blocks, cells, names, sizes, used, volume, Used, VolumeFacts, NO_END};
+pub use views::{backups, blocks, cells, sizes, used, volume, Used, VolumeFacts, NO_END};
 
 use crate::form;
 use crate::keeping::is_kept;
@@ -87,7 +85,7 @@ pub fn locate(
     number: u16,
     lbn: u16,
 ) -> Result<Pbn, Refusal> {
-    let backup = readable(book, pool, volume, number)?;
+    let backup = kept_backup(book, pool, volume, number)?;
     require(lbn < backup.book.sizes().lbns, Refusal::LbnAbove)?;
     backup.locate(Lbn(lbn))
 }
@@ -100,7 +98,7 @@ struct KeptBackup<'a> {
 }
 
 /// The backup that is asked for, after all checks of a read before that of the LBN.
-fn readable<'a>(
+fn kept_backup<'a>(
     book: &'a [u8],
     pool: &[u8],
     volume: u16,
@@ -108,11 +106,6 @@ fn readable<'a>(
 ) -> Result<KeptBackup<'a>, Refusal> {
     let book = form::check(book)?;
     require(pool.len() == book.sizes().pool_bytes(), Refusal::Pool)?;
-    kept_backup(book, volume, number)
-}
-
-/// A backup by volume and number: refusals 5, 15 and 16.
-fn kept_backup(book: Book<&[u8]>, volume: u16, number: u16) -> Result<KeptBackup<'_>, Refusal> {
     let volume = enrolled(&book, volume)?;
     let backups = book.backups_of(volume);
     let number = usize::from(number);
@@ -134,12 +127,6 @@ impl KeptBackup<'_> {
         let pbn = named_by(&self.book, self.volume, &self.later, lbn);
         require(pbn != UNMAPPED, Refusal::Unmapped)?;
         Ok(pbn)
-    }
-
-    /// The block behind each mapped cell of the backup, by LBN.
-    fn named(&self) -> Vec<Pbn> {
-        let lbns = self.book.lbns();
-        lbns.filter_map(|lbn| self.locate(lbn).ok()).collect()
     }
 }
 

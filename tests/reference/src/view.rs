@@ -1,6 +1,6 @@
 //! The calls that show a book to a host, beside those that lists of calls have.
 
-use crate::layout::{Sizes, NAMES, NAME_CELL_BYTES};
+use crate::layout::Sizes;
 use crate::store;
 
 #[derive(Clone, Copy, Debug, PartialEq, Eq)]
@@ -11,12 +11,11 @@ pub enum View {
     Backups { volume: u16 },
     Cells { volume: u16 },
     Blocks,
-    Names,
 }
 
 impl View {
     /// Each of them, with this volume where they take one.
-    pub fn all(volume: u16) -> [View; 7] {
+    pub fn all(volume: u16) -> [View; 6] {
         [
             View::Sizes,
             View::Used,
@@ -24,7 +23,6 @@ impl View {
             View::Backups { volume },
             View::Cells { volume },
             View::Blocks,
-            View::Names,
         ]
     }
 
@@ -32,7 +30,7 @@ impl View {
     pub fn has_output(self) -> bool {
         matches!(
             self,
-            View::Backups { .. } | View::Cells { .. } | View::Blocks | View::Names
+            View::Backups { .. } | View::Cells { .. } | View::Blocks
         )
     }
 
@@ -47,7 +45,6 @@ impl View {
             }
             View::Cells { .. } => sizes(|sizes| 2 * usize::from(sizes.lbns)),
             View::Blocks => sizes(|sizes| 22 * usize::from(sizes.blocks)),
-            View::Names => sizes(|_| NAMES * NAME_CELL_BYTES),
         }
     }
 }

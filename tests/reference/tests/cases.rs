@@ -25,7 +25,7 @@ impl Run {
             plain: Plain::new(SIZES),
             history: History::new(SIZES.lbns),
         };
-        assert_eq!(run.stored.book.len(), 408);
+        assert_eq!(run.stored.book.len(), 280);
         for (volume, retention) in [(0, 10), (1, 3)] {
             run.answers(Call::Enrol { volume, retention }, Answer::Enrolled);
         }
@@ -168,7 +168,7 @@ fn block_0_waits_to_day_15() {
 fn header_and_records_after_d() {
     let stored = after_d();
     let book = form::check(&stored.book).unwrap();
-    let fields = [4, 4, 4, 6, 8, 4, 5, 9, 3, 0];
+    let fields = [3, 4, 4, 6, 8, 4, 5, 9, 3, 0];
     let header: Vec<u16> = stored.book[..20]
         .chunks(2)
         .map(|pair| u16::from_le_bytes([pair[0], pair[1]]))

@@ -184,16 +184,15 @@ fn a_full_count_goes_on_in_later_layouts() {
         list,
     };
     stored.call(&first);
-    let old = to_1(&renumbered(2, &stored.book)).unwrap();
+    let old = to_1(&renumbered(&stored.book)).unwrap();
     assert_eq!(Book::over(&old[..]).entry(Pbn(0)).count, 255);
-    let wide = converted(Way::TwoToThree, &to_2(&old).unwrap()).unwrap();
-    stored.book = converted(Way::ThreeToFour, &wide).unwrap();
+    stored.book = converted(Way::TwoToThree, &to_2(&old).unwrap()).unwrap();
     stored.call(&backup(0, 2, &[(255, "A")]));
     let view = form::check(&stored.book).unwrap();
     assert_eq!(view.cell(0, Lbn(255)), Pbn(0));
     assert_eq!(view.entry(Pbn(0)).count, 256);
     assert_eq!(store::audit(&stored.book), Ok(true));
-    assert_eq!(to_1(&renumbered(2, &stored.book)), Err(Refusal::CountWide));
+    assert_eq!(to_1(&renumbered(&stored.book)), Err(Refusal::CountWide));
 }
 
 #[test]

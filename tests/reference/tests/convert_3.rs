@@ -22,13 +22,6 @@ fn to_3(book: &[u8]) -> Result<Vec<u8>, Refusal> {
     convert(Way::TwoToThree, book, &mut output).map(|()| output)
 }
 
-/// And on to today's layout, which the box takes.
-fn to_4(book: &[u8]) -> Result<Vec<u8>, Refusal> {
-    let third = to_3(book)?;
-    let mut output = vec![0xA5; Way::ThreeToFour.output_bytes(&third)];
-    convert(Way::ThreeToFour, &third, &mut output).map(|()| output)
-}
-
 /// The expiry of a block by the sentences of documents 01 and 02, whatever the journal says.
 fn expiry(book: &Book<&[u8]>, pbn: Pbn) -> u16 {
     let slots: Vec<Slot> = book.used_slots().collect();
@@ -65,10 +58,8 @@ fn the_book_after_d() {
     assert_eq!(faults(2, &old), Ok(vec![]));
     let new = to_3(&old).unwrap();
     is_converted(&old, &new);
-    assert_eq!(new, layout_2::renumbered(3, &cases::after_d().book));
-    let newest = to_4(&old).unwrap();
-    assert_eq!(newest, cases::after_d().book);
-    assert_eq!(store::audit(&newest), Ok(true));
+    assert_eq!(new, cases::after_d().book);
+    assert_eq!(store::audit(&new), Ok(true));
 }
 
 /// Books that runs left under the rule of layout 2, some of them disturbed.
@@ -99,7 +90,7 @@ fn every_expiry_comes_from_the_journal_alone() {
             }
         };
         is_converted(old, &new);
-        assert!(form::check_in(3, &new).is_ok());
+        assert!(form::check(&new).is_ok());
         let (old, new) = (Book::over(&old[..]), Book::over(&new[..]));
         let moved = |pbn: &Pbn| new.entry(*pbn).expiry.cmp(&old.entry(*pbn).expiry);
         fell += new.pbns().filter(|pbn| moved(pbn).is_lt()).count();
@@ -116,7 +107,7 @@ fn sound_books_stay_sound() {
     let (mut sound, mut healed, mut stayed) = (0, 0, [0; 5]);
     many_books(|Stored { book, .. }| {
         let Ok(before) = faults(2, book) else { return };
-        let after = store::faults(&to_4(book).unwrap()).unwrap();
+        let after = store::faults(&to_3(book).unwrap()).unwrap();
         for fault in [Fault::Replay, Fault::Count, Fault::Fingerprint] {
             assert_eq!(after.contains(&fault), before.contains(&fault));
         }
@@ -159,7 +150,7 @@ fn some_backups_go() {
     Book::over(&mut stored.book[..]).set_header(Header::Day, 16);
     let backups = Book::over(&stored.book[..]).backups_of(0);
     assert!(layout_2::is_kept(&backups, 1, 16));
-    stored.book = to_4(&stored.book).unwrap();
+    stored.book = to_3(&stored.book).unwrap();
     let (volume, number, lbn) = (0, 1, 0);
     let read = stored.call(&Call::Read {
         volume,
@@ -190,7 +181,7 @@ fn lists_go_on_after_it() {
         }
         let mut stored = old.stored();
         assert_eq!(faults(2, &stored.book), Ok(vec![]));
-        stored.book = to_4(&stored.book).unwrap();
+        stored.book = to_3(&stored.book).unwrap();
         plain.keep_by(keeping::is_kept);
         for _ in 0..60 {
             let call = calls.next_call();
@@ -327,7 +318,7 @@ fn it_takes_layout_2_alone() {
     assert_eq!(output, vec![7; 400]);
 }
 
-/// Every call but the converters takes layout 4 alone.
+/// Every call but the converters takes layout 3 alone.
 #[test]
 fn no_call_takes_layout_2() {
     let Stored {
@@ -369,7 +360,7 @@ fn from_layout_1_by_way_of_layout_2() {
 /// One LBN with two records in a slot: both befores wait for the same backup.
 #[test]
 fn two_records_of_an_lbn_in_a_slot() {
-    let mut old = layout_2::renumbered(2, &cases::two_records_in_a_slot().book);
+    let mut old = layout_2::renumbered(&cases::two_records_in_a_slot().book);
     let mut view = Book::over(&mut old[..]);
     for pbn in (0..4).map(Pbn) {
         view.edit_entry(pbn, |entry| entry.expiry = 1);
@@ -382,5 +373,5 @@ fn two_records_of_an_lbn_in_a_slot() {
         after: Pbn(0),
     };
     assert_eq!(view.record(0), unmapped);
-    assert_eq!(to_4(&old), Ok(cases::two_records_in_a_slot().book));
+    assert_eq!(to_3(&old), Ok(cases::two_records_in_a_slot().book));
 }

@@ -21,7 +21,6 @@ fn backups(days: &[u16], retention: u16) -> Backups {
         days: days.to_vec(),
         retention,
         retired: None,
-        named: Vec::new(),
     }
 }
 

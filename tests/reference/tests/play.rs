@@ -1,9 +1,7 @@
 //! Lists of calls as bytes: cases a to j, what is no list, and room for the longest answers.
 
 use reference::call::{Call, Stored};
-use reference::cases::{
-    after_d, backup, block, calls_to_d, fingerprint, list_of, name, unname, SIZES,
-};
+use reference::cases::{after_d, backup, block, calls_to_d, fingerprint, list_of, SIZES};
 use reference::layout::{Book, Pbn};
 use reference::plain::Plain;
 use reference::play::{self, answer_bytes, decode, encode, longest_answers};
@@ -45,8 +43,6 @@ fn one_of_each() -> Vec<Call> {
         Call::Audit,
         restore(0, 1, 0, 2),
         Call::Retire { volume: 0, day: 13 },
-        name(0, 1, "pre-surgery"),
-        unname("pre-surgery"),
     ]
 }
 
@@ -141,8 +137,6 @@ fn a_head_byte_for_byte() {
             volume: 0x0F10,
             day: 0x1112,
         },
-        name(0x1314, 0x1516, "ab"),
-        Call::Unname { name: vec![23, 0] },
     ]);
     let heads = [
         [1, 0, 2, 1, 4, 3, 0, 0, 0, 0, 2, 0, 0, 0].to_vec(),
@@ -150,9 +144,6 @@ fn a_head_byte_for_byte() {
         [3, 0, 5, 0, 6, 0, 8, 7, 0, 0, 0, 0, 0, 0].to_vec(),
         [5, 0, 9, 0, 10, 0, 12, 11, 14, 13, 0, 0, 0, 0].to_vec(),
         [6, 0, 16, 15, 18, 17, 0, 0, 0, 0, 0, 0, 0, 0].to_vec(),
-        [7, 0, 20, 19, 22, 21, 0, 0, 0, 0, 12, 0, 0, 0].to_vec(),
-        b"ab\0\0\0\0\0\0\0\0\0\0".to_vec(),
-        [8, 0, 0, 0, 0, 0, 0, 0, 0, 0, 2, 0, 0, 0, 23, 0].to_vec(),
     ];
     assert_eq!(bytes, heads.concat());
 }
@@ -251,41 +242,6 @@ fn the_room_of_restores_does_not_wrap() {
     }
 }
 
-/// The data of a name may have any length: it is the call that refuses it.
-#[test]
-fn names_in_a_list() {
-    let unnamed = |bytes: &[u8]| Call::Unname {
-        name: bytes.to_vec(),
-    };
-    let long = Call::Name {
-        volume: 0,
-        number: 1,
-        name: vec![7; 70_000],
-    };
-    let calls = [
-        name(0, 1, "one"),
-        name(0, 3, "two"),
-        name(1, 1, "one"),
-        long,
-        unnamed(&[]),
-        unnamed(&[0; 12]),
-        unnamed(b"one"),
-        unname("one"),
-        unname("one"),
-        Call::Audit,
-    ];
-    assert_eq!(longest_answers(&calls), 3 * calls.len());
-    let numbers = [0, 15, 23, 23, 23, 23, 23, 0, 23];
-    let mut expected: Vec<u8> = numbers.iter().flat_map(|&n| [0, n, 0]).collect();
-    expected.extend([4, 1, 0]);
-    let bytes = encode(&calls);
-    let mut stored = after_d();
-    assert_eq!(played(&mut stored, &bytes, 30), Ok(expected));
-    assert_eq!(stored.book, after_d().book);
-    let short = played(&mut after_d(), &bytes, 29);
-    assert_eq!(short, Err(Refusal::ShortOutput));
-}
-
 fn is_no_list(bytes: &[u8]) {
     for room in [0, 10_000] {
         let result = played(&mut after_d(), bytes, room);
@@ -320,8 +276,6 @@ fn unused_fields() -> Vec<(usize, Vec<usize>)> {
         vec![2, 4, 6, 8],
         vec![],
         vec![6, 8],
-        vec![6, 8],
-        vec![2, 4, 6, 8],
     ];
     let places = (0..calls.len()).map(|number| encode(&calls[..number]).len());
     places.zip(unused).collect()
@@ -344,7 +298,7 @@ fn what_a_kind_does_not_use_is_zero() {
 
 #[test]
 fn unknown_kinds_are_none() {
-    for kind in 9..=255 {
+    for kind in 7..=255 {
         let mut bytes = encode(&[Call::Audit]);
         bytes[0] = kind;
         is_no_list(&bytes);
@@ -352,14 +306,9 @@ fn unknown_kinds_are_none() {
 }
 
 #[test]
-fn only_backups_and_names_have_data() {
-    let without = |call: &Call| {
-        !matches!(
-            call,
-            Call::Backup { .. } | Call::Name { .. } | Call::Unname { .. }
-        )
-    };
-    for call in one_of_each().into_iter().filter(without) {
+fn only_a_backup_has_data() {
+    let is_backup = |call: &Call| matches!(call, Call::Backup { .. });
+    for call in one_of_each().into_iter().filter(|call| !is_backup(call)) {
         let mut bytes = encode(&[call]);
         bytes[10] = 1;
         is_no_list(&bytes);

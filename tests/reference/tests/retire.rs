@@ -6,9 +6,8 @@ use reference::cases::{after_d, backup, block, SIZES};
 use reference::clinic::Clinic;
 use reference::keeping::{is_kept, kept_until, Backups};
 use reference::layout::{
-    Book, Header, Lbn, Pbn, Record, Sizes, Slot, BACKUP, HELD, LAYOUT, RETIREMENT, UNMAPPED,
+    Book, Header, Lbn, Pbn, Record, Sizes, Slot, BACKUP, HELD, RETIREMENT, UNMAPPED,
 };
-use reference::layout_2::renumbered;
 use reference::refusal::Refusal;
 use reference::store::{self, Run};
 
@@ -193,7 +192,6 @@ fn three(retired: Option<u16>) -> Backups {
         days: vec![5, 8, 20],
         retention: 10,
         retired,
-        named: Vec::new(),
     }
 }
 
@@ -425,21 +423,18 @@ fn the_most_cells() {
 fn form_after(layout: u16, edit: impl FnOnce(&mut Book<&mut [u8]>)) -> Result<(), Refusal> {
     let mut stored = after_d();
     stored.call(&retire(0, 10));
-    let mut book = match layout {
-        LAYOUT => stored.book,
-        _ => renumbered(layout, &stored.book),
-    };
-    edit(&mut Book::over(&mut book[..]));
-    reference::form::check_in(layout, &book).map(|_| ())
+    let mut book = Book::over(&mut stored.book[..]);
+    book.set_header(Header::Layout, layout);
+    edit(&mut book);
+    reference::form::check_in(layout, &stored.book).map(|_| ())
 }
 
 #[test]
 fn the_form_of_retirements() {
     let broken = Err(Refusal::Form);
-    assert_eq!(form_after(4, |_| {}), Ok(()));
     assert_eq!(form_after(3, |_| {}), Ok(()));
     assert_eq!(form_after(2, |_| {}), broken);
-    let kinds = |slot, kind| form_after(4, move |book| book.edit_slot(slot, |s| s.kind = kind));
+    let kinds = |slot, kind| form_after(3, move |book| book.edit_slot(slot, |s| s.kind = kind));
     for kind in [2, 3, 128, 129, 255] {
         assert_eq!(kinds(4, kind), broken);
         assert_eq!(kinds(5, kind), broken);
@@ -454,7 +449,6 @@ fn the_form_of_retirements() {
         for after in afters.map(Pbn) {
             let edit = |book: &mut Book<&mut [u8]>| book.edit_record(record, |r| r.after = after);
             assert_eq!(form_after(3, edit), broken);
-            assert_eq!(form_after(4, edit), broken);
         }
     }
 }
@@ -471,7 +465,7 @@ fn no_slot_of_the_volume_follows() {
         ([1, 1, 0], false),
         ([1, 0, 1], false),
     ] {
-        for layout in 1..=4 {
+        for layout in 1..=3 {
             let mut bytes = vec![0; SIZES.book_bytes_in(layout)];
             reference::layout::format_in(layout, &mut bytes, SIZES);
             let mut book = Book::over(&mut bytes[..]);
@@ -491,7 +485,7 @@ fn no_slot_of_the_volume_follows() {
             }
             let in_form = reference::form::check_in(layout, &bytes).is_ok();
             let expected = match layout {
-                3 | 4 => holds,
+                3 => holds,
                 _ => kinds == [0, 0, 0],
             };
             assert_eq!(in_form, expected, "{kinds:?} in layout {layout}");

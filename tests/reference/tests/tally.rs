@@ -12,7 +12,7 @@ fn longest() -> Vec<u8> {
     let sizes = Sizes {
         blocks: 1_324,
         lbns: 1_000,
-        slots: 983,
+        slots: 999,
         records: 2_284,
     };
     let stored = Stored::new(sizes, Vec::new()).unwrap();
@@ -36,20 +36,20 @@ fn totals_of_the_longest_input() {
 #[test]
 fn references_of_eight_digits() {
     let sizes = Sizes {
-        blocks: 3_111,
+        blocks: 3_117,
         lbns: 1,
         slots: 1,
         records: 1,
     };
     let mut bytes = Stored::new(sizes, Vec::new()).unwrap().book;
     let mut book = Book::over(&mut bytes[..]);
-    for pbn in (0..2_111).map(Pbn) {
+    for pbn in (0..2_117).map(Pbn) {
         book.edit_entry(pbn, |entry| {
             entry.state = HELD;
             entry.count = if pbn.0 < 1_000 { 0 } else { 65_535 };
         });
     }
-    let totals = "blocks 3111\nheld 2111\nfree 1000\nwaiting 1000\nreferences 72809385\n";
+    let totals = "blocks 3117\nheld 2117\nfree 1000\nwaiting 1000\nreferences 73202595\n";
     assert_eq!(totals.len(), 65);
     assert_eq!(page(&bytes), totals.as_bytes());
 }
@@ -80,17 +80,14 @@ fn a_longer_book_is_counted() {
 #[test]
 fn a_broken_layout_is_refused_1() {
     assert_eq!(page(b""), b"refused 1\n");
-    assert_eq!(page(&after_d().book[..407]), b"refused 1\n");
-    let mut older = renumbered(2, &after_d().book);
+    assert_eq!(page(&after_d().book[..279]), b"refused 1\n");
+    let mut older = renumbered(&after_d().book);
     assert_eq!(page(&older), b"refused 1\n");
     let mut oldest = vec![0; 276];
     convert(Way::TwoToOne, &older, &mut oldest).unwrap();
     assert_eq!(page(&oldest), b"refused 1\n");
     convert(Way::TwoToThree, &older.clone(), &mut older).unwrap();
-    assert_eq!(page(&older), b"refused 1\n");
-    let mut book = vec![0; 408];
-    convert(Way::ThreeToFour, &older, &mut book).unwrap();
-    assert!(page(&book).starts_with(b"blocks 4"));
+    assert!(page(&older).starts_with(b"blocks 4"));
 }
 
 #[test]

@@ -36,7 +36,6 @@ fn show(book: &[u8], view: View, output: &mut [u8]) -> Result<Vec<u16>, Refusal>
         View::Backups { volume } => vec![store::backups(book, volume, output)?],
         View::Cells { volume } => store::cells(book, volume, output).map(|()| vec![])?,
         View::Blocks => store::blocks(book, output).map(|()| vec![])?,
-        View::Names => store::names(book, output).map(|()| vec![])?,
     })
 }
 
@@ -203,7 +202,6 @@ fn outputs_short_exact_and_longer() {
         (View::Backups { volume: 1 }, 16),
         (View::Cells { volume: 1 }, 8),
         (View::Blocks, 88),
-        (View::Names, 128),
     ] {
         assert_eq!(view.output_bytes(book), bytes);
         let rows = shown(book, view).unwrap().1;
@@ -234,7 +232,7 @@ fn checks_in_order() {
             let number = match view {
                 View::Sizes | View::Used if from > 2 => continue,
                 View::Volume { .. } if from > 5 => continue,
-                View::Blocks | View::Names if from == 5 => 20,
+                View::Blocks if from == 5 => 20,
                 _ => from,
             };
             let refused = show(&book, view, &mut [7; 3]);

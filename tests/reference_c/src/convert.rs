@@ -41,15 +41,3 @@ pub unsafe extern "C" fn reference_convert_2_3(
     let out = from_raw_parts_mut(out, out_len);
     number(convert(Way::TwoToThree, book, out), |()| {})
 }
-
-#[no_mangle]
-pub unsafe extern "C" fn reference_convert_3_4(
-    book: *const u8,
-    book_len: usize,
-    out: *mut u8,
-    out_len: usize,
-) -> u16 {
-    let book = from_raw_parts(book, book_len);
-    let out = from_raw_parts_mut(out, out_len);
-    number(convert(Way::ThreeToFour, book, out), |()| {})
-}

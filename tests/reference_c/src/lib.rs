@@ -9,13 +9,11 @@ mod convert;
 mod make;
 mod views;
 
-pub use convert::{
-    reference_convert_1_2, reference_convert_2_1, reference_convert_2_3, reference_convert_3_4,
-};
+pub use convert::{reference_convert_1_2, reference_convert_2_1, reference_convert_2_3};
 pub use make::{reference_make, Made};
 pub use views::{
-    reference_backups, reference_blocks, reference_cells, reference_names, reference_sizes,
-    reference_used, reference_volume,
+    reference_backups, reference_blocks, reference_cells, reference_sizes, reference_used,
+    reference_volume,
 };
 
 use std::slice::{from_raw_parts, from_raw_parts_mut};
@@ -111,41 +109,6 @@ pub unsafe extern "C" fn reference_retire(
     let spare = from_raw_parts_mut(spare, spare_len);
     let result = store::retire(book, spare, volume, day);
     number(result, |answer| *cells = answer)
-}
-
-#[no_mangle]
-pub unsafe extern "C" fn reference_name(
-    book: *mut u8,
-    book_len: usize,
-    spare: *mut u8,
-    spare_len: usize,
-    volume: u16,
-    backup_number: u16,
-    name: *const u8,
-    name_len: usize,
-) -> u16 {
-    let book = from_raw_parts_mut(book, book_len);
-    let spare = from_raw_parts_mut(spare, spare_len);
-    let name = from_raw_parts(name, name_len);
-    number(
-        store::name(book, spare, volume, backup_number, name),
-        |()| {},
-    )
-}
-
-#[no_mangle]
-pub unsafe extern "C" fn reference_unname(
-    book: *mut u8,
-    book_len: usize,
-    spare: *mut u8,
-    spare_len: usize,
-    name: *const u8,
-    name_len: usize,
-) -> u16 {
-    let book = from_raw_parts_mut(book, book_len);
-    let spare = from_raw_parts_mut(spare, spare_len);
-    let name = from_raw_parts(name, name_len);
-    number(store::unname(book, spare, name), |()| {})
 }
 
 #[no_mangle]

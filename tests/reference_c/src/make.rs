@@ -23,18 +23,14 @@ const SHAPES: [Shape; 6] = [
 const SEEDS: u16 = 16;
 const CALLS: [usize; 3] = [20, 60, 120];
 
-/// The letters of the calls that a box is made for.
-const KINDS: &[u8; 8] = b"ebcrstnu";
-
 /// Shape, seed and calls of a run, each as an index.
 type Key = (usize, u64, usize);
 
 struct Kept {
     stored: Stored,
-    /// The numbers of the next enrol, backup, collect, read, restore, retire, name and unname.
-    numbers: [[u16; 4]; KINDS.len()],
-    /// The list of a backup and the names of the last two.
-    data: [Vec<u8>; KINDS.len()],
+    list: Vec<u8>,
+    /// The numbers of the next enrol, backup, collect, read, restore and retire.
+    numbers: [[u16; 4]; 6],
 }
 
 /// What `reference_make` made; the pointers are good until it is called again.
@@ -44,7 +40,6 @@ pub struct Made {
     book_len: usize,
     pool: *const u8,
     pool_len: usize,
-    /// The next backup's list, or, for name and unname, the name.
     list: *const u8,
     list_len: usize,
     /// The call's numbers, in the order of its arguments.
@@ -63,8 +58,7 @@ thread_local! {
 }
 
 /// Makes the box of a run, and disturbs its book so many times. `call` is one of the letters e, b, c,
-/// r, s, t, n and u, for enrol, backup, collect, read, restore, retire, name and unname; others send no
-/// numbers.
+/// r, s and t, for enrol, backup, collect, read, restore and retire; others send no numbers.
 #[no_mangle]
 pub extern "C" fn reference_make(shape: u8, seed: u16, calls: u8, disturbed: u8, call: u8) -> Made {
     let key = (
@@ -76,19 +70,14 @@ pub extern "C" fn reference_make(shape: u8, seed: u16, calls: u8, disturbed: u8,
         let kept = maker.kept.entry(key).or_insert_with(|| run(key));
         maker.book.clone_from(&kept.stored.book);
         disturb_often(&mut maker.book, seed, disturbed);
-        let kind = KINDS.iter().position(|letter| *letter == call);
-        let data = match call {
-            b'n' => &kept.data[6],
-            b'u' => &kept.data[7],
-            _ => &kept.data[1],
-        };
+        let kind = b"ebcrst".iter().position(|letter| *letter == call);
         Made {
             book: maker.book.as_ptr(),
             book_len: maker.book.len(),
             pool: kept.stored.pool.as_ptr(),
             pool_len: kept.stored.pool.len(),
-            list: data.as_ptr(),
-            list_len: data.len(),
+            list: kept.list.as_ptr(),
+            list_len: kept.list.len(),
             number: kind.map_or([0; 4], |kind| kept.numbers[kind]),
         }
     })
@@ -98,8 +87,8 @@ fn run((shape, seed, calls): Key) -> Kept {
     let mut run = RandomCalls::shaped(SHAPES[shape], seed);
     let mut kept = Kept {
         stored: run.run(CALLS[calls]),
-        numbers: Default::default(),
-        data: Default::default(),
+        list: Vec::new(),
+        numbers: [[0; 4]; 6],
     };
     let Run {
         volume,
@@ -108,38 +97,27 @@ fn run((shape, seed, calls): Key) -> Kept {
         length,
     } = run.restore(&mut Prng::seeded(seed));
     kept.numbers[4] = [volume, number, first, length];
-    let mut missing = vec![0, 1, 2, 3, 5, 6, 7];
+    let mut missing = vec![0, 1, 2, 3, 5];
     while !missing.is_empty() {
-        let Some((kind, numbers, data)) = next(run.next_call()) else {
-            continue;
+        let (kind, numbers) = match run.next_call() {
+            Call::Enrol { volume, retention } => (0, [volume, retention, 0, 0]),
+            Call::Backup { volume, day, list } => {
+                kept.list = list;
+                (1, [volume, day, 0, 0])
+            }
+            Call::Collect { day } => (2, [day, 0, 0, 0]),
+            Call::Read {
+                volume,
+                number,
+                lbn,
+            } => (3, [volume, number, lbn, 0]),
+            Call::Retire { volume, day } => (5, [volume, day, 0, 0]),
+            Call::Restore(_) | Call::Audit => continue,
         };
         kept.numbers[kind] = numbers;
-        kept.data[kind] = data;
         missing.retain(|other| *other != kind);
     }
     kept
-}
-
-/// Kind, numbers and data of a call.
-fn next(call: Call) -> Option<(usize, [u16; 4], Vec<u8>)> {
-    Some(match call {
-        Call::Enrol { volume, retention } => (0, [volume, retention, 0, 0], Vec::new()),
-        Call::Backup { volume, day, list } => (1, [volume, day, 0, 0], list),
-        Call::Collect { day } => (2, [day, 0, 0, 0], Vec::new()),
-        Call::Read {
-            volume,
-            number,
-            lbn,
-        } => (3, [volume, number, lbn, 0], Vec::new()),
-        Call::Retire { volume, day } => (5, [volume, day, 0, 0], Vec::new()),
-        Call::Name {
-            volume,
-            number,
-            name,
-        } => (6, [volume, number, 0, 0], name),
-        Call::Unname { name } => (7, [0; 4], name),
-        Call::Restore(_) | Call::Audit => return None,
-    })
 }
 
 fn disturb_often(book: &mut [u8], seed: u16, times: u8) {
@@ -150,43 +128,5 @@ fn disturb_often(book: &mut [u8], seed: u16, times: u8) {
             return;
         }
         disturb(&mut prng, book);
-    }
-}
-
-#[cfg(test)]
-mod tests {
-    use super::*;
-    use reference::change_list::{list_bytes, RUN_MAX};
-    use reference::refusal::Refusal;
-    use reference::store::backup;
-
-    fn longest_run(list: &[u8]) -> u16 {
-        let field = |at| u16::from_le_bytes([list[at], list[at + 1]]);
-        let runs = (0..field(0).into()).map(|pair| field(list_bytes(pair, 0) + 2));
-        runs.max().unwrap_or(0)
-    }
-
-    /// The longest run of the box's next backup, and what becomes of that.
-    fn sent(kept: Kept) -> (u16, Result<(), Refusal>) {
-        let (mut stored, list) = (kept.stored, &kept.data[1]);
-        let [volume, day, ..] = kept.numbers[1];
-        let (book, pool, spare) = (&mut stored.book, &mut stored.pool, &mut stored.spare);
-        let answer = backup(book, pool, spare, volume, day, list);
-        (longest_run(list), answer.map(|_| ()))
-    }
-
-    /// The fuzzer starts from all boxes of this shape, and has to see both.
-    #[test]
-    fn a_run_of_64_blocks_is_taken_and_a_longer_one_refused() {
-        let shape = SHAPES.len() - 1;
-        let boxes =
-            (0..CALLS.len()).flat_map(|calls| (0..u64::from(SEEDS)).map(move |seed| (seed, calls)));
-        let sent: Vec<_> = boxes
-            .map(|(seed, calls)| sent(run((shape, seed, calls))))
-            .collect();
-        assert!(sent.contains(&(RUN_MAX, Ok(()))));
-        assert!(sent
-            .iter()
-            .any(|(longest, answer)| *longest > RUN_MAX && *answer == Err(Refusal::List)));
     }
 }

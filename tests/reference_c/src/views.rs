@@ -95,15 +95,3 @@ pub unsafe extern "C" fn reference_blocks(
     let out = from_raw_parts_mut(out, out_len);
     number(store::blocks(book, out), |()| {})
 }
-
-#[no_mangle]
-pub unsafe extern "C" fn reference_names(
-    book: *const u8,
-    book_len: usize,
-    out: *mut u8,
-    out_len: usize,
-) -> u16 {
-    let book = from_raw_parts(book, book_len);
-    let out = from_raw_parts_mut(out, out_len);
-    number(store::names(book, out), |()| {})
-}

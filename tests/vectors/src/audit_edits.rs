@@ -4,9 +4,9 @@ use reference::cases::{fingerprint, two_records_in_a_slot};
 use reference::layout::{Book, Entry, Header, Lbn, Pbn, HELD, UNMAPPED};
 use reference::store::Fault;
 
+use crate::retired;
 use crate::vector::Meant::Totals;
 use crate::vector::{Edit, EditedBook, Vector};
-use crate::{named, retired};
 
 /// An edit with the faults that it makes.
 pub type Faulty = (Edit, &'static [Fault]);
@@ -18,7 +18,6 @@ pub fn edits() -> Vec<Faulty> {
     edits.extend(fingerprints());
     edits.extend(freed());
     edits.extend(retired::faults());
-    edits.extend(named::faults());
     edits
 }
 

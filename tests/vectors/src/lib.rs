@@ -5,7 +5,6 @@ mod audit_edits;
 mod form_edits;
 mod form_slots;
 mod layout_edits;
-mod named;
 mod retired;
 mod runs;
 pub mod seeds;
@@ -20,7 +19,6 @@ pub fn edits() -> Vec<Edit> {
     edits.extend(form_edits::edits());
     edits.extend(form_slots::edits());
     edits.extend(retired::edits());
-    edits.extend(named::edits());
     edits.extend(audit_edits::edits().into_iter().map(|(edit, _)| edit));
     edits
 }

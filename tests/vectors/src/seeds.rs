@@ -2,10 +2,9 @@
 
 use reference::call::Call;
 use reference::cases;
-use reference::layout::{Book, Pbn, FINGERPRINT_BYTES, NAME_BYTES};
+use reference::layout::{Book, Pbn, FINGERPRINT_BYTES};
 use reference::play::encode;
-use reference::random_names;
-use reference::store::{self, Run};
+use reference::store::Run;
 
 /// Longer books make slow inputs.
 const BOOK_MAX: usize = 2_048;
@@ -57,11 +56,10 @@ pub fn all() -> Vec<(String, Vec<u8>)> {
             seeds.push((name, control(calls, shape, seed, disturbed, [0; 4])));
         }
     }
-    // All the boxes of that shape: the next backup of one of them has a run of 64 blocks and is taken,
-    // as a test of `reference_make` says, so this doesn't hang on what a fuzzer makes of the seeds.
-    for (calls, seed) in (0..3).flat_map(|calls| (0..16).map(move |seed| (calls, seed))) {
-        let input = control(3 + calls, PIECES, seed, 0, [0; 4]);
-        seeds.push((format!("pieces-{calls}-{seed}"), input));
+    // Among their next backups are some with a run of 64 blocks, and some with a longer one.
+    for seed in 0..16 {
+        let input = control(1, PIECES, seed, 0, [0; 4]);
+        seeds.push((format!("pieces-{seed}"), input));
     }
     for length in [63, 64, 65, 66, 128, 129] {
         seeds.push((
@@ -73,7 +71,6 @@ pub fn all() -> Vec<(String, Vec<u8>)> {
     seeds.extend(lists());
     seeds.extend(outputs());
     seeds.extend(alike());
-    seeds.extend(names());
     seeds
 }
 
@@ -93,7 +90,7 @@ fn lists() -> Vec<(String, Vec<u8>)> {
 /// Outputs of the converters, a byte short and a byte longer.
 fn outputs() -> Vec<(String, Vec<u8>)> {
     let mut seeds = Vec::new();
-    for asked in 0..3 {
+    for asked in 0..2 {
         for longer in [-1, 1] {
             let name = format!("output-{asked}-{longer}");
             seeds.push((name, output(asked, longer)));
@@ -123,53 +120,6 @@ fn alike() -> Vec<(String, Vec<u8>)> {
         seeds.push((format!("alike-{place}"), given(&book, [0, 10, 0, 0])));
     }
     seeds
-}
-
-/// Books with so many names for the first backup of volume 0, with what is to be given or dropped: the
-/// first of them, another one, and none.
-fn names() -> Vec<(String, Vec<u8>)> {
-    let mut seeds = Vec::new();
-    for many in [0, 1, 8] {
-        for (text, name) in [
-            ("first", random_names::of_family(0)),
-            ("other", random_names::of_family(9)),
-            ("zeros", [0; NAME_BYTES]),
-        ] {
-            let book = named(many);
-            seeds.push((format!("names-{many}-{text}"), given_name(&book, name)));
-        }
-    }
-    seeds.extend([
-        ("names-full".into(), with_count(0, 65_535)),
-        ("names-zero".into(), with_count(1, 0)),
-    ]);
-    seeds
-}
-
-/// The book after case d with the first so many of the family as names.
-fn named(many: u8) -> Vec<u8> {
-    let mut book = cases::after_d().book;
-    let mut spare = book.clone();
-    for index in 0..many {
-        let name = random_names::of_family(index);
-        store::name(&mut book, &mut spare, 0, 1, &name).expect("a name");
-    }
-    book
-}
-
-/// The same, with this count for a block of the named backup.
-fn with_count(many: u8, count: u16) -> Vec<u8> {
-    let mut book = named(many);
-    Book::over(&mut book[..]).edit_entry(Pbn(1), |entry| entry.count = count);
-    given_name(&book, random_names::of_family(0))
-}
-
-/// A book as it is, and a name for the first backup of volume 0.
-fn given_name(book: &[u8], name: [u8; NAME_BYTES]) -> Vec<u8> {
-    let mut input = control(0, 0, 0, 0, [0, 1, 0, 0]);
-    input.extend(book);
-    input.extend(name);
-    input
 }
 
 /// A list of calls with every kind of answer: the cases to g on a fresh book, or calls that boxes of
@@ -206,9 +156,6 @@ fn list(fresh: bool) -> Vec<u8> {
         read(1),
         Call::Retire { volume: 1, day },
         Call::Retire { volume: 1, day },
-        cases::name(0, 2, "pre-surgery"),
-        cases::name(0, 2, "pre-surgery"),
-        cases::unname("pre-surgery"),
         Call::Audit,
     ]);
     encode(&calls)

@@ -21,9 +21,9 @@ const fn sizes(blocks: u16, lbns: u16, slots: u16, records: u16) -> Sizes {
 const SMALLEST: Sizes = sizes(1, 1, 1, 1);
 const LARGEST: Sizes = sizes(4_096, 1_024, 1_024, 16_384);
 /// Books of 65,535, 65,536 and 65,537 bytes.
-const UNDER: Sizes = sizes(1_325, 1_000, 984, 2_279);
-const LONGEST: Sizes = sizes(1_324, 1_000, 983, 2_284);
-const OVER: Sizes = sizes(1_325, 1_000, 985, 2_278);
+const UNDER: Sizes = sizes(1_325, 1_000, 1_000, 2_279);
+const LONGEST: Sizes = sizes(1_324, 1_000, 999, 2_284);
+const OVER: Sizes = sizes(1_325, 1_000, 1_001, 2_278);
 /// The last block at the last LBN of the largest book, in the place of itself.
 const LAST: Record = Record {
     lbn: Lbn(1_023),
@@ -31,7 +31,7 @@ const LAST: Record = Record {
     after: Pbn(4_095),
 };
 /// As many blocks as a book of at most 65,536 bytes has room for.
-const MOST_BLOCKS: Sizes = sizes(3_111, 1, 1, 1);
+const MOST_BLOCKS: Sizes = sizes(3_117, 1, 1, 1);
 
 pub fn vectors() -> Vec<Vector> {
     let mut vectors = books();
@@ -127,7 +127,7 @@ fn largest_used(kind: u8, last: Record) -> Vec<u8> {
 }
 
 fn books() -> Vec<Vector> {
-    assert_eq!(SMALLEST.book_bytes(), 215);
+    assert_eq!(SMALLEST.book_bytes(), 87);
     assert_eq!(UNDER.book_bytes(), INPUT_MAX - 1);
     assert_eq!(LONGEST.book_bytes(), INPUT_MAX);
     let mut last_wrong = book_of(LONGEST);
@@ -145,7 +145,7 @@ fn books() -> Vec<Vector> {
         Vector::new("most-waiting", all_held(MOST_BLOCKS, 0), Totals),
         Vector::new("most-lbns", book_of(sizes(2, 1_024, 1, 1)), Totals),
         Vector::new("most-slots", book_of(sizes(2, 1, 1_024, 1)), Totals),
-        Vector::new("many-records", book_of(sizes(2, 1, 1, 10_870)), Totals),
+        Vector::new("many-records", book_of(sizes(2, 1, 1, 10_900)), Totals),
     ]
 }
 
@@ -164,7 +164,7 @@ fn long_inputs() -> Vec<Vector> {
         ),
         Vector::new("bytes-65537", book_of(OVER), Refused1),
         Vector::new("bytes-131072", padded(book_of(LONGEST), 131_072), Refused1),
-        Vector::new("bytes-65944", padded(after_d, 65_536 + 408), Refused1),
+        Vector::new("bytes-65816", padded(after_d, 65_536 + 280), Refused1),
     ]
 }
 
@@ -224,7 +224,7 @@ fn long_retired() -> Vec<(&'static str, Vec<u8>, Result<(), Refusal>)> {
 fn inputs_of_one_byte() -> Vec<Vector> {
     let mut vectors = Vec::new();
     for byte in [0, 1, 255] {
-        for length in [215, 408, INPUT_MAX] {
+        for length in [87, 280, INPUT_MAX] {
             let name = format!("only-{byte}-{length}");
             vectors.push(Vector::new(name, vec![byte; length], Refused1));
         }

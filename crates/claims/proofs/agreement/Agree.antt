@@ -7,11 +7,11 @@ use lib.ListN.{length, get_or, set}
 use lib.Dec.{leb, eqb}
 use Rattle.words.specs.Choice.{if◌then◌else◌}
 use Rattle.words.specs.Lists.{some_of, count_of, joined}
-use Rattle.book.specs.Book.{Name, Book, entry_at, is_used, retention_of, Sized}
+use Rattle.book.specs.Book.{Book, entry_at, retention_of, Sized}
 use Rattle.book.specs.Form.{sizes_ok, book_ok}
 use Rattle.model.specs.Pool.{pool_size}
 use Rattle.model.specs.Journal.{Backup, journal}
-use Rattle.model.specs.Audit.{applied, replayed, no_maps, counted_maps, has_before, due_of, until_in, prints_sound}
+use Rattle.model.specs.Audit.{applied, replayed, no_maps, has_before, due_of, until_in, prints_sound}
 use Rattle.model.specs.Plain.{image, retirement, Taken, Plain}
 use Rattle.model.specs.Sides.{blocks_in}
 use Rattle.claims.proofs.kept.Sound.{SoundAll, Days, AllRise, EmptiedAll}
@@ -49,7 +49,11 @@ images_of m (b ∷ bs) =
     record { volume = b.volume; day = b.day; what = image (applied m b.records); changes = length b.records }
     ∷ images_of (applied m b.records) bs
 
--- how many cells of the maps and of the named ones name block p
+-- the maps whose cells the counts count
+abbrev pub counted_maps : Book → List (List ℕ)
+counted_maps x = x.maps
+
+-- how many of their cells name block p
 unfoldable pub named : Book → ℕ → ℕ
 named x p = count_of (eqb p) (joined (counted_maps x))
 
@@ -67,8 +71,6 @@ pub record Agree (x : Book) (pool : List ℕ) (q : Plain) : Type 0 where
   pub blocks : q.blocks ≡ blocks_in x.entries pool
   pub retentions : q.retentions ≡ x.retentions
   pub taken : q.taken ≡ taken_from (no_maps x) (journal x)
-  -- the same names, in whatever order: the cells of the book may have gaps
-  pub called : (f : Name → Bool) → count_of f q.called ≡ count_of (λ n. is_used n && f n) x.names
   -- the journal
   pub maps : x.maps ≡ replayed (no_maps x) (journal x)
   pub sound : SoundAll (no_maps x) (journal x)

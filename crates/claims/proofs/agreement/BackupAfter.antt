@@ -1,9 +1,8 @@
 -- Both sides agree again after a backup whose changes were all made, the book after being in form.
 use Prim.Native.Nat.{ℕ, suc, ◌+◌, ◌≤◌, ◌<◌}
 use mathlib.Core.Path.{◌≡◌, refl, sym, ap, ap₂, ◌∙◌}
-use mathlib.Core.Bool.{true, false, ◌&&◌}
+use mathlib.Core.Bool.{true, false}
 use mathlib.Core.List.{List, [], ◌∷◌, ◌++◌, map}
-use native.Mathlib.Nat.{le_trans}
 use native.Mathlib.Omega.{arith}
 use lib.Dec.{eqb, leb-zero}
 use lib.ListN.{length, get_or, set, replicate, length-map}
@@ -13,11 +12,11 @@ use Rattle.words.proofs.ChoiceLaws.{and_false, or_no, not_both}
 use Rattle.words.specs.Lists.{joined, count_of}
 use Rattle.runs.specs.Changes.{Change, change_count, changes}
 use Rattle.runs.proofs.Laws.{length-changes, changes-rise}
-use Rattle.book.specs.Book.{volumes, Sizes, Slot, Rec, Name, Book, entry_at, is_used, retention_of}
+use Rattle.book.specs.Book.{volumes, Sizes, Slot, Rec, Book, entry_at, retention_of}
 use Rattle.book.specs.Next.{with_day, with_slot}
 use Rattle.book.proofs.Clauses.{book-parts}
 use Rattle.model.specs.Journal.{Backup, journal_of, journal, slots_of, days}
-use Rattle.model.specs.Audit.{applied, replayed, no_maps, named_maps, counted_maps, has_before, due_of, until_in, prints_sound}
+use Rattle.model.specs.Audit.{applied, replayed, no_maps, has_before, due_of, until_in, prints_sound}
 use Rattle.model.specs.Backup.{Work, until_next, closed}
 use Rattle.model.specs.Plain
 use Rattle.model.specs.Plain.{image, Taken, Plain, with_blocks, with_taken}
@@ -29,9 +28,6 @@ use Rattle.claims.proofs.kept.JournalLaws.{added, journal_append, replayed_appen
 use Rattle.claims.proofs.kept.JournalLaws.{all_rise_append, until_in_append, until_in-book, reaches_append}
 use Rattle.claims.proofs.kept.Replays.{taken_from_append, last-day}
 use Rattle.claims.proofs.kept.Reaches.{reached-earlier}
-use Rattle.claims.proofs.kept.ImageStays.{image-stays}
-use Rattle.claims.proofs.kept.NamedMaps.{counted-set}
-use Rattle.claims.proofs.kept.NamesThere.{count-slots, named-same}
 use Rattle.claims.proofs.form.BackupAllowed.{Allowed}
 use Rattle.claims.proofs.agreement.Level.{Level, names_in}
 use Rattle.claims.proofs.agreement.Trail.{Trail}
@@ -140,22 +136,9 @@ module _ {x : Book} {pool : List ℕ} {q : Plain} (g : Agree x pool q) (v t : �
   unfolding closed with_day with_slot
   entries-after = refl
 
-  names-new : y.names ≡ x.names
-  unfolding closed with_day with_slot
-  names-new = a.names
-
-  named-stays : named_maps y ≡ named_maps x
-  unfolding closed with_day with_slot
-  named-stays =
-      named-same x y g.fit.sized (book-parts x g.fit.form) names-new (ap (λ (s : Sizes). s.l) a.sizes)
-      (λ u k l h i. image-stays x y b journal-after (maps-new ∙ ap (λ (n : List ℕ). set x.maps v n) r.copy)
-      r.sound (rw g.fit.sized.maps inside) u k l (le_trans i (count-slots x u)))
-
-  named-after : (p : ℕ) → named y p ≡ names_in (counted_maps x) v u.copy p
+  named-after : (p : ℕ) → named y p ≡ names_in x.maps v u.copy p
   unfolding named
-  named-after p =
-      ap (λ (ms : List (List ℕ)). count_of (eqb p) (joined ms))
-      (ap₂ (λ (ms ns : List (List ℕ)). ms ++ ns) maps-new named-stays ∙ sym (counted-set x v u.copy (rw g.fit.sized.maps inside)))
+  named-after p = ap (λ (ms : List (List ℕ)). count_of (eqb p) (joined ms)) maps-new
 
   retained : y.retentions ≡ x.retentions
   unfolding closed with_day with_slot
@@ -207,7 +190,6 @@ module _ {x : Book} {pool : List ℕ} {q : Plain} (g : Agree x pool q) (v t : �
         blocks = a.alike.blocks;
         retentions = g.retentions ∙ sym a.retentions;
         taken = taken-after;
-        called = λ f. g.called f ∙ ap (λ (ns : List Name). count_of (λ n. is_used n && f n) ns) (sym names-new);
         maps = maps_after;
         sound = sound-after;
         days = days-after;

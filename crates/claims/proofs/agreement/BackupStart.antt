@@ -18,11 +18,9 @@ use Rattle.runs.specs.Changes.{Change}
 use Rattle.book.specs.Book.{volumes, Book}
 use Rattle.book.specs.Form.{pbn_ok}
 use Rattle.book.proofs.Clauses.{book-parts}
-use Rattle.model.specs.Audit.{counted_maps}
 use Rattle.model.specs.Backup.{begun, run_changes}
 use Rattle.model.specs.Plain.{Plain, current_of}
 use Rattle.model.specs.PlainBackup
-use Rattle.claims.proofs.kept.NamedMaps.{counted_same}
 use Rattle.claims.proofs.kept.Sound.{Sound}
 use Rattle.claims.proofs.agreement.Agree.{Agree, named}
 use Rattle.claims.proofs.agreement.AgreeLaws.{current-agree}
@@ -38,11 +36,9 @@ module _ {x : Book} {pool : List ℕ} {q : Plain} (g : Agree x pool q) (v : ℕ)
   maps-start : set x.maps v (current_of q v) ≡ x.maps
   maps-start = ap (λ (m : List ℕ). set x.maps v m) copy_start ∙ set-get_or x.maps v []
 
-  names-start : (p : ℕ) → names_in (counted_maps x) v (current_of q v) p ≡ named x p
+  names-start : (p : ℕ) → names_in x.maps v (current_of q v) p ≡ named x p
   unfolding named
-  names-start p =
-      ap (λ (ms : List (List ℕ)). count_of (eqb p) (joined ms))
-      (ap (λ (m : List ℕ). set (counted_maps x) v m) copy_start ∙ counted_same x v (rw g.fit.sized.maps h))
+  names-start p = ap (λ (ms : List (List ℕ)). count_of (eqb p) (joined ms)) maps-start
 
   -- a cell that is mapped names a block of the pool
   cells-start : (i : ℕ) → get_or (get_or x.maps v []) i unmapped ≢ unmapped → get_or (get_or x.maps v []) i unmapped < x.sizes.n
@@ -77,7 +73,6 @@ module _ {x : Book} {pool : List ℕ} {q : Plain} (g : Agree x pool q) (v : ℕ)
     sizes = refl;
     retentions = refl;
     slots = refl;
-    names = refl;
     maps = sym maps-start;
     width = ap length copy_start ∙ g.fit.sized.cells v h;
     counts = λ p k. g.counts p k ∙ sym (names-start p);

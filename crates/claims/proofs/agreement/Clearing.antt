@@ -21,7 +21,7 @@ use Rattle.words.specs.Outcome.{accepted}
 use Rattle.book.specs.Book.{Entry, Rec, Book, entry_at, cell_at, volumes, Sized}
 use Rattle.book.specs.Form.{after_ok}
 use Rattle.book.specs.Next.{cells_with, with_entries, with_maps, with_record, count_as, expiry_as}
-use Rattle.model.specs.Audit.{applied, counted_maps, has_before, prints_sound}
+use Rattle.model.specs.Audit.{applied, has_before, prints_sound}
 use Rattle.model.specs.Backup.{lowered, lower}
 use Rattle.model.specs.Retire.{mapped_cells, clear_number, cleared, clear_cell, clear_cells}
 use Rattle.model.specs.Sides.{blocks_in}
@@ -34,7 +34,6 @@ use Rattle.book.specs.FormFacts.{BookParts}
 use Rattle.book.proofs.Conditions.{cell_in}
 use native.Mathlib.Nat.{zero-add}
 use Rattle.claims.proofs.agreement.Trail.{later}
-use Rattle.claims.proofs.kept.NamedMaps.{counted-inside, counted_same}
 
 abbrev pub is_mapped : ℕ → Bool
 is_mapped p = not (eqb p unmapped)
@@ -52,7 +51,6 @@ pub record Cleared (x : Book) (v until k : ℕ) (y : Book) : Type 0 where
   pub cursor : y.cursor ≡ x.cursor
   pub retentions : y.retentions ≡ x.retentions
   pub slots : y.slots ≡ x.slots
-  pub called : y.names ≡ x.names
   pub maps : y.maps ≡ set x.maps v row
   pub width : length row ≡ x.sizes.l
   pub empty : (l : ℕ) → l < k → get_or row l unmapped ≡ unmapped
@@ -67,8 +65,8 @@ pub record Cleared (x : Book) (v until k : ℕ) (y : Book) : Type 0 where
   pub many : length new + count_of is_mapped row ≡ mapped_cells x v
   -- the entries
   pub entries : length y.entries ≡ x.sizes.n
-  pub counts : (q : ℕ) → q < x.sizes.n → (entry_at y.entries q).count ≡ names_in (counted_maps x) v row q
-  pub names : (q : ℕ) → q < x.sizes.n → names_in (counted_maps x) v row q + took_away q new ≡ named x q
+  pub counts : (q : ℕ) → q < x.sizes.n → (entry_at y.entries q).count ≡ names_in x.maps v row q
+  pub names : (q : ℕ) → q < x.sizes.n → names_in x.maps v row q + took_away q new ≡ named x q
   pub expiries : (q : ℕ) → q < x.sizes.n
       → (entry_at y.entries q).expiry ≡ max (entry_at x.entries q).expiry (if has_before q new then until else 0)
   pub held : (q : ℕ) → (entry_at y.entries q).held ≡ (entry_at x.entries q).held
@@ -109,7 +107,6 @@ module _ (x : Book) (v until : ℕ) (inside : v < length x.maps) (small : x.size
       cursor = c.cursor;
       retentions = c.retentions;
       slots = c.slots;
-      called = c.called;
       maps = c.maps;
       width = c.width;
       empty = empty-more k c.row e c.empty;
@@ -147,9 +144,9 @@ module _ (x : Book) (v until : ℕ) (inside : v < length x.maps) (small : x.size
 
       -- the cells without this one
       out : (q : ℕ) → q < x.sizes.n
-          → names_in (counted_maps x) v (set c.row k unmapped) q + bit (eqb q before) ≡ names_in (counted_maps x) v c.row q
+          → names_in x.maps v (set c.row k unmapped) q + bit (eqb q before) ≡ names_in x.maps v c.row q
       out q h =
-          names-set (counted_maps x) v c.row k unmapped q (counted-inside x v inside) (omega (arith, c.width))
+          names-set x.maps v c.row k unmapped q inside (omega (arith, c.width))
           ∙ rw (ne_eqb q unmapped (λ (z : q ≡ unmapped). omega arith)) (omega arith)
 
       -- the block has a count: this cell names it
@@ -161,7 +158,7 @@ module _ (x : Book) (v until : ℕ) (inside : v < length x.maps) (small : x.size
       abbrev next : Book
       next = cleared v until k before y
 
-      counts-next : (q : ℕ) → q < x.sizes.n → (entry_at (lower until before es) q).count ≡ names_in (counted_maps x) v (set c.row k unmapped) q
+      counts-next : (q : ℕ) → q < x.sizes.n → (entry_at (lower until before es) q).count ≡ names_in x.maps v (set c.row k unmapped) q
       counts-next q h =
           lower-count until before 0 es q (omega arith) in_entries ∙ omega (arith, c.counts q h, out q h)
 
@@ -242,7 +239,6 @@ module _ (x : Book) (v until : ℕ) (inside : v < length x.maps) (small : x.size
         cursor = c.cursor;
         retentions = c.retentions;
         slots = c.slots;
-        called = c.called;
         maps = maps-next;
         width = length-set c.row k unmapped ∙ c.width;
         empty = empty-next;
@@ -289,8 +285,8 @@ module _ (x : Book) (v until : ℕ) (inside : v < length x.maps) (small : x.size
   unfolding named mapped_cells Sound Rising
   clear-start s p own counts prints =
       let row = get_or x.maps v [] in
-      let same : (q : ℕ) → names_in (counted_maps x) v row q ≡ count_of (eqb q) (joined (counted_maps x)) =
-      λ q. ap (λ (ms : List (List ℕ)). count_of (eqb q) (joined ms)) (counted_same x v inside) in
+      let same : (q : ℕ) → names_in x.maps v row q ≡ count_of (eqb q) (joined x.maps) =
+      λ q. ap (λ (ms : List (List ℕ)). count_of (eqb q) (joined ms)) (set-get_or x.maps v []) in
       record {
         new = [];
         row = row;
@@ -298,7 +294,6 @@ module _ (x : Book) (v until : ℕ) (inside : v < length x.maps) (small : x.size
         cursor = refl;
         retentions = refl;
         slots = refl;
-        called = refl;
         maps = sym (set-get_or x.maps v []);
         width = s.cells v own;
         empty = λ l h. absurd (omega arith);

@@ -12,9 +12,8 @@ use Rattle.words.proofs.ChoiceLaws.{and_true, not_both}
 use Rattle.words.proofs.Places.{get_d_map}
 use Rattle.book.specs.Book.{Book, Entry, free_entry, entry_at, is_free}
 use Rattle.book.specs.Next.{with_day, with_entries}
-use Rattle.model.specs.Journal.{journal, slots_of}
-use Rattle.model.specs.Read.{image, image_of}
-use Rattle.model.specs.Audit.{no_maps, named_maps, until_in, prints_sound}
+use Rattle.model.specs.Journal.{journal}
+use Rattle.model.specs.Audit.{no_maps, until_in, prints_sound}
 use Rattle.model.specs.Collect.{collect_number, is_over, swept_entry, collected}
 use Rattle.claims.proofs.claims.CollectLaws.{collect-days, over-was-held}
 use Rattle.model.specs.Plain
@@ -87,8 +86,7 @@ module _ {x : Book} {pool : List ℕ} {q : Plain} (g : Agree x pool q) where
 
   pub collect-agree : (t : ℕ) → collect_number x t ≡ 0 → Fit (collected x t).book
       → Agree (collected x t).book pool (Plain.collected q t).store
-  unfolding
-      collected with_day with_entries Plain.collected Plain.at_day Plain.with_blocks journal no_maps named named_maps image_of image slots_of reaches prints_sound
+  unfolding collected with_day with_entries Plain.collected Plain.at_day Plain.with_blocks journal no_maps named reaches prints_sound
   collect-agree t ok fit = record {
     fit = fit;
     pool_long = g.pool_long;
@@ -98,7 +96,6 @@ module _ {x : Book} {pool : List ℕ} {q : Plain} (g : Agree x pool q) where
     blocks = ap (swept (marked q t) 0) g.blocks ∙ swept-blocks (marked q t) t 0 x.entries pool (λ j. over-place t j ((collect-days x t).0 ok).0);
     retentions = g.retentions;
     taken = g.taken;
-    called = g.called;
     maps = g.maps;
     sound = g.sound;
     days = days-later 0 x.day t (journal x) g.days ((collect-days x t).0 ok).0;

@@ -18,10 +18,9 @@ use Rattle.book.specs.Next.{with_retention}
 use Rattle.book.proofs.Clauses.{book-parts}
 use Rattle.book.proofs.Conditions.{slot-facts}
 use Rattle.model.specs.Days.{bad_retention}
-use Rattle.model.specs.Journal.{Backup, journal_of, journal, slots_of}
-use Rattle.model.specs.Read.{image, image_of}
+use Rattle.model.specs.Journal.{Backup, journal_of, journal}
 use Rattle.model.specs.Enrol.{enrol_number}
-use Rattle.model.specs.Audit.{no_maps, named_maps, until_in, prints_sound}
+use Rattle.model.specs.Audit.{no_maps, until_in, prints_sound}
 use Rattle.model.specs.Plain
 use Rattle.model.specs.Plain.{Plain}
 use Rattle.claims.proofs.agreement.Agree.{Fit, Agree, named, reaches}
@@ -75,7 +74,7 @@ module _ {x : Book} {pool : List ℕ} {q : Plain} (g : Agree x pool q) where
 
   pub enrol-agree : (v r : ℕ) → enrol_number x v r ≡ 0 → Fit (with_retention v r x)
       → Agree (with_retention v r x) pool (Plain.with_retention v r q)
-  unfolding with_retention Plain.with_retention journal no_maps named named_maps image_of image slots_of reaches prints_sound
+  unfolding with_retention Plain.with_retention journal no_maps named reaches prints_sound
   enrol-agree v r ok fit = record {
     fit = fit;
     pool_long = g.pool_long;
@@ -85,7 +84,6 @@ module _ {x : Book} {pool : List ℕ} {q : Plain} (g : Agree x pool q) where
     blocks = g.blocks;
     retentions = ap (λ (rs : List ℕ). set rs v r) g.retentions;
     taken = g.taken;
-    called = g.called;
     maps = g.maps;
     sound = g.sound;
     days = g.days;

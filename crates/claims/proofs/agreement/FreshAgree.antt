@@ -1,27 +1,26 @@
 -- A fresh book and the plain store's start stand alike, whatever bytes the pool has.
 use Prim.Native.Nat.{ℕ, zero, suc, ◌<◌}
 use mathlib.Core.Path.{◌≡◌, refl, sym, ap, ◌∙◌}
-use mathlib.Core.Bool.{Bool, true, ◌&&◌}
+use mathlib.Core.Bool.{true, not}
 use mathlib.Core.List.{List, [], ◌∷◌}
 use native.Mathlib.Omega.{arith}
 use lib.Dec.{eqb}
 use lib.ListN.{length, drop, replicate}
 use borrow.Author.Tests.{eqb-true, ne_eqb}
 use Rattle.words.specs.Blocks.{block_size, unmapped}
-use Rattle.words.specs.Lists.{those, count_of}
+use Rattle.words.specs.Lists.{those}
 use Rattle.words.proofs.Places.{get_or_replicated, none_replicated}
-use Rattle.book.specs.Book.{volumes, Sizes, Entry, Name, free_entry, no_name, name_count, is_used}
+use Rattle.book.specs.Book.{volumes, Sizes, Entry, free_entry}
 use Rattle.book.specs.Form.{sizes_ok}
 use Rattle.book.specs.Next.{fresh}
 use Rattle.model.specs.Pool.{pool_size}
 use Rattle.model.specs.Journal.{journal}
-use Rattle.model.specs.Audit.{no_maps, named_maps, prints_sound}
+use Rattle.model.specs.Audit.{no_maps, prints_sound}
 use Rattle.model.specs.Plain.{Block, free, start, names}
 use Rattle.model.specs.Sides.{blocks_in}
 use Rattle.claims.proofs.agreement.Agree.{Fit, Agree, named, reaches}
 use Rattle.claims.proofs.kept.Sound.{SoundAll, Days, AllRise, EmptiedAll}
 use Rattle.claims.proofs.kept.Marks.{named_none, pbn_mapped}
-use Rattle.claims.proofs.form.NamesFit.{none-used}
 
 free-blocks : (n : ℕ) (pool : List ℕ) → replicate n free ≡ blocks_in (replicate n free_entry) pool
 unfolding free_entry
@@ -33,21 +32,12 @@ unfolding free_entry
 none-held zero = refl
 none-held (suc n) = none-held n
 
-none-called : (n : ℕ) (f : Name → Bool) → count_of (λ m. is_used m && f m) (replicate n no_name) ≡ 0
-unfolding is_used no_name
-none-called zero f = refl
-none-called (suc n) f = none-called n f
-
 unnamed : (z : Sizes) (p : ℕ) → sizes_ok z ≡ true → p < z.n → named (fresh z) p ≡ 0
-unfolding fresh named_maps
+unfolding fresh
 unnamed z p ok h =
     eqb-true (named (fresh z) p) 0
-    (named_none (fresh z) p
-    ∙ rw (
-      none_replicated (names p) volumes (replicate z.l unmapped)
-          (none_replicated (eqb p) z.l unmapped (ne_eqb p unmapped (pbn_mapped (fresh z) p ok h))),
-      none-used (name_count z.layout),
-    ))
+    (named_none (fresh z) p ∙ ap not (none_replicated (names p) volumes (replicate z.l unmapped)
+    (none_replicated (eqb p) z.l unmapped (ne_eqb p unmapped (pbn_mapped (fresh z) p ok h)))))
 
 pub fresh-agree : (z : Sizes) (pool : List ℕ) → sizes_ok z ≡ true → length pool ≡ pool_size z.n → Fit (fresh z)
     → Agree (fresh z) pool (start z)
@@ -61,7 +51,6 @@ fresh-agree z pool ok long fit = record {
   blocks = free-blocks z.n pool;
   retentions = refl;
   taken = refl;
-  called = λ f. sym (none-called (name_count z.layout) f);
   maps = refl;
   sound = tt;
   days = omega arith;

@@ -5,7 +5,6 @@ use mathlib.Core.Path.{◌≡◌, refl, sym, ap, subst, ◌∙◌}
 use mathlib.Core.Logic.{◌≢◌}
 use mathlib.Core.Bool.{Bool, true, false, not, ◌&&◌}
 use mathlib.Core.List.{List, []}
-use native.Mathlib.Nat.{le_trans, mul-le-mul_right}
 use native.Mathlib.Omega.{arith}
 use lib.Dec.{eqb}
 use lib.ListN.{length, get_or, set, length-set}
@@ -14,19 +13,18 @@ use borrow.Author.Tests.{eqb-true, eqb-false, eq-eqb, ne_eqb}
 use Rattle.words.specs.Blocks.{unmapped}
 use Rattle.words.specs.Choice.{if◌then◌else◌}
 use Rattle.words.specs.Lists.{bit}
-use Rattle.words.proofs.Counting.{count_set, count-joined}
+use Rattle.words.proofs.Appends.{length-rows}
+use Rattle.words.proofs.Counting.{count_most, count_set, count-joined}
 use Rattle.words.specs.Lists.{count_of, joined}
 use Rattle.book.specs.Book.{volumes, Book, entry_at, cell_at, Sized}
 use Rattle.book.specs.Next.{with_entries, with_maps, with_record, cells_with}
 use Rattle.book.proofs.SizesIn.{sizes-facts}
-use Rattle.model.specs.Audit.{counted_maps}
 use Rattle.model.specs.Backup.{Work, lower, name_block, move_number, moved}
 use Rattle.model.specs.PlainBackup
 use Rattle.model.specs.PlainBackup.{PlainWork}
 use Rattle.claims.proofs.agreement.Agree.{Fit}
 use Rattle.claims.proofs.agreement.Placing.{Alike, PlacedAt}
 use Rattle.claims.proofs.agreement.Moving.{length_moved, moved-blocks, lower-count, moved-count}
-use Rattle.claims.proofs.kept.NamedMaps.{counted-inside, counted-bound, few-named}
 
 -- how many cells name block q, when volume v's map is m and the others are as in ms
 abbrev pub names_in : List (List ℕ) → ℕ → List ℕ → ℕ → ℕ
@@ -38,13 +36,14 @@ pub names-set : (ms : List (List ℕ)) (v : ℕ) (m : List ℕ) (i b q : ℕ) �
 names-set ms v m i b q h k =
     omega (arith, count-joined (eqb q) ms v (set m i b) h, count-joined (eqb q) ms v m h, count_set (eqb q) m i b unmapped k)
 
--- "Eight maps of 1,024 cells can't pass 8,192" (document 02, K3), and with those of eight names 16,384 (K7), whichever map of L cells volume v
--- has
+-- "Eight maps of 1,024 cells can't pass 8,192" (document 02, K3), whichever map of L cells volume v has
 pub named-bound : (x : Book) → Sized x → (v : ℕ) (m : List ℕ) (q : ℕ) → v < volumes → length m ≡ x.sizes.l
-    → names_in (counted_maps x) v m q ≤ 16 * x.sizes.l
+    → names_in x.maps v m q ≤ volumes * x.sizes.l
 named-bound x s v m q h e =
-    let most = counted-bound x s v m q (λ r k. row r (eqb r v) refl k) (length-set x.maps v m ∙ s.maps) (rw s.maps h) in
-    le_trans most (mul-le-mul_right x.sizes.l (omega (arith, few-named x s)))
+    let rows : length (set x.maps v m) ≡ volumes = length-set x.maps v m ∙ s.maps in
+    let cells : length (joined (set x.maps v m)) ≡ volumes * x.sizes.l =
+    length-rows x.sizes.l (set x.maps v m) (λ r k. row r (eqb r v) refl (omega arith)) ∙ ap (λ n. n * x.sizes.l) rows in
+    omega (arith, count_most (eqb q) (joined (set x.maps v m)))
   where
     row : (r : ℕ) (t : Bool) → eqb r v ≡ t → r < volumes → length (get_or (set x.maps v m) r []) ≡ x.sizes.l
     row r true f k = rw (eqb-true r v f, get_or-set_same x.maps v m [] (rw s.maps h)) e
@@ -56,10 +55,9 @@ pub record Level (x : Book) (v : ℕ) (w : Work) (u : PlainWork) : Type 0 where
   pub sizes : w.book.sizes ≡ x.sizes
   pub retentions : w.book.retentions ≡ x.retentions
   pub slots : w.book.slots ≡ x.slots
-  pub names : w.book.names ≡ x.names
   pub maps : w.book.maps ≡ set x.maps v u.copy
   pub width : length u.copy ≡ x.sizes.l
-  pub counts : (q : ℕ) → q < x.sizes.n → (entry_at w.book.entries q).count ≡ names_in (counted_maps x) v u.copy q
+  pub counts : (q : ℕ) → q < x.sizes.n → (entry_at w.book.entries q).count ≡ names_in x.maps v u.copy q
   pub cells : (i : ℕ) → get_or u.copy i unmapped ≢ unmapped → get_or u.copy i unmapped < x.sizes.n
 
 pub placed-level : (x : Book) (v : ℕ) (w : Work) (u : PlainWork) (p : ℕ) (w' : Work) (u' : PlainWork)
@@ -69,10 +67,9 @@ placed-level x v w u p w' u' a r = record {
   sizes = r.aside.sizes ∙ a.sizes;
   retentions = r.aside.retentions ∙ a.retentions;
   slots = r.aside.slots ∙ a.slots;
-  names = r.aside.names ∙ a.names;
   maps = r.aside.maps ∙ a.maps ∙ ap (λ (m : List ℕ). set x.maps v m) (sym r.copy);
   width = ap length r.copy ∙ a.width;
-  counts = λ q k. r.counts q ∙ a.counts q k ∙ ap (λ (m : List ℕ). names_in (counted_maps x) v m q) (sym r.copy);
+  counts = λ q k. r.counts q ∙ a.counts q k ∙ ap (λ (m : List ℕ). names_in x.maps v m q) (sym r.copy);
   cells = subst (λ (m : List ℕ). (i : ℕ) → get_or m i unmapped ≢ unmapped → get_or m i unmapped < x.sizes.n) (sym r.copy) a.cells;
 }
 
@@ -92,13 +89,13 @@ module _ (x : Book) (v : ℕ) (inside : v < length x.maps) (small : x.sizes.n < 
 
     -- the cells without this one
     out : (q : ℕ) → q < x.sizes.n
-        → names_in (counted_maps x) v (set u.copy lbn unmapped) q + bit (eqb q before) ≡ names_in (counted_maps x) v u.copy q
+        → names_in x.maps v (set u.copy lbn unmapped) q + bit (eqb q before) ≡ names_in x.maps v u.copy q
     out q k =
-        names-set (counted_maps x) v u.copy lbn unmapped q (counted-inside x v inside) (omega (arith, a.width))
+        names-set x.maps v u.copy lbn unmapped q inside (omega (arith, a.width))
         ∙ rw (ne_eqb q unmapped (λ (z : q ≡ unmapped). omega arith)) (omega arith)
 
     lowered_is : (q : ℕ) → q < x.sizes.n
-        → (entry_at (lower until before w.book.entries) q).count ≡ names_in (counted_maps x) v (set u.copy lbn unmapped) q
+        → (entry_at (lower until before w.book.entries) q).count ≡ names_in x.maps v (set u.copy lbn unmapped) q
     lowered_is q k =
         lower-count until before p w.book.entries q (omega arith) (before-inside x v lbn w u a)
         ∙ omega (arith, a.counts q k, out q k)
@@ -111,7 +108,7 @@ module _ (x : Book) (v : ℕ) (inside : v < length x.maps) (small : x.sizes.n < 
         omega (arith, a.counts before k, out before k, ap bit (eq-eqb before before refl)))
 
     -- the found block, this cell's before taken out
-    few-cells : Fit x → (entry_at (lower until before w.book.entries) p).count ≤ 16384
+    few-cells : Fit x → (entry_at (lower until before w.book.entries) p).count ≤ 8192
     few-cells fit =
         omega (
           arith,
@@ -162,7 +159,6 @@ module _ (x : Book) (v : ℕ) (inside : v < length x.maps) (small : x.sizes.n < 
       sizes = a.sizes;
       retentions = a.retentions;
       slots = a.slots;
-      names = a.names;
       maps =
           ap (λ (m : List (List ℕ)). cells_with m v lbn p) a.maps
           ∙ rw (get_or-set_same x.maps v u.copy [] inside) (set-set x.maps v u.copy (set u.copy lbn p));
@@ -170,6 +166,6 @@ module _ (x : Book) (v : ℕ) (inside : v < length x.maps) (small : x.sizes.n < 
       counts = λ q k.
           moved-count until before p w.book.entries q (omega arith) (before-inside x v lbn w u a)
           (omega (arith, a.alike.entries, ap (λ s. s.n) a.sizes))
-          ∙ omega (arith, lowered_is q k, out q k, names-set (counted_maps x) v u.copy lbn p q (counted-inside x v inside) (omega (arith, a.width)));
+          ∙ omega (arith, lowered_is q k, out q k, names-set x.maps v u.copy lbn p q inside (omega (arith, a.width)));
       cells = λ j k. cell_in j (eqb j lbn) refl k;
     }

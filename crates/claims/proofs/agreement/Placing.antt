@@ -47,7 +47,6 @@ pub record Aside (x y : Book) : Type 0 where
   pub maps : y.maps ≡ x.maps
   pub slots : y.slots ≡ x.slots
   pub records : y.records ≡ x.records
-  pub names : y.names ≡ x.names
 
 -- a change placed at p: the block is held then, and no count, no expiry and no other entry has moved
 pub record PlacedAt (w : Work) (u : PlainWork) (p : ℕ) (w' : Work) (u' : PlainWork) : Type 0 where
@@ -91,7 +90,7 @@ module _ (c : Change) (w : Work) (u : PlainWork) (l : length c.block ≡ block_s
     take-placed f n = record {
       bound = h;
       alike = take-alike;
-      aside = record { sizes = refl; day = refl; retentions = refl; maps = refl; slots = refl; records = refl; names = refl };
+      aside = record { sizes = refl; day = refl; retentions = refl; maps = refl; slots = refl; records = refl };
       copy = refl;
       holds = ap (λ (e : Entry). e.held) (get_or-set_same es p (held_as c.print (entry_at es p)) free_entry h);
       counts = get_or-set-kept (λ (e : Entry). e.count) es p (held_as c.print (entry_at es p)) free_entry refl;
@@ -114,7 +113,7 @@ module _ (c : Change) (w : Work) (u : PlainWork) (l : length c.block ≡ block_s
   found-placed p e = record {
     bound = (held-lowest es c.print p e).inside;
     alike = a;
-    aside = record { sizes = refl; day = refl; retentions = refl; maps = refl; slots = refl; records = refl; names = refl };
+    aside = record { sizes = refl; day = refl; retentions = refl; maps = refl; slots = refl; records = refl };
     copy = refl;
     holds = (held-lowest es c.print p e).held;
     counts = λ q. refl;

@@ -1,9 +1,8 @@
 -- Both sides agree again after a retirement whose cells were all cleared, the book after being in form.
 use Prim.Native.Nat.{ℕ, ◌<◌, ◌+◌}
 use mathlib.Core.Path.{◌≡◌, refl, sym, ap, ap₂, ◌∙◌}
-use mathlib.Core.Bool.{Bool, true, false, not, ◌&&◌, ◌||◌}
+use mathlib.Core.Bool.{Bool, true, false, not, ◌||◌}
 use mathlib.Core.List.{List, [], ◌∷◌, ◌++◌}
-use native.Mathlib.Nat.{le_trans}
 use native.Mathlib.Omega.{arith}
 use lib.Dec.{eqb, leb-zero}
 use lib.ListN.{length, set, replicate}
@@ -13,11 +12,11 @@ use Rattle.words.specs.Choice.{if◌then◌else◌}
 use Rattle.words.proofs.ChoiceLaws.{and_false, or_l, or_no, or_r}
 use Rattle.words.proofs.Places.{count_of-none}
 use Rattle.words.specs.Lists.{joined, count_of}
-use Rattle.book.specs.Book.{volumes, Sizes, Slot, Rec, Name, Book, entry_at, is_used, retention_of}
+use Rattle.book.specs.Book.{volumes, Sizes, Slot, Rec, Book, entry_at, retention_of}
 use Rattle.book.specs.Next.{with_day, with_slot}
 use Rattle.book.proofs.Clauses.{book-parts}
 use Rattle.model.specs.Journal.{Backup, journal_of, journal, slots_of, days}
-use Rattle.model.specs.Audit.{replayed, no_maps, named_maps, counted_maps, has_before, due_of, until_in, prints_sound}
+use Rattle.model.specs.Audit.{replayed, no_maps, has_before, due_of, until_in, prints_sound}
 use Rattle.model.specs.Backup.{until_next}
 use Rattle.model.specs.Retire.{mapped_cells, retired}
 use Rattle.model.specs.Plain
@@ -29,9 +28,6 @@ use Rattle.claims.proofs.agreement.Agree.{Fit, Agree, taken_from, named, reaches
 use Rattle.claims.proofs.agreement.AgreeLaws.{current-agree}
 use Rattle.claims.proofs.agreement.Clearing.{took_away, Cleared, row-empty, record-each}
 use Rattle.claims.proofs.agreement.Level.{names_in}
-use Rattle.claims.proofs.kept.ImageStays.{image-stays}
-use Rattle.claims.proofs.kept.NamedMaps.{counted-set}
-use Rattle.claims.proofs.kept.NamesThere.{count-slots, named-same}
 use Rattle.claims.proofs.form.RetireAllowed.{MayRetire}
 use Rattle.claims.proofs.kept.JournalLaws.{added, journal_append, replayed_append, sound_all_append, emptied_append, days_append}
 use Rattle.claims.proofs.kept.JournalLaws.{all_rise_append, until_in_append, until_in-book, reaches_append}
@@ -120,22 +116,9 @@ module _ {x : Book} {pool : List ℕ} {q : Plain} (g : Agree x pool q) (v t : �
 
   -- ---- the entries
 
-  names-new : y.names ≡ x.names
-  unfolding retired with_day with_slot
-  names-new = c.called
-
-  named-stays : named_maps y ≡ named_maps x
-  unfolding retired with_day with_slot
-  named-stays =
-      named-same x y g.fit.sized (book-parts x g.fit.form) names-new (ap (λ (s : Sizes). s.l) c.sizes)
-      (λ u k l h i. image-stays x y b journal-after (maps-new ∙ ap (λ (n : List ℕ). set x.maps v n) c.applies)
-      c.sound (rw g.fit.sized.maps inside) u k l (le_trans i (count-slots x u)))
-
-  named-after : (p : ℕ) → named y p ≡ names_in (counted_maps x) v c.row p
+  named-after : (p : ℕ) → named y p ≡ names_in x.maps v c.row p
   unfolding named
-  named-after p =
-      ap (λ (ms : List (List ℕ)). count_of (eqb p) (joined ms))
-      (ap₂ (λ (ms ns : List (List ℕ)). ms ++ ns) maps-new named-stays ∙ sym (counted-set x v c.row (rw g.fit.sized.maps inside)))
+  named-after p = ap (λ (ms : List (List ℕ)). count_of (eqb p) (joined ms)) maps-new
 
   retained : y.retentions ≡ x.retentions
   unfolding retired with_day with_slot
@@ -202,7 +185,6 @@ module _ {x : Book} {pool : List ℕ} {q : Plain} (g : Agree x pool q) (v t : �
         blocks = g.blocks ∙ sym (c.blocks pool);
         retentions = g.retentions ∙ sym c.retentions;
         taken = taken-after;
-        called = λ f. g.called f ∙ ap (λ (ns : List Name). count_of (λ n. is_used n && f n) ns) (sym names-new);
         maps = maps_after;
         sound = sound-after;
         days = days-after;

@@ -9,7 +9,7 @@ use Rattle.words.specs.Blocks.{unmapped}
 use Rattle.words.specs.Choice.{if◌then◌else◌}
 use Rattle.words.specs.Lists.{all}
 use Rattle.words.specs.Outcome.{Outcome, refused, accepted, and_then, unless}
-use Rattle.book.specs.Book.{Sizes, Book}
+use Rattle.book.specs.Book.{Sizes, Book, retention_of}
 use Rattle.book.proofs.Bytes.{length-bytes}
 use Rattle.book.specs.Form.{enrolled, form_number}
 use Rattle.book.proofs.FormBytes.{form-bytes}
@@ -22,24 +22,20 @@ use Rattle.model.specs.Backup.{Backed}
 use Rattle.model.specs.Backup
 use Rattle.claims.proofs.agreement.BackupAgree.{BothBacked, backup-agree}
 use Rattle.claims.proofs.form.BackupFit.{backup-fit}
-use Rattle.model.specs.Calls.{Call, enrol, backup, collect, retire, name, unname, read, audit, Answer}
+use Rattle.model.specs.Calls.{Call, enrol, backup, collect, read, audit, Answer, retire}
 use Rattle.claims.specs.Claims.{is_damage, says_damage}
 use Rattle.model.specs.Collect
 use Rattle.model.specs.Collect.{collected, collect_number}
 use Rattle.claims.proofs.agreement.CollectAgree.{collect-number, collect-freed, collect-agree}
 use Rattle.claims.proofs.form.CollectFit.{collect-fit}
-use Rattle.model.specs.Days.{bad_day, bad_retention}
+use Rattle.model.specs.Days.{bad_day, bad_retention, kept}
 use Rattle.model.specs.Enrol.{enrol_number}
 use Rattle.model.specs.Enrol
 use Rattle.claims.proofs.agreement.EnrolAgree.{enrol-number, enrol-agree}
 use Rattle.claims.proofs.form.EnrolFit.{enrol-fit}
-use Rattle.model.specs.Journal.{no_volume, backup_count}
-use Rattle.model.specs.Names.{is_kept}
+use Rattle.model.specs.Journal.{days, no_volume, backup_count}
 use Rattle.model.specs.OnBytes.{backed_bytes, collected_bytes, retired_bytes}
 use Rattle.claims.proofs.form.OnBytesFit.{enrol-on-bytes, collect-on-bytes, audit-on-bytes, read-on-bytes, backup-on-bytes, retire-on-bytes}
-use Rattle.claims.proofs.form.OnBytesFit.{name-on-bytes, drop-on-bytes}
-use Rattle.claims.proofs.agreement.NameAgree.{BothCalled, name_agree}
-use Rattle.claims.proofs.agreement.DropAgree.{drop-agree}
 use Rattle.model.specs.Plain
 use Rattle.model.specs.Plain.{Plain}
 use Rattle.model.specs.PlainBackup
@@ -51,7 +47,7 @@ use Rattle.model.specs.Retire.{Retired}
 use Rattle.model.specs.PlainRetire
 use Rattle.model.specs.PlainRetire.{PlainRetired}
 use Rattle.model.specs.Sides.{Step, answers_of, end_of, Changed, answer_of, step_of, read_answer, audit_answer, retired_to, store_retired}
-use Rattle.model.specs.Sides.{Ours, book_to, backed_to, collected_to, ours, store_to, store_backed, store_collected, plain}
+use Rattle.model.specs.Sides.{Ours, enrolled_to, backed_to, collected_to, ours, store_enrolled, store_backed, store_collected, plain}
 use Rattle.claims.proofs.agreement.RetireAgree.{BothRetired, retire-agree}
 use Rattle.claims.proofs.form.RetireFit.{retire-fit}
 
@@ -127,7 +123,7 @@ collect-undamaged x t = go (bad_day x.day t)
 read-undamaged : (x : Book) (v k lbn : ℕ) → is_damage (Read.read_number x v k lbn) ≡ false
 unfolding Read.read_number
 read-undamaged x v k lbn =
-    go (no_volume x v) (eqb k 0 || ltb (backup_count x v) k) (not (is_kept x v k)) (leb x.sizes.l lbn)
+    go (no_volume x v) (eqb k 0 || ltb (backup_count x v) k) (not (kept (days x v) (retention_of x v) x.day k)) (leb x.sizes.l lbn)
     (eqb (Read.image x v k lbn) unmapped)
   where
     go : (a b c d e : Bool) → is_damage (if a then 5 else if b then 15 else if c then 16 else if d then 17 else if e then 18 else 0) ≡ false
@@ -154,7 +150,7 @@ module _ (z : Sizes) (spare : ℕ) (enough : book_size z ≤ spare) {x : Book} {
       rw (enrol-on-bytes (fit-form g.fit) (fit-book g.fit) v r)
       (changed_alike z standing _ _
       (numbered z (enrol_number x v r) (Plain.enrol_number q v r) (enrol-number g v r) (enrol-undamaged x v r)
-      (with_retention v r x) bytes (book_to here) _ store_to
+      (with_retention v r x) bytes (enrolled_to here) _ store_enrolled
       (λ e. changed _ _ refl (stand (with_retention v r x) pool _ (enrol-agree g v r e (enrol-fit g.fit v r e)) sizes))))
 
   collect-alike : (t : ℕ) → Alike z (ours spare here (collect t)) (plain q (collect t))
@@ -215,32 +211,12 @@ module _ (z : Sizes) (spare : ℕ) (enough : book_size z ≤ spare) {x : Book} {
           let fits = retire-fit g.fit v t d e in
           changed _ _ (ap (λ (k : ℕ). k ∷ []) h.cells) (stand d.book pool f.store (h.agree fits.fit) (fits.sizes ∙ sizes))
 
-  -- a naming or a dropping, by what it makes of book and store
-  called-alike : (a : Outcome Book) (b : Outcome Plain) → BothCalled pool x a b
-      → BothChanged z (and_then (and_then a (λ y. accepted (bytes y))) (book_to here)) (and_then b store_to)
-  called-alike a b (BothCalled.stopped k d) = stopped k d
-  called-alike a b (BothCalled.calls y q' same agree) = changed _ _ refl (stand y pool q' agree (same ∙ sizes))
-
-  name-alike : (v k : ℕ) (t : List ℕ) → Alike z (ours spare here (name v k t)) (plain q (name v k t))
-  unfolding ours plain
-  name-alike v k t =
-      rw (name-on-bytes (fit-form g.fit) (fit-book g.fit) (length-bytes x) spare (rw sizes enough) v k t)
-      (changed_alike z standing _ _ (called-alike _ _ (name_agree g v k t)))
-
-  drop-alike : (t : List ℕ) → Alike z (ours spare here (unname t)) (plain q (unname t))
-  unfolding ours plain
-  drop-alike t =
-      rw (drop-on-bytes (fit-form g.fit) (fit-book g.fit) (length-bytes x) spare (rw sizes enough) t)
-      (changed_alike z standing _ _ (called-alike _ _ (drop-agree g t)))
-
 module _ (z : Sizes) (spare : ℕ) (enough : book_size z ≤ spare) where
   pub call-alike : {o : Ours} {q : Plain} → Stand z o q → (c : Call) → Alike z (ours spare o c) (plain q c)
   call-alike (stand x pool q g e) (enrol v r) = enrol-alike z spare enough g e v r
   call-alike (stand x pool q g e) (backup v t list) = backup-alike z spare enough g e v t list
   call-alike (stand x pool q g e) (collect t) = collect-alike z spare enough g e t
   call-alike (stand x pool q g e) (retire v t) = retire-alike z spare enough g e v t
-  call-alike (stand x pool q g e) (name v k t) = name-alike z spare enough g e v k t
-  call-alike (stand x pool q g e) (unname t) = drop-alike z spare enough g e t
   call-alike (stand x pool q g e) (read v k lbn) = read_alike z spare enough g e v k lbn
   call-alike (stand x pool q g e) audit = audit-alike z spare enough g e
 

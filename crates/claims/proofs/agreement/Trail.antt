@@ -18,7 +18,7 @@ use Rattle.words.proofs.Tests.{eqb_swap, or_neither}
 use Rattle.runs.specs.Changes.{Change}
 use Rattle.book.specs.Book.{Entry, Rec, Book, entry_at, cell_at}
 use Rattle.book.specs.Next.{with_entries, with_maps, with_record}
-use Rattle.model.specs.Audit.{applied, counted_maps, has_before, prints_sound}
+use Rattle.model.specs.Audit.{applied, has_before, prints_sound}
 use Rattle.model.specs.Backup.{Work, name_block, moved}
 use Rattle.model.specs.PlainBackup
 use Rattle.model.specs.PlainBackup.{PlainWork}
@@ -27,7 +27,6 @@ use Rattle.claims.proofs.agreement.Agree.{reaches}
 use Rattle.claims.proofs.kept.JournalLaws.{applied_append, sound_append, has_before_append}
 use Rattle.claims.proofs.agreement.Placing.{PlacedAt}
 use Rattle.claims.proofs.agreement.Moving.{moved_entries, moved-held, moved-expiry, moved-prints, moved_other}
-use Rattle.claims.proofs.kept.NamedMaps.{counted-inside}
 use Rattle.claims.proofs.agreement.Level.{Level, names_in, names-set, placed-level, cell-before, before-inside}
 
 -- some record has after p
@@ -43,10 +42,10 @@ pub record Trail (x : Book) (v until : ℕ) (ds : List Change) (w : Work) (u : P
   pub lbns : map (λ (r : Rec). r.lbn) new ≡ map (λ (c : Change). c.lbn) ds
   pub expiries : (q : ℕ) → q < x.sizes.n
       → (entry_at w.book.entries q).expiry ≡ max (entry_at x.entries q).expiry (if has_before q new then until else 0)
-  pub used : x.day ≡ 0 → (q : ℕ) → q < x.sizes.n → (entry_at w.book.entries q).held ≡ true → names_in (counted_maps x) v u.copy q ≡ 0
+  pub used : x.day ≡ 0 → (q : ℕ) → q < x.sizes.n → (entry_at w.book.entries q).held ≡ true → names_in x.maps v u.copy q ≡ 0
       → (reaches x 0 q || has_before q new) ≡ true
   pub free : (q : ℕ) → q < x.sizes.n → (entry_at w.book.entries q).held ≡ false
-      → (names_in (counted_maps x) v u.copy q ≡ 0) × (has_before q new ≡ false) × ((entry_at x.entries q).held ≡ false)
+      → (names_in x.maps v u.copy q ≡ 0) × (has_before q new ≡ false) × ((entry_at x.entries q).held ≡ false)
   pub prints : prints_sound w.book ≡ true
   pub kept : (q : ℕ) → q < x.sizes.n → has_before q new ≡ false → has_after q new ≡ false
       → entry_at w.book.entries q ≡ entry_at x.entries q
@@ -83,10 +82,10 @@ module _ (x : Book) (v : ℕ) (inside : v < length x.maps) (small : x.sizes.n < 
   bound = omega (arith, r.bound, a.alike.entries, ap (λ s. s.n) a.sizes)
 
   -- the cells before and after
-  cells : (q : ℕ) → names_in (counted_maps x) v (set u'.copy c.lbn p) q + bit (eqb q before) ≡ names_in (counted_maps x) v u.copy q + bit (eqb q p)
+  cells : (q : ℕ) → names_in x.maps v (set u'.copy c.lbn p) q + bit (eqb q before) ≡ names_in x.maps v u.copy q + bit (eqb q p)
   cells q =
-      names-set (counted_maps x) v u'.copy c.lbn p q (counted-inside x v inside) (omega (arith, level'.width))
-      ∙ ap (λ (m : List ℕ). names_in (counted_maps x) v m q + bit (eqb q p)) r.copy
+      names-set x.maps v u'.copy c.lbn p q inside (omega (arith, level'.width))
+      ∙ ap (λ (m : List ℕ). names_in x.maps v m q + bit (eqb q p)) r.copy
 
   before_more : (q : ℕ) → has_before q (g.new ++ (rec ∷ [])) ≡ (has_before q g.new || eqb q before)
   before_more q =
@@ -98,7 +97,7 @@ module _ (x : Book) (v : ℕ) (inside : v < length x.maps) (small : x.sizes.n < 
       some_of_append (λ (r : Rec). eqb r.after q) g.new (rec ∷ [])
       ∙ ap (λ (t : Bool). has_after q g.new || t) (or_no (eqb p q) ∙ eqb_swap p q)
 
-  used-next : x.day ≡ 0 → (q : ℕ) → q < x.sizes.n → (entry_at w'.book.entries q).held ≡ true → names_in (counted_maps x) v (set u'.copy c.lbn p) q ≡ 0
+  used-next : x.day ≡ 0 → (q : ℕ) → q < x.sizes.n → (entry_at w'.book.entries q).held ≡ true → names_in x.maps v (set u'.copy c.lbn p) q ≡ 0
       → (reaches x 0 q || has_before q (g.new ++ (rec ∷ []))) ≡ true
   used-next first q k h z = rw (before_more q) (go (eqb q before) (eqb q p) refl refl)
     where
@@ -110,12 +109,12 @@ module _ (x : Book) (v : ℕ) (inside : v < length x.maps) (small : x.sizes.n < 
           (g.used first q k (ap (λ e. e.held) (sym (r.others q (eqb-false q p f))) ∙ h) (omega (arith, ap bit e, ap bit f, cells q)))
 
   free-next : (q : ℕ) → q < x.sizes.n → (entry_at w'.book.entries q).held ≡ false
-      → (names_in (counted_maps x) v (set u'.copy c.lbn p) q ≡ 0) × (has_before q (g.new ++ (rec ∷ [])) ≡ false)
+      → (names_in x.maps v (set u'.copy c.lbn p) q ≡ 0) × (has_before q (g.new ++ (rec ∷ [])) ≡ false)
       × ((entry_at x.entries q).held ≡ false)
   free-next q k h = go (eqb q before) (eqb q p) refl refl
     where
       go : (s t : Bool) → eqb q before ≡ s → eqb q p ≡ t
-          → (names_in (counted_maps x) v (set u'.copy c.lbn p) q ≡ 0) × (has_before q (g.new ++ (rec ∷ [])) ≡ false)
+          → (names_in x.maps v (set u'.copy c.lbn p) q ≡ 0) × (has_before q (g.new ++ (rec ∷ [])) ≡ false)
           × ((entry_at x.entries q).held ≡ false)
       go s true e f = absurd (not_both (entry_at w'.book.entries q).held (rw (eqb-true q p f) r.holds) h)
       go s false e f =

@@ -15,11 +15,11 @@ use Rattle.words.specs.Lists.{all, those, count_of, joined, same, differ, up_fro
 use Rattle.words.proofs.Places.{all-place, place-all, all-up_from, up_from-all}
 use Rattle.words.proofs.Same.{same_self, same_equal}
 use Rattle.words.proofs.Tests.{surely_not}
-use Rattle.book.specs.Book.{volumes, Entry, Rec, Book, entry_at, cell_at}
-use Rattle.model.specs.Journal.{Backup, journal, backup_count}
-use Rattle.model.specs.Names.{is_kept}
+use Rattle.book.specs.Book.{volumes, Entry, Rec, Book, entry_at, cell_at, retention_of}
+use Rattle.model.specs.Days
+use Rattle.model.specs.Journal.{Backup, journal, days, backup_count}
 use Rattle.model.specs.Read.{image}
-use Rattle.model.specs.Audit.{applied, replayed, befores_in, befores, no_maps, same_map, maps_sound, counted_maps, count_sound, until_in, expiry_sound}
+use Rattle.model.specs.Audit.{applied, replayed, befores_in, befores, no_maps, same_map, maps_sound, count_sound, until_in, expiry_sound}
 use Rattle.model.specs.Audit.{prints_sound, cell_sound, current_sound, backup_sound, backups_sound, audit}
 use Rattle.claims.specs.Claims.{BeforesIn, Befores, Holds, Differ, Means}
 
@@ -130,7 +130,7 @@ module _ (x : Book) where
       )
 
   counts-mean : (all (count_sound x) (up_from 0 x.sizes.n) ≡ true)
-      ↔ ((p : ℕ) → p < x.sizes.n → (entry_at x.entries p).count ≡ count_of (eqb p) (joined (counted_maps x)))
+      ↔ ((p : ℕ) → p < x.sizes.n → (entry_at x.entries p).count ≡ count_of (eqb p) (joined x.maps))
   unfolding count_sound
   counts-mean = (
     λ e p h. eqb-true _ _ (up_from-all (count_sound x) 0 x.sizes.n e p (omega arith) (omega arith)),
@@ -156,9 +156,9 @@ module _ (x : Book) where
   )
 
   backup-means : (v k : ℕ) → (backup_sound x v k ≡ true)
-      ↔ ((l : ℕ) → is_kept x v k ≡ true → l < x.sizes.l → Holds x (image x v k l))
+      ↔ ((l : ℕ) → Days.kept (days x v) (retention_of x v) x.day k ≡ true → l < x.sizes.l → Holds x (image x v k l))
   unfolding backup_sound
-  backup-means v k = go (is_kept x v k)
+  backup-means v k = go (Days.kept (days x v) (retention_of x v) x.day k)
     where
       go : (t : Bool) → ((not t || all (λ l. cell_sound x (image x v k l)) (up_from 0 x.sizes.l)) ≡ true)
           ↔ ((l : ℕ) → t ≡ true → l < x.sizes.l → Holds x (image x v k l))
@@ -170,7 +170,7 @@ module _ (x : Book) where
 
   backups-mean : (backups_sound x ≡ true)
       ↔ ((v k l : ℕ) → v < volumes → 1 ≤ k → k ≤ backup_count x v
-      → is_kept x v k ≡ true → l < x.sizes.l → Holds x (image x v k l))
+      → Days.kept (days x v) (retention_of x v) x.day k ≡ true → l < x.sizes.l → Holds x (image x v k l))
   unfolding backups_sound
   backups-mean = (
     λ e v k l h a b z. (backup-means v k).0

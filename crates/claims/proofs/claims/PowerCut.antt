@@ -22,10 +22,10 @@ use Rattle.model.specs.Backup.{Backed}
 use Rattle.claims.proofs.agreement.BackupAgree.{BothBacked, stopped, backed, backup-agree}
 use Rattle.claims.proofs.form.BackupFit.{backup-fit}
 use Rattle.claims.proofs.agreement.BlocksIn.{blocks_in-at, length-blocks_in, held-inside}
-use Rattle.model.specs.Calls.{Call, enrol, backup, collect, retire, name, unname, read, audit}
+use Rattle.model.specs.Calls.{Call, enrol, backup, collect, read, audit, retire}
 use Rattle.claims.specs.Claims.{Fresh, plain_answers, plain_end}
 use Rattle.model.specs.History.{history_of, day_of}
-use Rattle.model.specs.OnBytes.{backed_bytes, enrol_bytes, collect_bytes, retire_bytes, naming_bytes, dropping_bytes}
+use Rattle.model.specs.OnBytes.{backed_bytes, enrol_bytes, collect_bytes, retire_bytes}
 use Rattle.claims.proofs.form.OnBytesFit.{backup-on-bytes}
 use Rattle.model.specs.Plain.{Block, free, held, Plain, start, at_day, with_blocks, with_taken}
 use Rattle.model.specs.PlainBackup.{PlainWork, place, moved, change_step, run_changes, begun, closed, backup_number}
@@ -69,7 +69,6 @@ agree-pool {x} {pool} {pool'} {q} g l h = record {
   blocks = g.blocks ∙ blocks-same x.entries pool pool' h;
   retentions = g.retentions;
   taken = g.taken;
-  called = g.called;
   maps = g.maps;
   sound = g.sound;
   days = g.days;
@@ -188,8 +187,6 @@ module _ (spare : ℕ) {x : Book} {pool : List ℕ} {q : Plain} (g : Agree x poo
   call-serves (backup v t list) = backup-serves v t list
   call-serves (collect t) = rw (book-alone (collect_bytes (bytes x) t) (λ d. d.book) (λ d. d.freed ∷ [])) serves-same
   call-serves (retire v t) = rw (book-alone (retire_bytes (bytes x) spare v t) (λ d. d.book) (λ d. d.cells ∷ [])) serves-same
-  call-serves (name v k t) = rw (book-alone (naming_bytes (bytes x) spare v k t) (λ b. b) (λ b. [])) serves-same
-  call-serves (unname t) = rw (book-alone (dropping_bytes (bytes x) spare t) (λ b. b) (λ b. [])) serves-same
   call-serves (read v k lbn) = serves-same
   call-serves audit = serves-same
 

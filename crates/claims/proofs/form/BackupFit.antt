@@ -16,7 +16,7 @@ use Rattle.words.specs.Outcome.{accepted, and_then}
 use Rattle.words.proofs.Tests.{or_neither}
 use Rattle.runs.specs.Changes.{changes, change_count}
 use Rattle.runs.proofs.Laws.{length-changes}
-use Rattle.book.specs.Book.{Slot, Rec, Name, Book}
+use Rattle.book.specs.Book.{Slot, Rec, Book}
 use Rattle.book.specs.Form.{afters_ok, enrolled, slot_ok}
 use Rattle.book.specs.Next.{with_day, with_slot}
 use Rattle.book.proofs.SizesIn.{sizes-facts}
@@ -28,8 +28,7 @@ use Rattle.claims.proofs.agreement.AgreeLaws.{volume-inside}
 use Rattle.claims.proofs.kept.DayLaws.{last-before}
 use Rattle.claims.proofs.form.BackupAllowed.{Allowed, number-zero}
 use Rattle.claims.proofs.form.ChangesFit.{changes-fit}
-use Rattle.claims.proofs.form.FitParts.{name_fit, fit_parts, parts-fit}
-use Rattle.claims.proofs.form.NamesFit.{names-kept, slots-more}
+use Rattle.claims.proofs.form.FitParts.{fit_parts, parts-fit}
 use Rattle.claims.proofs.form.RunFit.{run-fit, start-fit, until-low}
 use Rattle.claims.proofs.form.SlotsFit.{slot_ok_lem, slots_kept, days-more, slots-before, afters-more, pairs-more}
 use Rattle.claims.proofs.form.WorkFit.{WorkFit}
@@ -100,11 +99,6 @@ module _ {x : Book} (fit : Fit x) (v t : ℕ) (list : List ℕ) (ok : Allowed x 
         record_count = omega (arith, ok.records);
         records = rw f.sizes f.records;
         afters = afters-after;
-        cell_count = rw (f.names, f.sizes) p.cell_count;
-        names =
-            ap (λ (ns : List Name). all (name_fit y) ns) f.names
-            ∙ names-kept x y x.names (slots-more x y slot (ap (λ (ts : List Slot). ts ++ (slot ∷ [])) f.slots)) p.names;
-        differ = rw f.names p.differ;
       })
 
 -- ---- the whole call

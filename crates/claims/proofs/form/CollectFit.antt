@@ -15,7 +15,6 @@ use Rattle.model.specs.Collect.{collect_number, is_over, swept_entry, collected}
 use Rattle.claims.proofs.claims.CollectLaws.{collect-days}
 use Rattle.claims.proofs.agreement.Agree.{Fit}
 use Rattle.claims.proofs.form.FitParts.{entry_fit, fit_parts, parts-fit}
-use Rattle.claims.proofs.form.NamesFit.{names-kept, slots_same}
 use Rattle.claims.proofs.form.EntriesFit.{fit-expiry, unused_fit}
 use Rattle.claims.proofs.form.SlotsFit.{slots_kept}
 
@@ -54,7 +53,4 @@ collect-fit {x} f t ok =
       record_count = p.record_count;
       records = p.records;
       afters = p.afters;
-      cell_count = p.cell_count;
-      names = names-kept x (collected x t).book x.names (slots_same x (collected x t).book refl) p.names;
-      differ = p.differ;
     })

@@ -1,31 +1,102 @@
--- What a converter writes: every field equal, in form, audited alike, and there and back the very bytes (document 02, K3). Converters go from
--- layouts that have no name cells.
+-- What a converter writes: every field equal, in form, audited alike, and there and back the very bytes (document 02, K3).
 use Prim.Native.Nat.{ℕ, ◌≤◌, ◌<◌}
 use mathlib.Core.Path.{◌≡◌, refl, sym, ap, ◌∙◌}
-use mathlib.Core.Bool.{true, not, ◌||◌}
-use mathlib.Core.List.{List, []}
+use mathlib.Core.Bool.{true, ◌&&◌, not, ◌||◌, Bool, false}
+use mathlib.Core.List.{List}
 use native.Mathlib.Omega.{arith}
-use lib.Dec.{leb}
+use lib.Dec.{leb, eqb}
 use lib.ListN.{length, get_or}
 use borrow.Author.Tests.{le-leb, le-ltb}
 use Rattle.words.proofs.Accepted.{unless-accepted, accepted-same}
 use Rattle.words.proofs.Each.{tab-each, at_each}
-use Rattle.words.specs.Lists.{all}
+use Rattle.words.specs.Lists.{all, up_from}
 use Rattle.words.specs.Numbers.{num}
 use Rattle.words.specs.Outcome.{accepted, unless}
-use Rattle.book.specs.Book.{Book, name_count, Sized}
+use Rattle.book.specs.Book.{Sizes, Book, Sized, entry_at}
 use Rattle.book.specs.Layout.{n_offset, book_size, bytes, sizes_of, count_in, entry_offset, entry_of, book_of}
-use Rattle.book.specs.Form.{sizes_as, book_ok, form_as}
+use Rattle.book.specs.Form.{sizes_as, slot_ok, rec_ok, book_ok, form_as, enrolled}
 use Rattle.book.specs.FormFacts.{FormFactsAs}
 use Rattle.book.specs.Next.{sizes_in, with_layout}
-use Rattle.book.proofs.Clauses.{parts-book}
+use Rattle.book.proofs.Clauses.{parts-book, book-parts}
 use Rattle.book.proofs.FormBytes.{book_as, bytes_as}
 use Rattle.book.proofs.FormFactLaws.{facts_as}
 use Rattle.book.proofs.Laws.{book-bytes}
-use Rattle.book.proofs.SizesIn.{sizes_as_lem}
-use Rattle.model.specs.Audit.{audit}
+use Rattle.book.proofs.SizesIn.{sizes_as_lem, sizes_in_lem}
+use Rattle.model.specs.Audit.{maps_sound, no_maps, count_sound, expiry_sound, prints_sound, cell_sound, current_sound, backup_sound}
+use Rattle.model.specs.Audit.{backups_sound, audit}
+use Rattle.model.specs.Journal.{journal, slots_of, days, backup_count}
+use Rattle.model.specs.Read.{image}
+use Rattle.claims.proofs.kept.JournalLaws.{until_in-book}
 use Rattle.model.specs.Convert.{room_number, converted, is_narrow, narrow_number, to_two, to_one}
-use Rattle.claims.proofs.form.InLayout.{no_names, layout-sized, layout-ok, layout-audit, layout-back, layout-sizes}
+use Rattle.words.proofs.ChoiceLaws.{and_true, true_and, not_both}
+use Rattle.words.proofs.Places.{all_weaker}
+
+-- ---- a book with another layout number
+
+module _ (g : ℕ) (x : Book) where
+  pub layout-sized : Sized x → Sized (with_layout g x)
+  unfolding with_layout
+  layout-sized s =
+      record {
+        retentions = s.retentions;
+        entries = s.entries;
+        prints = s.prints;
+        maps = s.maps;
+        cells = s.cells;
+        slots = s.slots;
+        records = s.records;
+      }
+
+  -- slots retire from layout 3 on; no other condition of form looks at the layout number
+  pub layout-ok : (not (leb 3 x.sizes.layout) || leb 3 g) ≡ true → book_ok x ≡ true → book_ok (with_layout g x) ≡ true
+  unfolding with_layout rec_ok slot_ok
+  layout-ok up e =
+      let p = book-parts x e in
+      parts-book (with_layout g x) (record {
+        day = p.day;
+        cursor = p.cursor;
+        retentions = p.retentions;
+        entries = p.entries;
+        maps = p.maps;
+        slots = all_weaker (slot_ok x) (slot_ok (with_layout g x)) x.slots (λ t k. may_retire (enrolled x t.volume && leb t.day x.day) t.retire (leb 3 x.sizes.layout) (leb 3 g) up k) p.slots;
+        days = p.days;
+        pairs = p.pairs;
+        records = p.records;
+        afters = p.afters;
+      })
+    where
+      may_retire : (a r old new : Bool) → (not old || new) ≡ true → (a && (old || not r)) ≡ true → (a && (new || not r)) ≡ true
+      may_retire a r old true u k = true_and a true (and_true a (old || not r) k).0 refl
+      may_retire a r false false u k = k
+      may_retire a r true false u k = absurd (not_both false u refl)
+
+  -- nor does audit
+  pub layout-expiries : all (expiry_sound (with_layout g x)) (up_from 0 (with_layout g x).sizes.n) ≡ all (expiry_sound x) (up_from 0 x.sizes.n)
+  unfolding with_layout expiry_sound journal
+  layout-expiries = λ i.
+      all (λ p. eqb (entry_at x.entries p).expiry (until_in-book x (with_layout g x) p (journal x) refl i)) (up_from 0 x.sizes.n)
+
+  pub layout-audit : audit (with_layout g x) ≡ audit x
+  unfolding
+      with_layout audit maps_sound no_maps count_sound prints_sound cell_sound current_sound backup_sound backups_sound journal slots_of backup_count days image
+  layout-audit = λ i.
+      maps_sound x
+      && all (count_sound x) (up_from 0 x.sizes.n)
+      && layout-expiries i
+      && prints_sound x
+      && current_sound x
+      && backups_sound x
+
+  -- and back
+  pub layout-back : with_layout x.sizes.layout (with_layout g x) ≡ x
+  unfolding with_layout
+  layout-back = refl
+
+pub layout-sizes : (from to : ℕ) (z : Sizes) → sizes_as from z ≡ true → sizes_as to (sizes_in to z) ≡ true
+layout-sizes from to z e =
+    let i = sizes_as_lem from z e in
+    sizes_in_lem to (sizes_in to z)
+    (record { layout = refl; n₀ = i.n₀; n = i.n; l₀ = i.l₀; l = i.l; s₀ = i.s₀; s = i.s; j₀ = i.j₀; j = i.j })
 
 -- ---- an accepted conversion
 
@@ -37,7 +108,7 @@ pub keeps_same : Keeps (λ x. x)
 unfolding Keeps
 keeps_same x s e = (s, refl, e)
 
-module _ (from to : ℕ) (bare : name_count from ≡ 0) (number : Book → ℕ) (f : Book → Book) (b : List ℕ) (room : ℕ) (c : List ℕ)
+module _ (from to : ℕ) (number : Book → ℕ) (f : Book → Book) (b : List ℕ) (room : ℕ) (c : List ℕ)
     (small : (i : ℕ) → get_or b i 0 < 256) (e : converted from to number f b room ≡ accepted c) where
   pub given-form : form_as from b ≡ 0
   unfolding converted
@@ -62,18 +133,9 @@ module _ (from to : ℕ) (bare : name_count from ≡ 0) (number : Book → ℕ) 
     unfolding Keeps
     made = k (book_of b) facts.holds.sized (parts-book (book_of b) facts.parts)
 
-    made-layout : (f (book_of b)).sizes.layout ≡ from
-    made-layout = ap (λ z. z.layout) made.1 ∙ facts.layout
-
-    made-bare : (f (book_of b)).names ≡ []
-    made-bare = no_names (f (book_of b)) made.0 (ap name_count made-layout ∙ bare)
-
-    made-sized : Sized (with_layout to (f (book_of b)))
-    made-sized = layout-sized to (f (book_of b)) made-bare made.0
-
     -- "with every field equal"
     pub fields_equal : book_of c ≡ with_layout to (f (book_of b))
-    fields_equal = rw written-bytes (book-bytes (with_layout to (f (book_of b))) made-sized)
+    fields_equal = rw written-bytes (book-bytes (with_layout to (f (book_of b))) (layout-sized to (f (book_of b)) made.0))
 
     -- it writes a book of its layout in form, unless it goes back from one whose slots may retire
     pub written-form : (not (leb 3 from) || leb 3 to) ≡ true → form_as to c ≡ 0
@@ -83,7 +145,8 @@ module _ (from to : ℕ) (bare : name_count from ≡ 0) (number : Book → ℕ) 
         let z : sizes_as to y.sizes ≡ true =
         rw made.1 (layout-sizes from to (book_of b).sizes (book_as from b given-form).0)
         in
-        rw written-bytes (bytes_as to y made-sized z (layout-ok to (f (book_of b)) made-bare (rw made-layout up) made.2))
+        let g : (f (book_of b)).sizes.layout ≡ from = ap (λ z. z.layout) made.1 ∙ facts.layout in
+        rw written-bytes (bytes_as to y (layout-sized to (f (book_of b)) made.0) z (layout-ok to (f (book_of b)) (rw g up) made.2))
 
 -- ---- there and back
 
@@ -92,26 +155,20 @@ unfolding room_number
 room_enough to b room n e h = rw (e, le-ltb room n h)
 
 -- a conversion that changes no field is undone by the one back, where that one asks for nothing that the book lacks
-module _ (from to : ℕ) (bare : name_count from ≡ 0) (there back : Book → ℕ) (b : List ℕ) (room : ℕ) (c : List ℕ) (small : (i : ℕ) → get_or b i 0 < 256)
+module _ (from to : ℕ) (there back : Book → ℕ) (b : List ℕ) (room : ℕ) (c : List ℕ) (small : (i : ℕ) → get_or b i 0 < 256)
     (e : converted from to there (λ x. x) b room ≡ accepted c) where
   known : FormFactsAs from b
-  known = facts_as from b small (given-form from to bare there (λ x. x) b room c small e)
-
-  no_cells : name_count (book_of b).sizes.layout ≡ 0
-  no_cells = ap name_count known.layout ∙ bare
-
-  bare-book : (book_of b).names ≡ []
-  bare-book = no_names (book_of b) known.holds.sized no_cells
+  known = facts_as from b small (given-form from to there (λ x. x) b room c small e)
 
   same-book : with_layout from (book_of c) ≡ book_of b
   same-book =
-      ap (λ (y : Book). with_layout from y) (fields_equal from to bare there (λ x. x) b room c small e keeps_same)
+      ap (λ (y : Book). with_layout from y) (fields_equal from to there (λ x. x) b room c small e keeps_same)
       ∙ ap (λ (g : ℕ). with_layout g (with_layout to (book_of b))) (sym known.layout)
-      ∙ layout-back to (book_of b) bare-book no_cells
+      ∙ layout-back to (book_of b)
 
   -- audit says of the book that was written what it says of the one that was given
   pub same-audit : audit (book_of c) ≡ audit (book_of b)
-  same-audit = rw (fields_equal from to bare there (λ x. x) b room c small e keeps_same) (layout-audit to (book_of b) bare-book)
+  same-audit = rw (fields_equal from to there (λ x. x) b room c small e keeps_same) (layout-audit to (book_of b))
 
   same_size : book_size (sizes_in from (sizes_of c)) ≡ length b
   unfolding book_of with_layout
@@ -122,13 +179,13 @@ module _ (from to : ℕ) (bare : name_count from ≡ 0) (there back : Book → �
   unfolding converted
   very_bytes up room' h z =
       rw (
-        written-form from to bare there (λ x. x) b room c small e keeps_same up,
+        written-form from to there (λ x. x) b room c small e keeps_same up,
         room_enough from c room' (length b) same_size h,
-        fields_equal from to bare there (λ x. x) b room c small e keeps_same,
+        fields_equal from to there (λ x. x) b room c small e keeps_same,
         z,
       )
       (ap (λ (r : List ℕ). accepted r)
-      (ap bytes (ap (λ (y : Book). with_layout from y) (sym (fields_equal from to bare there (λ x. x) b room c small e keeps_same)) ∙ same-book)
+      (ap bytes (ap (λ (y : Book). with_layout from y) (sym (fields_equal from to there (λ x. x) b room c small e keeps_same)) ∙ same-book)
       ∙ sym known.holds.same))
 
 -- the counts of layout 1 are bytes
@@ -146,13 +203,13 @@ counts-narrow b small e =
 -- layout 1 to 2 and back, for every book that is taken
 pub there_and_back : (b : List ℕ) (room room' : ℕ) (c : List ℕ) → ((i : ℕ) → get_or b i 0 < 256) → to_two b room ≡ accepted c
     → length b ≤ room' → to_one c room' ≡ accepted b
-unfolding to_two to_one narrow_number with_layout name_count
+unfolding to_two to_one narrow_number with_layout
 there_and_back b room room' c small e h =
-    very_bytes 1 2 refl (λ x. 0) narrow_number b room c small e refl room' h
-    (rw (counts-narrow b small (given-form 1 2 refl (λ x. 0) (λ x. x) b room c small e)))
+    very_bytes 1 2 (λ x. 0) narrow_number b room c small e refl room' h
+    (rw (counts-narrow b small (given-form 1 2 (λ x. 0) (λ x. x) b room c small e)))
 
 -- and layout 2 to 1 and back, where it goes back
 pub back-and-there : (b : List ℕ) (room room' : ℕ) (c : List ℕ) → ((i : ℕ) → get_or b i 0 < 256) → to_one b room ≡ accepted c
     → length b ≤ room' → to_two c room' ≡ accepted b
-unfolding to_two to_one name_count
-back-and-there b room room' c small e h = very_bytes 2 1 refl narrow_number (λ x. 0) b room c small e refl room' h refl
+unfolding to_two to_one
+back-and-there b room room' c small e h = very_bytes 2 1 narrow_number (λ x. 0) b room c small e refl room' h refl

@@ -18,7 +18,6 @@ use Rattle.claims.proofs.kept.DayLaws.{good-retention}
 use Rattle.model.specs.Enrol.{enrol_number}
 use Rattle.claims.proofs.agreement.Agree.{Fit}
 use Rattle.claims.proofs.form.FitParts.{fit_parts, parts-fit}
-use Rattle.claims.proofs.form.NamesFit.{names-kept, slots_same}
 use Rattle.claims.proofs.form.SlotsFit.{slots_kept}
 
 -- number 6, passed
@@ -58,7 +57,4 @@ enrol-fit {x} f v r ok =
       record_count = p.record_count;
       records = p.records;
       afters = p.afters;
-      cell_count = p.cell_count;
-      names = names-kept x (with_retention v r x) x.names (slots_same x (with_retention v r x) refl) p.names;
-      differ = p.differ;
     })

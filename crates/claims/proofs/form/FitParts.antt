@@ -10,8 +10,8 @@ use Rattle.words.specs.Blocks.{print_size}
 use Rattle.words.proofs.ChoiceLaws.{and_true, true_and}
 use Rattle.words.specs.Lists.{all}
 use Rattle.words.proofs.Places.{all-place, place-all, all_weaker}
-use Rattle.book.specs.Book.{volumes, Sizes, Entry, Name, Book, free_entry, text_size, no_name, name_count, entry_at, name_at, Sized}
-use Rattle.book.specs.Form.{sizes_ok, retention_ok, entry_ok, pbn_ok, rec_ok, afters_ok, slot_ok, days_ok, pairs_ok, name_ok, names_differ}
+use Rattle.book.specs.Book.{volumes, Sizes, Entry, Book, free_entry, entry_at, Sized}
+use Rattle.book.specs.Form.{sizes_ok, retention_ok, entry_ok, pbn_ok, rec_ok, afters_ok, slot_ok, days_ok, pairs_ok}
 use Rattle.book.specs.FormFacts.{BookParts}
 use Rattle.book.proofs.Clauses.{book-parts, parts-book}
 use Rattle.claims.proofs.agreement.Agree.{Fit}
@@ -23,10 +23,6 @@ entry_fit e = entry_ok e && eqb (length e.print) print_size
 -- a map in form with L cells
 unfoldable pub map_fit : Sizes → List ℕ → Bool
 map_fit z m = all (pbn_ok z.n) m && eqb (length m) z.l
-
--- a name cell in form with a whole name
-unfoldable pub name_fit : Book → Name → Bool
-name_fit x n = name_ok x n && eqb (length n.text) text_size
 
 pub record FitParts (x : Book) : Type 0 where
   pub sizes : sizes_ok x.sizes ≡ true
@@ -45,9 +41,6 @@ pub record FitParts (x : Book) : Type 0 where
   pub record_count : length x.records ≤ x.sizes.j
   pub records : all (rec_ok x.sizes) x.records ≡ true
   pub afters : afters_ok x.slots x.records ≡ true
-  pub cell_count : length x.names ≡ name_count x.sizes.layout
-  pub names : all (name_fit x) x.names ≡ true
-  pub differ : names_differ x.names ≡ true
 
 -- ---- one way
 
@@ -66,14 +59,6 @@ sized-maps x s e =
     true_and (all (pbn_ok x.sizes.n) (get_or x.maps v [])) (eqb (length (get_or x.maps v [])) x.sizes.l)
     (all-place (all (pbn_ok x.sizes.n)) x.maps [] v e h)
     (eq-eqb (length (get_or x.maps v [])) x.sizes.l (s.cells v (rw s.maps at h))))
-
-sized-names : (x : Book) → Sized x → all (name_ok x) x.names ≡ true → all (name_fit x) x.names ≡ true
-unfolding name_fit
-sized-names x s e =
-    place-all (name_fit x) x.names no_name (λ q h.
-    true_and (name_ok x (name_at x.names q)) (eqb (length (name_at x.names q).text) text_size)
-    (all-place (name_ok x) x.names no_name q e h)
-    (eq-eqb (length (name_at x.names q).text) text_size (s.texts q (rw s.names at h))))
 
 pub fit_parts : {x : Book} → Fit x → FitParts x
 fit_parts {x} f =
@@ -95,9 +80,6 @@ fit_parts {x} f =
       record_count = f.sized.records;
       records = p.records;
       afters = p.afters;
-      cell_count = f.sized.names;
-      names = sized-names x f.sized p.names;
-      differ = p.differ;
     }
 
 -- ---- the other way
@@ -119,14 +101,6 @@ module _ {x : Book} (p : FitParts x) where
       (and_true (all (pbn_ok x.sizes.n) m) (eqb (length m) x.sizes.l)
       (all-place (map_fit x.sizes) x.maps [] v p.maps (rw p.map_count h))).1
 
-  parts-text : (q : ℕ) → q < name_count x.sizes.layout → length (name_at x.names q).text ≡ text_size
-  unfolding name_fit
-  parts-text q h =
-      let n = name_at x.names q in
-      eqb-true (length n.text) text_size
-      (and_true (name_ok x n) (eqb (length n.text) text_size)
-      (all-place (name_fit x) x.names no_name q p.names (rw p.cell_count h))).1
-
   parts-sized : Sized x
   parts-sized = record {
     retentions = p.retention_count;
@@ -136,12 +110,10 @@ module _ {x : Book} (p : FitParts x) where
     cells = parts-cells;
     slots = p.slot_count;
     records = p.record_count;
-    names = p.cell_count;
-    texts = parts-text;
   }
 
   parts_tests : BookParts x
-  unfolding entry_fit map_fit name_fit
+  unfolding entry_fit map_fit
   parts_tests = record {
     day = p.day;
     cursor = p.cursor;
@@ -156,9 +128,6 @@ module _ {x : Book} (p : FitParts x) where
     pairs = p.pairs;
     records = p.records;
     afters = p.afters;
-    names =
-        all_weaker (name_fit x) (name_ok x) x.names (λ n k. (and_true (name_ok x n) (eqb (length n.text) text_size) k).0) p.names;
-    differ = p.differ;
   }
 
   pub parts-fit : Fit x

@@ -9,14 +9,13 @@ use Rattle.words.specs.Blocks.{unmapped}
 use Rattle.words.proofs.ChoiceLaws.{true_and}
 use Rattle.words.specs.Lists.{all}
 use Rattle.words.proofs.Places.{all_replicate}
-use Rattle.book.specs.Book.{volumes, Sizes, free_entry, no_name, name_count}
+use Rattle.book.specs.Book.{volumes, Sizes, free_entry}
 use Rattle.book.specs.Form.{sizes_ok, retention_ok, pbn_ok}
 use Rattle.book.proofs.SizesIn.{sizes-facts}
 use Rattle.book.specs.Next.{fresh}
 use Rattle.claims.proofs.agreement.Agree.{Fit}
 use Rattle.claims.proofs.form.Bounds.{unmapped-ok}
-use Rattle.claims.proofs.form.FitParts.{entry_fit, map_fit, name_fit, parts-fit}
-use Rattle.claims.proofs.form.NamesFit.{no-name-fit, none_differ}
+use Rattle.claims.proofs.form.FitParts.{entry_fit, map_fit, parts-fit}
 use Rattle.claims.proofs.form.EntriesFit.{free-fit}
 
 unmapped-fit : (z : Sizes) → map_fit z (replicate z.l unmapped) ≡ true
@@ -45,7 +44,4 @@ fresh-fit z ok = parts-fit (record {
   record_count = zero-le;
   records = refl;
   afters = refl;
-  cell_count = length-replicate (name_count z.layout) no_name;
-  names = all_replicate (name_fit (fresh z)) (name_count z.layout) no_name (no-name-fit (fresh z));
-  differ = none_differ (name_count z.layout);
 })

@@ -133,7 +133,6 @@ module _ (x : Book) (k v until lbn before : ℕ) (inside : v < volumes) (low : u
         sizes = w.sizes;
         retentions = w.retentions;
         slots = w.slots;
-        names = w.names;
         cursor = w.cursor;
         entry_count = length-set (lower until before es) d.pbn _ ∙ length-lower until before es ∙ w.entry_count;
         entries =

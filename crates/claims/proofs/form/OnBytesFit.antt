@@ -25,8 +25,6 @@ use Rattle.model.specs.Restore.{restore}
 use Rattle.model.specs.Audit.{audit}
 use Rattle.model.specs.OnBytes.{number_of, pool_number, spare_number, format_number, format_bytes, enrol_bytes, backed_bytes, backup_bytes, retired_bytes, retire_bytes}
 use Rattle.model.specs.OnBytes.{collected_bytes, collect_bytes, read_bytes, read_number_bytes, read_place_bytes, restore_bytes, audit_bytes}
-use Rattle.model.specs.OnBytes.{naming_bytes, dropping_bytes}
-use Rattle.model.specs.Naming.{name, unname}
 use Rattle.model.specs.Retire.{retire}
 
 -- an accepted format leaves the bytes of a fresh book
@@ -63,14 +61,6 @@ module _ {x : Book} (form : form_number (bytes x) ≡ 0) (book : book_of (bytes 
     pub retire-on-bytes : (v t : ℕ) → retire_bytes (bytes x) spare v t ≡ and_then (retire x v t) (λ d. accepted (retired_bytes d))
     unfolding retire_bytes
     retire-on-bytes v t = rw (form, spare-passes, book)
-
-    pub name-on-bytes : (v k : ℕ) (t : List ℕ) → naming_bytes (bytes x) spare v k t ≡ and_then (name x v k t) (λ y. accepted (bytes y))
-    unfolding naming_bytes
-    name-on-bytes v k t = rw (form, spare-passes, book)
-
-    pub drop-on-bytes : (t : List ℕ) → dropping_bytes (bytes x) spare t ≡ and_then (unname x t) (λ y. accepted (bytes y))
-    unfolding dropping_bytes
-    drop-on-bytes t = rw (form, spare-passes, book)
 
   -- ---- with a pool
 

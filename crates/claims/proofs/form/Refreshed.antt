@@ -19,7 +19,7 @@ use Rattle.words.specs.Sections.{tab}
 use Rattle.book.proofs.Conditions.{slot-facts}
 use Rattle.book.proofs.Clauses.{book-parts, parts-book}
 use Rattle.book.specs.Book.{Entry, Slot, Rec, Book, Sized, no_print, free_entry, entry_at, retention_of}
-use Rattle.book.specs.Form.{retention_ok, entry_ok, slot_ok, backup_slots, name_ok}
+use Rattle.book.specs.Form.{retention_ok, entry_ok, slot_ok}
 use Rattle.book.specs.FormFacts.{BookParts}
 use Rattle.book.specs.Next.{with_layout, with_entries, expiry_as}
 use Rattle.model.specs.Audit.{has_before, due_of, until_in}
@@ -39,7 +39,6 @@ pub record AllButExpiries (x y : Book) : Type 0 where
   pub maps : y.maps ≡ x.maps
   pub slots : y.slots ≡ x.slots
   pub records : y.records ≡ x.records
-  pub names : y.names ≡ x.names
   pub entry_count : length y.entries ≡ length x.entries
   pub counts : (p : ℕ) → (entry_at y.entries p).count ≡ (entry_at x.entries p).count
   pub states : (p : ℕ) → (entry_at y.entries p).held ≡ (entry_at x.entries p).held
@@ -82,7 +81,6 @@ module _ (x : Book) where
       maps = refl;
       slots = refl;
       records = refl;
-      names = refl;
       entry_count = refreshed-count ∙ sym s.entries;
       counts = entry-same (λ e. e.count) (λ d e. refl);
       states = entry-same (λ e. e.held) (λ d e. refl);
@@ -143,7 +141,7 @@ module _ (x : Book) (parts : BookParts x) where
       (and_true (leb e.expiry 65000) used old).1
 
 pub keeps-refreshed : Keeps refreshed
-unfolding Keeps refreshed with_entries slot_ok name_ok backup_slots
+unfolding Keeps refreshed with_entries slot_ok
 keeps-refreshed x s e =
     let p = book-parts x e in
     let o = refreshed-others x s in (
@@ -155,8 +153,6 @@ keeps-refreshed x s e =
         cells = s.cells;
         slots = s.slots;
         records = s.records;
-        names = s.names;
-        texts = s.texts;
       },
       refl,
       parts-book (refreshed x) (record {
@@ -172,7 +168,5 @@ keeps-refreshed x s e =
         pairs = p.pairs;
         records = p.records;
         afters = p.afters;
-        names = p.names;
-        differ = p.differ;
       }),
     )

@@ -19,7 +19,7 @@ use Rattle.words.proofs.Counting.{count_set}
 use Rattle.words.proofs.Places.{get_or_replicated}
 use Rattle.words.specs.Lists.{all, count_of, last_of, bit, up_from}
 use Rattle.words.specs.Outcome.{accepted, and_then, unless}
-use Rattle.book.specs.Book.{volumes, Slot, Rec, Name, Book, entry_at, cell_at}
+use Rattle.book.specs.Book.{volumes, Slot, Rec, Book, entry_at, cell_at}
 use Rattle.book.specs.Form.{rec_ok, after_ok, afters_ok, enrolled, slot_ok}
 use Rattle.book.specs.Next.{cells_with, with_day, with_slot, with_entries, with_maps, with_record}
 use Rattle.book.proofs.SizesIn.{sizes-facts}
@@ -32,20 +32,18 @@ use Rattle.claims.proofs.agreement.Clearing.{is_mapped, empty-more, none_mapped}
 use Rattle.claims.proofs.agreement.Moving.{length-lower}
 use Rattle.claims.proofs.form.BackupFit.{volume-enrolled}
 use Rattle.claims.proofs.form.Bounds.{unmapped-ok}
-use Rattle.claims.proofs.form.FitParts.{entry_fit, map_fit, name_fit, fit_parts, parts-fit}
+use Rattle.claims.proofs.form.FitParts.{entry_fit, map_fit, fit_parts, parts-fit}
 use Rattle.claims.proofs.form.MoveFit.{lower-fit, row-fit, cell-ok, cells_fit, record-ok, records-more}
 use Rattle.claims.proofs.form.RetireAllowed.{MayRetire, may_retire}
 use Rattle.claims.proofs.form.RunFit.{until-low}
 use Rattle.claims.proofs.form.SlotsFit.{slot_ok_lem, slots_kept, days-more, slots-before, afters-more, pairs-more}
 use Rattle.claims.proofs.kept.DayLaws.{last-before}
-use Rattle.claims.proofs.form.NamesFit.{names-kept, slots-more}
 
 -- volume v's cells before LBN k were cleared from the book x
 pub record ClearFit (x : Book) (v k : ℕ) (y : Book) : Type 0 where
   pub sizes : y.sizes ≡ x.sizes
   pub retentions : y.retentions ≡ x.retentions
   pub slots : y.slots ≡ x.slots
-  pub names : y.names ≡ x.names
   pub cursor : y.cursor ≡ x.cursor
   pub entry_count : length y.entries ≡ x.sizes.n
   pub entries : all entry_fit y.entries ≡ true
@@ -75,7 +73,6 @@ module _ (x : Book) (v until : ℕ) (inside : v < volumes) (low : until ≤ 6500
       sizes = f.sizes;
       retentions = f.retentions;
       slots = f.slots;
-      names = f.names;
       cursor = f.cursor;
       entry_count = f.entry_count;
       entries = f.entries;
@@ -113,7 +110,6 @@ module _ (x : Book) (v until : ℕ) (inside : v < volumes) (low : until ≤ 6500
       sizes = f.sizes;
       retentions = f.retentions;
       slots = f.slots;
-      names = f.names;
       cursor = f.cursor;
       entry_count = length-lower until before y.entries ∙ f.entry_count;
       entries = lower-fit until before y.entries low f.entries (λ n. some);
@@ -238,11 +234,6 @@ module _ {x : Book} (fit : Fit x) (v t : ℕ) (ok : MayRetire x v t) (w : Book) 
         record_count = omega (arith, new-count, ok.records);
         records = rw f.sizes f.records;
         afters = afters-after;
-        cell_count = rw (f.names, f.sizes) p.cell_count;
-        names =
-            ap (λ (ns : List Name). all (name_fit y) ns) f.names
-            ∙ names-kept x y x.names (slots-more x y slot (ap (λ (ts : List Slot). ts ++ (slot ∷ [])) f.slots)) p.names;
-        differ = rw f.names p.differ;
       })
 
 -- ---- the whole call
@@ -259,7 +250,6 @@ start-clear {x} fit v =
       sizes = refl;
       retentions = refl;
       slots = refl;
-      names = refl;
       cursor = refl;
       entry_count = p.entry_count;
       entries = p.entries;

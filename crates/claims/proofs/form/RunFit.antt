@@ -54,7 +54,6 @@ module _ {x : Book} (fit : Fit x) where
         sizes = refl;
         retentions = refl;
         slots = refl;
-        names = refl;
         cursor = p.cursor;
         entry_count = p.entry_count;
         entries = p.entries;

@@ -2,7 +2,7 @@
 use Prim.Native.Nat.{ℕ, zero, suc, ◌+◌, ◌≤◌}
 use mathlib.Core.Path.{◌≡◌, refl, sym, ap, ◌∙◌}
 use mathlib.Core.Bool.{Bool, true, false, not, ◌&&◌, ◌||◌}
-use mathlib.Core.List.{List, [], ◌∷◌, ◌++◌, map}
+use mathlib.Core.List.{List, [], ◌∷◌, map}
 use native.Mathlib.Nat.{suc_inj, suc-ne-zero}
 use native.Mathlib.Omega.{arith}
 use lib.Dec.{leb, eqb}
@@ -12,18 +12,17 @@ use Rattle.words.proofs.ChoiceLaws.{and_true, true_and, not_both}
 use Rattle.words.proofs.Places.{all_weaker, all-up_from, up_from-all}
 use Rattle.words.specs.Blocks.{unmapped}
 use Rattle.words.specs.Choice.{if◌then◌else◌}
-use Rattle.words.specs.Lists.{all, some_of, those, count_of, joined, differ, up_from}
-use Rattle.book.specs.Book.{volumes, Entry, Slot, Name, Book, Sized, entry_at, retention_of}
+use Rattle.words.specs.Lists.{all, those, count_of, joined, differ, up_from}
+use Rattle.book.specs.Book.{volumes, Entry, Slot, Book, Sized, entry_at, retention_of}
 use Rattle.book.specs.Form.{later_ok, days_ok}
 use Rattle.book.specs.Next.{with_entries}
-use Rattle.model.specs.Audit.{maps_sound, no_maps, named_maps, count_sound, until_in, expiry_sound, prints_sound, cell_sound}
+use Rattle.model.specs.Audit.{maps_sound, no_maps, count_sound, until_in, expiry_sound, prints_sound, cell_sound}
 use Rattle.model.specs.Audit.{current_sound, backup_sound, backups_sound, audit}
 use Rattle.model.specs.AuditTwo.{kept_two, expiry_two, backup_two, backups_two, audit_two}
 use Rattle.model.specs.Convert.{refreshed}
 use Rattle.model.specs.Days.{kept}
 use Rattle.model.specs.Journal.{journal, slots_of, days, backup_count}
-use Rattle.model.specs.Names.{names_backup, is_named, is_kept}
-use Rattle.model.specs.Read.{image, image_of}
+use Rattle.model.specs.Read.{image}
 use Rattle.claims.proofs.form.Refreshed.{AllButExpiries, expiry-fresh, refreshed-others}
 use Rattle.claims.proofs.form.SlotsFit.{days_in, days-journal, days-above}
 use Rattle.claims.proofs.kept.JournalLaws.{until_in-book}
@@ -101,8 +100,8 @@ module _ (x : Book) (s : Sized x) where
   maps-sound = refl
 
   count_same : (p : ℕ) → count_sound y p ≡ count_sound x p
-  unfolding refreshed with_entries count_sound named_maps image_of image slots_of journal
-  count_same p = ap (λ (c : ℕ). eqb c (count_of (eqb p) (joined (x.maps ++ named_maps x)))) (others.counts p)
+  unfolding refreshed with_entries count_sound
+  count_same p = ap (λ (c : ℕ). eqb c (count_of (eqb p) (joined x.maps))) (others.counts p)
 
   prints-sound : prints_sound y ≡ prints_sound x
   unfolding prints_sound
@@ -116,12 +115,7 @@ module _ (x : Book) (s : Sized x) where
   unfolding refreshed with_entries current_sound
   current-sound = ap (λ (f : ℕ → Bool). all (all f) x.maps) cell_same
 
-  -- layout 2 has no names, so what is kept is so by its days
-  module _ (none : x.names ≡ []) (ok : days_ok x.slots ≡ true) where
-    by-days : (v k : ℕ) → is_kept y v k ≡ kept (days x v) (retention_of x v) x.day k
-    unfolding refreshed with_entries is_kept is_named days slots_of journal
-    by-days v k = ap (λ (ns : List Name). some_of (names_backup v k) ns || kept (days x v) (retention_of x v) x.day k) none
-
+  module _ (ok : days_ok x.slots ≡ true) where
     days-rise : (v : ℕ) → never_fall (days x v) ≡ true
     unfolding days slots_of journal
     days-rise v = rw (days-journal v [] x.slots x.records) (volume-days v x.slots ok)
@@ -132,7 +126,7 @@ module _ (x : Book) (s : Sized x) where
         let ds = days x v in
         let r = retention_of x v in
         let cells : (ℕ → Bool) → Bool = λ f. all (λ lbn. f (image x v (suc k) lbn)) (up_from 0 x.sizes.l) in
-        (λ i. not (by-days v (suc k) i) || cells (cell_same i))
+        ap (λ (f : ℕ → Bool). not (kept ds r x.day (suc k)) || cells f) cell_same
         ∙ go (kept ds r x.day (suc k)) (kept_two ds r x.day (suc k)) (cells (cell_sound x)) (kept-was ds r x.day k (days-rise v)) e
       where
         go : (now was rest : Bool) → (now ≡ true → was ≡ true) → (not was || rest) ≡ true → (not now || rest) ≡ true

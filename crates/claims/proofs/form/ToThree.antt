@@ -3,44 +3,36 @@
 use Prim.Native.Nat.{ℕ, ◌<◌}
 use mathlib.Core.Path.{◌≡◌, ap, refl}
 use mathlib.Core.Bool.{true}
-use mathlib.Core.List.{List, []}
+use mathlib.Core.List.{List}
 use lib.ListN.{get_or}
 use Rattle.words.specs.Lists.{all, up_from}
 use Rattle.words.specs.Outcome.{accepted}
-use Rattle.words.specs.Sections.{fit}
 use Rattle.book.proofs.FormFactLaws.{facts_as}
-use Rattle.book.specs.Book.{Name, no_name, name_count}
 use Rattle.book.specs.Form.{form_as}
 use Rattle.book.specs.FormFacts.{FormFactsAs}
 use Rattle.book.specs.Layout.{book_of}
-use Rattle.book.specs.Next.{sizes_in, with_layout, with_entries}
+use Rattle.book.specs.Next.{sizes_in, with_layout}
 use Rattle.model.specs.Audit.{expiry_sound, audit}
 use Rattle.model.specs.AuditTwo.{audit_two}
 use Rattle.model.specs.Convert.{refreshed, to_three}
-use Rattle.claims.proofs.form.ConvertFit.{given-form, fields_equal, written-form}
-use Rattle.claims.proofs.form.InLayout.{no_names, layout-expiries, layout-audit}
+use Rattle.claims.proofs.form.ConvertFit.{layout-expiries, layout-audit, given-form, fields_equal, written-form}
 use Rattle.claims.proofs.form.Refreshed.{AllButExpiries, refreshed-others, keeps-refreshed}
 use Rattle.claims.proofs.form.SoundStays.{fresh_audited, audit-stays}
 
 module _ (b : List ℕ) (room : ℕ) (c : List ℕ) (small : (i : ℕ) → get_or b i 0 < 256) (e : to_three b room ≡ accepted c) where
   facts : FormFactsAs 2 b
-  unfolding to_three name_count
-  facts = facts_as 2 b small (given-form 2 3 refl (λ x. 0) refreshed b room c small e)
-
-  -- layout 2 has no names
-  none : (book_of b).names ≡ []
-  unfolding name_count
-  none = no_names (book_of b) facts.holds.sized (ap name_count facts.layout)
+  unfolding to_three
+  facts = facts_as 2 b small (given-form 2 3 (λ x. 0) refreshed b room c small e)
 
   -- "Layout is 3; the converter from 2 works every expiry out afresh from the journal"
   pub three-written : book_of c ≡ with_layout 3 (refreshed (book_of b))
-  unfolding to_three name_count
-  three-written = fields_equal 2 3 refl (λ x. 0) refreshed b room c small e keeps-refreshed
+  unfolding to_three
+  three-written = fields_equal 2 3 (λ x. 0) refreshed b room c small e keeps-refreshed
 
   -- it writes a book of layout 3 in form
   pub three-form : form_as 3 c ≡ 0
-  unfolding to_three name_count
-  three-form = written-form 2 3 refl (λ x. 0) refreshed b room c small e keeps-refreshed refl
+  unfolding to_three
+  three-form = written-form 2 3 (λ x. 0) refreshed b room c small e keeps-refreshed refl
 
   -- with every other field equal
   pub others_equal : AllButExpiries (with_layout 3 (book_of b)) (book_of c)
@@ -55,7 +47,6 @@ module _ (b : List ℕ) (room : ℕ) (c : List ℕ) (small : (i : ℕ) → get_o
         maps = o.maps;
         slots = o.slots;
         records = o.records;
-        names = ap (λ (ns : List Name). fit no_name (name_count 3) ns) o.names;
         entry_count = o.entry_count;
         counts = o.counts;
         states = o.states;
@@ -66,12 +57,8 @@ module _ (b : List ℕ) (room : ℕ) (c : List ℕ) (small : (i : ℕ) → get_o
   pub expiries_audited : all (expiry_sound (book_of c)) (up_from 0 (book_of c).sizes.n) ≡ true
   expiries_audited = rw (three-written, layout-expiries 3 (refreshed (book_of b))) (fresh_audited (book_of b))
 
-  fresh-none : (refreshed (book_of b)).names ≡ []
-  unfolding refreshed with_entries
-  fresh-none = none
-
   -- what was sound by the rules of layout 2 is sound
   pub sound-stays : audit_two (book_of b) ≡ true → audit (book_of c) ≡ true
   sound-stays h =
-      rw (three-written, layout-audit 3 (refreshed (book_of b)) fresh-none)
-      (audit-stays (book_of b) facts.holds.sized none facts.parts.days h)
+      rw (three-written, layout-audit 3 (refreshed (book_of b)))
+      (audit-stays (book_of b) facts.holds.sized facts.parts.days h)

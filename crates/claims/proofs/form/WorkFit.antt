@@ -30,7 +30,6 @@ pub record WorkFit (x : Book) (k : ℕ) (w : Work) : Type 0 where
   pub sizes : w.book.sizes ≡ x.sizes
   pub retentions : w.book.retentions ≡ x.retentions
   pub slots : w.book.slots ≡ x.slots
-  pub names : w.book.names ≡ x.names
   pub cursor : w.book.cursor < x.sizes.n
   pub entry_count : length w.book.entries ≡ x.sizes.n
   pub entries : all entry_fit w.book.entries ≡ true
@@ -69,7 +68,6 @@ module _ (x : Book) (k : ℕ) (c : Change) (good : ChangeFit x.sizes.l c) (w : W
           sizes = f.sizes;
           retentions = f.retentions;
           slots = f.slots;
-          names = f.names;
           cursor = rw n (mod-lt (suc p) (omega arith));
           entry_count = length-set w.book.entries p (taken p) ∙ f.entry_count;
           entries = all_set entry_fit w.book.entries p (taken p) f.entries (taken-fit p);

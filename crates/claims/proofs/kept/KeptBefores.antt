@@ -1,5 +1,5 @@
--- Which blocks the backups name that are kept by their days: besides those of the current maps, the befores of the first record of each LBN in
--- each backup that still reaches the day. So audit's last sentence takes one pass over the records.
+-- Which blocks the kept backups name: besides those of the current maps, the befores of the first record of each LBN in each backup that
+-- still reaches the day. So audit's last sentence takes one pass over the records.
 use Prim.Native.Nat.{ℕ, zero, suc, ◌≤◌, ◌<◌}
 use mathlib.Core.Path.{◌≡◌, refl, sym, ap, ◌∙◌}
 use mathlib.Core.Logic.{◌≢◌, ◌⊎◌, inl, inr}
@@ -19,8 +19,7 @@ use Rattle.book.specs.Book.{volumes, Book, cell_at, retention_of}
 use Rattle.model.specs.Days.{kept}
 use Rattle.model.specs.Journal.{Backup, journal, slots_in, slots_of, backup_count, days}
 use Rattle.model.specs.Read.{records_of, image}
-use Rattle.model.specs.Audit.{due_of, cell_sound, current_sound}
-use Rattle.claims.proofs.kept.ByDays.{by_days, all_by_days}
+use Rattle.model.specs.Audit.{due_of, cell_sound, current_sound, backup_sound, backups_sound}
 use Rattle.model.specs.Plain.{Taken, days_of, maps_of}
 use Rattle.claims.proofs.agreement.Agree.{images_of}
 use Rattle.claims.proofs.kept.Sound.{Days}
@@ -188,15 +187,15 @@ module _ (x : Book) where
         pick p v l hl (inr a) = taken-held p v l (journal x) hl ok a
 
     -- the image behind a slot is sound: a kept backup's, or the current map behind the retirement
-    slot-sound : (v k l : ℕ) → k < length (days x v) → l < x.sizes.l → all (by_days x v) (up_from 1 (backup_count x v)) ≡ true
+    slot-sound : (v k l : ℕ) → k < length (days x v) → l < x.sizes.l → all (backup_sound x v) (up_from 1 (backup_count x v)) ≡ true
         → kept (days x v) (retention_of x v) x.day (suc k) ≡ true → cell_sound x (image x v (suc k) l) ≡ true
-    unfolding by_days
+    unfolding backup_sound
     slot-sound v k l hk hl row e = go (ltb k (backup_count x v)) refl
       where
         go : (t : Bool) → ltb k (backup_count x v) ≡ t → cell_sound x (image x v (suc k) l) ≡ true
         go true f =
             let b = ltb-true k (backup_count x v) f in
-            let s = up_from-all (by_days x v) 1 (backup_count x v) row (suc k) (omega arith) (omega arith) in
+            let s = up_from-all (backup_sound x v) 1 (backup_count x v) row (suc k) (omega arith) (omega arith) in
             let cells : all (λ j. cell_sound x (image x v (suc k) j)) (up_from 0 x.sizes.l) ≡ true = rw e at s in
             up_from-all (λ j. cell_sound x (image x v (suc k) j)) 0 x.sizes.l cells l (omega arith) (omega arith)
         go false f =
@@ -204,8 +203,8 @@ module _ (x : Book) where
             ap (cell_sound x) (image-end x v (suc k) l (omega (arith, count_next x v (g.ends v)))) ∙ current-cell v l
 
     -- .. and the taken blocks are held, where every image of a kept backup is sound
-    block_held : all_by_days x ≡ true → Held (journal x)
-    unfolding all_by_days by_days
+    block_held : backups_sound x ≡ true → Held (journal x)
+    unfolding backups_sound backup_sound
     block_held ok p v l hv hl n e =
         let r = retention_of x v in
         let a = kept-or-taken p v l hv n ∙ or_r (eqb p (cell_at x.maps v l)) (taken_at p r x.day l (slots_in v (journal x))) e in
@@ -213,21 +212,21 @@ module _ (x : Book) where
         let k = w.0 in
         let hk : k < length (days x v) = omega (arith, count_images v, w.1.0) in
         let hb : k < length (slots_in v (journal x)) = omega (arith, length_images_of none (slots_in v (journal x)), w.1.0) in
-        let row = each_at (λ v. all (by_days x v) (up_from 1 (backup_count x v))) 0 volumes
-        (sym (all-each (λ v. all (by_days x v) (up_from 1 (backup_count x v))) volumes) ∙ ok) v (omega arith) hv in
+        let row = each_at (λ v. all (backup_sound x v) (up_from 1 (backup_count x v))) 0 volumes
+        (sym (all-each (λ v. all (backup_sound x v) (up_from 1 (backup_count x v))) volumes) ∙ ok) v (omega arith) hv in
         let c = slot-sound v k l hk hl row (rw (days_images v) w.1.1) in
         ap (cell_sound x) (eqb-true p (get_or (get_or (maps_of (images v)) k none) l unmapped) w.1.2 ∙ sym (image-cell v k l hv hb)) ∙ c
 
-    pub kept-befores : all (taken_sound x) (journal x) ≡ all_by_days x
-    unfolding all_by_days by_days
+    pub kept-befores : all (taken_sound x) (journal x) ≡ backups_sound x
+    unfolding backups_sound backup_sound
     kept-befores =
-        same_test (all (taken_sound x) (journal x)) (all_by_days x)
-        (λ ok. all-up_from (λ v. all (by_days x v) (up_from 1 (backup_count x v))) 0 volumes
-        (λ v _ hv. all-up_from (by_days x v) 1 (backup_count x v) (λ k i j. at ok v k (omega arith) i (omega (arith, count-within x v)))))
+        same_test (all (taken_sound x) (journal x)) (backups_sound x)
+        (λ ok. all-up_from (λ v. all (backup_sound x v) (up_from 1 (backup_count x v))) 0 volumes
+        (λ v _ hv. all-up_from (backup_sound x v) 1 (backup_count x v) (λ k i j. at ok v k (omega arith) i (omega (arith, count-within x v)))))
         (λ ok. held-taken (journal x) g.volumes (block_held ok))
       where
         at : all (taken_sound x) (journal x) ≡ true → (v k : ℕ) → v < volumes → 1 ≤ k → k < suc (length (days x v))
-            → by_days x v k ≡ true
+            → backup_sound x v k ≡ true
         at ok v zero hv i j = absurd (omega arith)
         at ok v (suc k) hv i j = go (kept (days x v) (retention_of x v) x.day (suc k)) refl
           where

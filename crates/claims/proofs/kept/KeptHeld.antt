@@ -1,5 +1,5 @@
--- No current map, no kept backup and no named one names a free block.
-use Prim.Native.Nat.{ℕ, zero, suc, ◌≤◌, ◌<◌, ◌-◌}
+-- No current map and no kept backup names a free block.
+use Prim.Native.Nat.{ℕ, suc, ◌<◌, ◌-◌}
 use mathlib.Core.Path.{◌≡◌, refl, sym, ap, ◌∙◌}
 use mathlib.Core.Logic.{◌⊎◌, inl, inr}
 use mathlib.Core.Bool.{Bool, true, false, ◌||◌}
@@ -11,20 +11,14 @@ use Rattle.words.specs.Blocks.{unmapped}
 use Rattle.words.proofs.ChoiceLaws.{or_cases, or_l, or_r, not_both}
 use Rattle.words.specs.Lists.{some_of}
 use Rattle.words.proofs.Places.{place-some}
-use Rattle.words.proofs.SectionLaws.{length-tab, get_or-tab}
-use Rattle.words.proofs.Tests.{or_neither}
 use Rattle.book.specs.Book.{volumes, Book, entry_at, cell_at, retention_of}
 use Rattle.book.specs.Form.{pbn_ok}
 use Rattle.model.specs.Days.{kept}
 use Rattle.model.specs.Journal.{journal, slots_in, days, backup_count}
-use Rattle.model.specs.Audit.{cell_sound, named_maps}
-use Rattle.model.specs.Names.{is_named, is_kept}
-use Rattle.model.specs.Read.{image, image_of}
+use Rattle.model.specs.Audit.{cell_sound}
 use Rattle.model.specs.Plain.{Plain, taken_of, maps_of, no_map, names, cell}
 use Rattle.claims.proofs.agreement.Agree.{Agree, named, reaches}
 use Rattle.claims.proofs.agreement.AgreeLaws.{days-agree, backups-agree, ends-agree, cell_agree}
-use Rattle.claims.proofs.agreement.ImageAgree.{image-agree}
-use Rattle.claims.proofs.kept.NamesThere.{named_some}
 use Rattle.claims.proofs.kept.KeptCells.{kept_at, taken_at}
 use Rattle.claims.proofs.kept.KeptNames.{cell-names}
 use Rattle.claims.proofs.kept.KeptNumbers.{number-kept}
@@ -34,20 +28,13 @@ use Rattle.claims.proofs.form.Bounds.{image-cells}
 use native.Mathlib.Omega.{arith}
 
 module _ {x : Book} {pool : List ℕ} {q : Plain} (g : Agree x pool q) where
-  -- a free block is in none of the maps that counts count
-  free-unnamed : (p : ℕ) → p < x.sizes.n → (entry_at x.entries p).held ≡ false
-      → (some_of (names p) x.maps ≡ false) × (some_of (names p) (named_maps x) ≡ false)
-  free-unnamed p h f =
-      or_neither (some_of (names p) x.maps) (some_of (names p) (named_maps x))
-      (not-true (some_of (names p) x.maps || some_of (names p) (named_maps x)) (sym (named_none x p) ∙ eq-eqb (named x p) 0 (g.free p h f).0))
-
   -- a free block is named by no current map, and was taken by no backup that reaches the day
   not_named : (p v l : ℕ) → p < x.sizes.n → v < volumes → eqb p (cell_at x.maps v l) ≡ true → (entry_at x.entries p).held ≡ false → ⊥
   not_named p v l h hv e f =
       let n = pbn_mapped x p g.fit.sizes h in
       not_both (some_of (names p) x.maps)
       (place-some (names p) x.maps [] v (rw g.fit.sized.maps hv) (cell-names p l (get_or x.maps v []) n e))
-      (free-unnamed p h f).0
+      (not-true (some_of (names p) x.maps) (sym (named_none x p) ∙ eq-eqb (named x p) 0 (g.free p h f).0))
 
   not_taken : (p v l : ℕ) → p < x.sizes.n → taken_at p (retention_of x v) x.day l (slots_in v (journal x)) ≡ true
       → (entry_at x.entries p).held ≡ false → ⊥
@@ -70,7 +57,7 @@ module _ {x : Book} {pool : List ℕ} {q : Plain} (g : Agree x pool q) where
       let p = cell_at x.maps v l in
       held-unless p ok (λ h f. not_named p v l h hv (eq-eqb p p refl) f)
 
-  kept-held : (v k l : ℕ) → v < volumes → k < backup_count x v → kept (days x v) (retention_of x v) x.day (suc k) ≡ true
+  pub kept-held : (v k l : ℕ) → v < volumes → k < backup_count x v → kept (days x v) (retention_of x v) x.day (suc k) ≡ true
       → cell_sound x (cell q v (suc k) l) ≡ true
   kept-held v k l hv hk e = held-unless p ok bad
     where
@@ -102,37 +89,3 @@ module _ {x : Book} {pool : List ℕ} {q : Plain} (g : Agree x pool q) where
           go : (eqb p (cell_at x.maps v l) ≡ true) ⊎ (taken_at p (retention_of x v) x.day l (slots_in v (journal x)) ≡ true) → ⊥
           go (inl e) = not_named p v l h hv e f
           go (inr e) = not_taken p v l h e f
-
-  -- the blocks of a named backup have counts
-  named-held : (v k l : ℕ) → v < volumes → k < backup_count x v → l < x.sizes.l → is_named x v (suc k) ≡ true
-      → cell_sound x (image x v (suc k) l) ≡ true
-  unfolding image_of
-  named-held v k l hv hk hl named = held-unless p ok bad
-    where
-      p : ℕ
-      p = image x v (suc k) l
-
-      ok : pbn_ok x.sizes.n p ≡ true
-      ok = ap (pbn_ok x.sizes.n) (image-agree g v (suc k) l hv (omega arith) (omega arith) ∙ cell_agree g v k l hv hk) ∙ image-cells x v k l g.fit.form
-
-      here : names p (image_of x v (suc k)) ≡ true
-      here =
-          place-some (eqb p) (image_of x v (suc k)) unmapped l (rw (length-tab x.sizes.l (image x v (suc k))) hl)
-          (eq-eqb p (get_or (image_of x v (suc k)) l unmapped) (sym (get_or-tab x.sizes.l (image x v (suc k)) l unmapped hl)))
-
-      bad : p < x.sizes.n → (entry_at x.entries p).held ≡ false → ⊥
-      bad h f =
-          not_both (some_of (names p) (named_maps x)) (named_some x v (suc k) (names p) named here) (free-unnamed p h f).1
-
-  -- "A named backup counts as kept in every rule"
-  pub image-held : (v k l : ℕ) → v < volumes → 0 < k → k ≤ backup_count x v → l < x.sizes.l → is_kept x v k ≡ true
-      → cell_sound x (image x v k l) ≡ true
-  unfolding is_kept
-  image-held v zero l hv z hk hl e = absurd (omega arith)
-  image-held v (suc k) l hv z hk hl e =
-      go (or_cases (is_named x v (suc k)) (kept (days x v) (retention_of x v) x.day (suc k)) e)
-    where
-      go : (is_named x v (suc k) ≡ true) ⊎ (kept (days x v) (retention_of x v) x.day (suc k) ≡ true) → cell_sound x (image x v (suc k) l) ≡ true
-      go (inl n) = named-held v k l hv (omega arith) hl n
-      go (inr d) =
-          ap (cell_sound x) (image-agree g v (suc k) l hv (omega arith) hk) ∙ kept-held v k l hv (omega arith) d

@@ -1,5 +1,5 @@
--- Collect's test and the plain store's mark: a held block has count 0 and an expiry before the day exactly when no current map, no
--- backup kept on that day and no named one names it.
+-- Collect's test and the plain store's mark: a held block has count 0 and an expiry before the day exactly when no current map and no
+-- backup kept on that day names it.
 use Prim.Native.Nat.{ℕ, zero, suc, ◌≤◌, ◌<◌}
 use mathlib.Core.Path.{◌≡◌, refl, sym, ap, ◌∙◌}
 use mathlib.Core.Logic.{◌≢◌}
@@ -10,32 +10,28 @@ use lib.Dec.{leb, ltb, eqb, leb-zero}
 use lib.ListN.{get_or}
 use borrow.Author.Tests.{eqb-true, leb-true, leb-false, lt-ltb, le-ltb}
 use Rattle.words.specs.Blocks.{unmapped}
-use Rattle.words.proofs.ChoiceLaws.{same_test, not_both, or_no, or_r}
-use Rattle.words.proofs.Appends.{some_of_append}
+use Rattle.words.proofs.ChoiceLaws.{same_test, not_both}
 use Rattle.words.specs.Lists.{some_of, joined, up_from}
 use Rattle.words.proofs.Places.{place-some, count_of-none, some_of-joined}
 use Rattle.book.specs.Book.{volumes, Book, entry_at, cell_at, retention_of}
 use Rattle.book.specs.Form.{sizes_ok}
 use Rattle.book.proofs.SizesIn.{sizes-facts}
 use Rattle.model.specs.Journal.{journal, slots_in}
-use Rattle.model.specs.Audit.{no_maps, named_maps, counted_maps}
+use Rattle.model.specs.Audit.{no_maps}
 use Rattle.model.specs.Plain.{Plain, retention_at, taken_of, names, kept_names, marked, no_map}
 use Rattle.claims.proofs.agreement.Agree.{Agree, named, reaches}
 use Rattle.claims.proofs.kept.TakenLaws.{some-volume, volume-some}
 use Rattle.claims.proofs.kept.Replays.{slots_in-days, backups-linked}
 use Rattle.claims.proofs.agreement.AgreeLaws.{length-no_maps, sounds_agree, taken-agree, emptied_agree, map-after, maps-agree, retention-agree}
-use Rattle.claims.proofs.agreement.ImageAgree.{named-agree}
 use Rattle.claims.proofs.kept.KeptCells.{kept_at, taken_at, kept-cell}
 use Rattle.claims.proofs.kept.KeptNames.{cell-names, kept-names-cell, cell-kept-names}
 use Rattle.claims.proofs.kept.Reaches.{reaches_by, until-reaches, taken-reaches, reaches-taken}
 use Rattle.claims.proofs.kept.TakenIn.{kept_taken_in}
 
 -- counts and names
-pub named_none : (x : Book) (p : ℕ) → eqb (named x p) 0 ≡ not (some_of (names p) x.maps || some_of (names p) (named_maps x))
+pub named_none : (x : Book) (p : ℕ) → eqb (named x p) 0 ≡ not (some_of (names p) x.maps)
 unfolding named
-named_none x p =
-    count_of-none (eqb p) (joined (counted_maps x))
-    ∙ ap not (some_of-joined (eqb p) (counted_maps x) ∙ some_of_append (names p) x.maps (named_maps x))
+named_none x p = count_of-none (eqb p) (joined x.maps) ∙ ap not (some_of-joined (eqb p) x.maps)
 
 ltb_not_nat_le : (a b : ℕ) → ltb a b ≡ not (leb b a)
 ltb_not_nat_le a b = go (leb b a) refl
@@ -115,19 +111,14 @@ module _ {x : Book} {pool : List ℕ} {q : Plain} (g : Agree x pool q) where
   pub over-marked : (t p : ℕ) → x.day ≤ t → p < x.sizes.n → (entry_at x.entries p).held ≡ true
       → (eqb (entry_at x.entries p).count 0 && ltb (entry_at x.entries p).expiry t) ≡ not (marked q t p)
   unfolding marked
-  over-marked t p late h k =
-      rw (g.counts p h, named_none x p, maps-agree g, named-agree g p)
-      (go (some_of (names p) x.maps) (some_of (names p) (named_maps x)) refl refl)
+  over-marked t p late h k = rw (g.counts p h, named_none x p, maps-agree g) (go (some_of (names p) x.maps) refl)
     where
       expiry : ℕ
       expiry = (entry_at x.entries p).expiry
 
-      go : (s n : Bool) → some_of (names p) x.maps ≡ s → some_of (names p) (named_maps x) ≡ n
-          → (not (s || n) && ltb expiry t) ≡ not ((s || some_of (kept_in q p t) (up_from 0 volumes)) || n)
-      go true n e f = refl
-      go false true e f = ap not (sym (or_r (some_of (kept_in q p t) (up_from 0 volumes)) true refl))
-      go false false e f =
+      go : (s : Bool) → some_of (names p) x.maps ≡ s → (not s && ltb expiry t) ≡ not (s || some_of (kept_in q p t) (up_from 0 volumes))
+      go true e = refl
+      go false e =
           ltb_not_nat_le expiry t
-          ∙ ap not (reached t p late h k (eqb-true (named x p) 0 (named_none x p ∙ rw (e, f)))
-          ∙ sym (kept-reaches t p (pbn_mapped x p g.fit.sizes h) e)
-          ∙ sym (or_no (some_of (kept_in q p t) (up_from 0 volumes))))
+          ∙ ap not (reached t p late h k (eqb-true (named x p) 0 (named_none x p ∙ ap not e))
+          ∙ sym (kept-reaches t p (pbn_mapped x p g.fit.sizes h) e))

@@ -24,7 +24,7 @@ use Rattle.model.specs.JournalAt.{first_before}
 use Rattle.claims.proofs.kept.JournalAtLaws.{first_before_append}
 
 -- one backup undone, and all of them
-pub undone : (l : ℕ) (m : List ℕ) (rs : List Rec) → Sound m rs → first_before l rs (get_or (applied m rs) l unmapped) ≡ get_or m l unmapped
+undone : (l : ℕ) (m : List ℕ) (rs : List Rec) → Sound m rs → first_before l rs (get_or (applied m rs) l unmapped) ≡ get_or m l unmapped
 unfolding Sound
 undone l m [] s = refl
 undone l m (r ∷ rs) s = go (eqb r.lbn l) refl (undone l (set m r.lbn r.after) rs s.2)

@@ -14,11 +14,11 @@ use Rattle.words.specs.Choice.{if◌then◌else◌}
 use Rattle.words.specs.Lists.{some_of, up_from}
 use Rattle.words.specs.Outcome.{Outcome, refused, accepted, and_then, unless}
 use Rattle.words.specs.Sections.{flat}
-use Rattle.book.specs.Book.{Book}
+use Rattle.book.specs.Book.{Book, retention_of}
 use Rattle.book.specs.Form.{form_number}
 use Rattle.book.specs.Layout.{book_of}
-use Rattle.model.specs.Journal.{no_volume, backup_count}
-use Rattle.model.specs.Names.{is_kept}
+use Rattle.model.specs.Days.{kept}
+use Rattle.model.specs.Journal.{days, no_volume, backup_count}
 use Rattle.model.specs.Kept.{kept_number}
 use Rattle.model.specs.OnBytes.{pool_number, restore_bytes}
 use Rattle.model.specs.Pool.{block_at}
@@ -78,7 +78,7 @@ module _ (x : Book) (pool : List ℕ) (v k : ℕ) where
       ≡ unless (kept_number x v k) (unless (if leb x.sizes.l lbn then 17 else if gone_at lbn then 18 else 0) (accepted (block_of lbn)))
   unfolding read read_number kept_number
   read-order lbn =
-      numbers-then (no_volume x v) (eqb k 0 || ltb (backup_count x v) k) (is_kept x v k) _
+      numbers-then (no_volume x v) (eqb k 0 || ltb (backup_count x v) k) (kept (days x v) (retention_of x v) x.day k) _
       (accepted (block_of lbn))
 
   pub read_kept : (lbn : ℕ) → kept_number x v k ≡ 0 → lbn < x.sizes.l → read x pool v k lbn ≡ only_unmapped (gone_at lbn) (block_of lbn)

@@ -17,7 +17,7 @@ use Rattle.model.specs.Days.{kept_by, kept}
 use Rattle.claims.proofs.kept.DayLaws.{kept-own}
 use Rattle.model.specs.Calls.{block}
 use Rattle.model.specs.Sides.{read_answer}
-use Rattle.model.specs.History.{Sent, History, with_sent, kept_noted, last_block, sent_block, is_none, block_or, history_number, history_read}
+use Rattle.model.specs.History.{Sent, History, with_sent, days_noted, last_block, sent_block, is_none, block_or, history_number, history_read}
 
 -- ---- the last block sent
 
@@ -80,7 +80,7 @@ pub read-was-sent : (l : ℕ) (h : History) (d k lbn : ℕ) (b : List ℕ) → h
 unfolding history_read history_number read_answer
 read-was-sent l h d k lbn b e =
     go (eqb h.retention 0) (eqb k 0 || ltb (length h.sent) k)
-    (not (kept_noted h d k)) (leb l lbn)
+    (not (kept (days_noted h) h.retention d k)) (leb l lbn)
     (sent_block h k lbn) e
   where
     go : (t u v w : Bool) (o : Option (List ℕ))

@@ -12,16 +12,16 @@ use Rattle.words.specs.Choice.{if◌then◌else◌}
 use Rattle.words.specs.Lists.{some_of, up_from}
 use Rattle.words.specs.Outcome.{Outcome, refused, accepted, unless}
 use Rattle.words.specs.Sections.{flat}
-use Rattle.book.specs.Book.{Book}
-use Rattle.model.specs.Journal.{backup_count, no_volume}
+use Rattle.book.specs.Book.{Book, retention_of}
+use Rattle.model.specs.Days.{kept}
+use Rattle.model.specs.Journal.{days, backup_count, no_volume}
 use Rattle.model.specs.Kept.{kept_number}
-use Rattle.model.specs.Names.{is_kept}
 use Rattle.model.specs.OnBytes.{number_of}
 use Rattle.model.specs.Pool.{block_at}
 use Rattle.model.specs.Read.{image, read_number, read}
 use Rattle.model.specs.Restore.{run_number, reads_from, restore}
 use Rattle.model.specs.Sides.{read_answer}
-use Rattle.model.specs.History.{History, kept_noted, sent_block, is_none, block_or, history_number, history_read, history_run_number}
+use Rattle.model.specs.History.{History, days_noted, sent_block, is_none, block_or, history_number, history_read, history_run_number}
 use Rattle.model.specs.History.{history_restore}
 use Rattle.claims.proofs.kept.ReadNumbers.{numbers, numbers-then}
 use Rattle.claims.proofs.kept.RestoreLaws.{run_inside, only_unmapped, reads-joined}
@@ -63,7 +63,7 @@ module _ (x : Book) (pool : List ℕ) (v k d : ℕ) (h : History)
   abbrev sent_number : ℕ
   sent_number =
       numbers (eqb h.retention 0) (eqb k 0 || ltb (length h.sent) k)
-      (kept_noted h d k) 0
+      (kept (days_noted h) h.retention d k) 0
 
   abbrev lost : ℕ → Bool
   lost lbn = is_none (sent_block h k lbn)
@@ -76,7 +76,7 @@ module _ (x : Book) (pool : List ℕ) (v k d : ℕ) (h : History)
   sent-order lbn =
       answer-same (read x pool v k lbn) (unless (history_number l h d k lbn) (accepted (owed lbn))) (reads lbn)
       ∙ numbers-then (eqb h.retention 0) (eqb k 0 || ltb (length h.sent) k)
-      (kept_noted h d k) (late (leb l lbn) (lost lbn)) (accepted (owed lbn))
+      (kept (days_noted h) h.retention d k) (late (leb l lbn) (lost lbn)) (accepted (owed lbn))
 
   same_number : (lbn : ℕ) → read_number x v k lbn ≡ history_number l h d k lbn
   unfolding history_read read
@@ -88,11 +88,11 @@ module _ (x : Book) (pool : List ℕ) (v k d : ℕ) (h : History)
   same_kept : kept_number x v k ≡ sent_number
   unfolding kept_number read_number history_number
   same_kept =
-      sym (early-numbers (no_volume x v) (eqb k 0 || ltb (backup_count x v) k) (is_kept x v k)
+      sym (early-numbers (no_volume x v) (eqb k 0 || ltb (backup_count x v) k) (kept (days x v) (retention_of x v) x.day k)
       (leb l 0) (eqb (image x v k 0) unmapped))
       ∙ ap early (same_number 0)
       ∙ early-numbers (eqb h.retention 0) (eqb k 0 || ltb (length h.sent) k)
-      (kept_noted h d k) (leb l 0) (lost 0)
+      (kept (days_noted h) h.retention d k) (leb l 0) (lost 0)
 
   read-sent : sent_number ≡ 0 → (lbn : ℕ) → lbn < l → read x pool v k lbn ≡ only_unmapped (lost lbn) (owed lbn)
   read-sent e lbn i = sent-order lbn ∙ rw (e, lt-leb l lbn i)
@@ -113,7 +113,7 @@ module _ (x : Book) (pool : List ℕ) (v k d : ℕ) (h : History)
     unfolding history_restore history_run_number
     history_order =
         numbers-then (eqb h.retention 0) (eqb k 0 || ltb (length h.sent) k)
-        (kept_noted h d k)
+        (kept (days_noted h) h.retention d k)
         (if too_far then 21 else if some_of lost (up_from first many) then 18 else 0)
         (accepted (flat owed (up_from first many)))
         ∙ ap (λ (o : Outcome (List ℕ)). unless sent_number o)

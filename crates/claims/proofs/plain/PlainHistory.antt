@@ -1,37 +1,79 @@
 -- Every call of the plain store keeps what its volumes sent, as the call and its answer tell it.
-use Prim.Native.Nat.{ℕ, zero, suc}
+use Prim.Native.Nat.{ℕ, zero, suc, ◌≤◌, ◌<◌}
 use mathlib.Core.Path.{◌≡◌, refl, subst}
-use mathlib.Core.Bool.{Bool, false, ◌&&◌}
-use mathlib.Core.List.{List, [], ◌∷◌, ◌++◌}
+use mathlib.Core.Bool.{Bool, true, false, not, ◌&&◌, ◌||◌}
+use mathlib.Core.List.{List, [], ◌∷◌}
 use native.Mathlib.Omega.{arith}
-use lib.Dec.{eqb, eqb-suc-zero}
-use borrow.Author.Tests.{ne_eqb}
+use lib.Dec.{ltb, eqb, eqb-suc-zero}
+use borrow.Author.Tests.{ltb-false, eqb-true, eqb-false, ne_eqb, not-true, not-false}
 use Rattle.words.specs.Choice.{if◌then◌else◌}
 use Rattle.words.proofs.ChoiceLaws.{and_false}
+use Rattle.words.proofs.Tests.{or_neither}
 use Rattle.words.specs.Outcome.{Outcome, refused, accepted, and_then, unless}
 use Rattle.runs.specs.Changes.{changes, change_count}
-use Rattle.book.specs.Book.{Name}
+use Rattle.book.specs.Book.{volumes}
+use Rattle.model.specs.Days.{bad_day, not_after, bad_retention}
+use Rattle.claims.proofs.kept.DayLaws.{good-day}
 use Rattle.model.specs.Plain
-use Rattle.model.specs.Plain.{Plain, with_retention, retention_at, taken_of, collected, enrol_number, collect_number}
+use Rattle.model.specs.Plain.{Plain, with_retention, retention_at, is_enrolled, taken_of, days_of, is_retired, no_living, collected}
+use Rattle.model.specs.Plain.{enrol_number, collect_number}
 use Rattle.model.specs.PlainBackup
 use Rattle.model.specs.PlainBackup.{PlainWork, PlainBacked, backup_number, run_changes, begun, closed}
 use Rattle.model.specs.PlainRetire
 use Rattle.model.specs.PlainRetire.{PlainRetired, retire_number, retired}
-use Rattle.model.specs.PlainNaming
-use Rattle.model.specs.PlainNaming.{name_number, unname_number}
-use Rattle.model.specs.Calls.{Call, enrol, backup, collect, retire, name, unname, read, audit}
-use Rattle.model.specs.Sides.{answers_of, end_of, step_of, store_to, store_backed, store_collected, store_retired, plain}
-use Rattle.model.specs.History
-use Rattle.model.specs.History.{History, with_enrol, with_sent, with_left, without, noted, history_from, day_noted, day_from}
+use Rattle.model.specs.Calls.{Call, enrol, backup, collect, retire, read, audit}
+use Rattle.model.specs.Sides.{answers_of, end_of, step_of, store_enrolled, store_backed, store_collected, store_retired, plain}
+use Rattle.model.specs.History.{History, with_enrol, with_sent, with_left, noted, history_from, day_noted, day_from}
 use Rattle.claims.proofs.form.Proper.{not_refused}
-use Rattle.claims.proofs.plain.PlainAllowed.{enrol-allowed, collect-allowed, backup-allowed, retire-allowed, name-allowed}
-use Rattle.claims.proofs.plain.PlainNames.{called_of}
 use Rattle.claims.proofs.plain.PlainProper.{changes_proper}
 use Rattle.claims.proofs.plain.PlainRecalls.{Recalls, AllRecall}
 use Rattle.claims.proofs.plain.PlainRecallsBackup.{backup_recalls}
 use Rattle.claims.proofs.plain.PlainRecallsRetire.{retire_recalls}
-use Rattle.claims.proofs.plain.PlainRecallsNaming.{name_recalls, unname_recalls}
 use Rattle.claims.proofs.plain.PlainRecallsOthers.{enrol_recalls, collect_recalls}
+
+-- ---- what it says that no number refuses a call
+
+choice_zero : (t : Bool) (n m : ℕ) → (if t then suc n else m) ≡ 0 → (t ≡ false) × (m ≡ 0)
+choice_zero true n m e = absurd (omega arith)
+choice_zero false n m e = (refl, e)
+
+enrol-allowed : (q : Plain) (v r : ℕ) → enrol_number q v r ≡ 0 → (v < volumes) × (retention_at q v ≡ 0)
+unfolding enrol_number
+enrol-allowed q v r e =
+    let a = or_neither (ltb 7 v) (is_enrolled q v) (choice_zero (ltb 7 v || is_enrolled q v) 4 (if bad_retention r then 6 else 0) e).0 in (
+      omega (arith, ltb-false 7 v a.0),
+      eqb-true (retention_at q v) 0 (not-false (eqb (retention_at q v) 0) a.1),
+    )
+
+collect-allowed : (q : Plain) (t : ℕ) → collect_number q t ≡ 0 → q.day ≤ t
+unfolding collect_number
+collect-allowed q t e = ((good-day q.day t).0 (choice_zero (bad_day q.day t) 6 0 e).0).0
+
+-- backup and retire start with the same two numbers, 5 and 7
+living-allowed : (q : Plain) (v t m : ℕ)
+    → (if no_living q v then 5 else if bad_day q.day t || not_after (days_of (taken_of v q.taken)) t then 7 else m) ≡ 0
+    → (q.day ≤ t) × (retention_at q v ≡ 0 → ⊥) × (is_retired (taken_of v q.taken) ≡ false)
+living-allowed q v t m e =
+    let bad = bad_day q.day t in
+    let old = not_after (days_of (taken_of v q.taken)) t in
+    let s = choice_zero (no_living q v) 4 (if bad || old then 7 else m) e in
+    let a = or_neither (ltb 7 v || not (is_enrolled q v)) (is_retired (taken_of v q.taken)) s.0 in
+    let b = or_neither (ltb 7 v) (not (is_enrolled q v)) a.0 in
+    let c = or_neither bad old (choice_zero (bad || old) 6 m s.1).0 in (
+      ((good-day q.day t).0 c.0).0,
+      eqb-false (retention_at q v) 0 (not-true (eqb (retention_at q v) 0) (not-false (is_enrolled q v) b.1)),
+      a.1,
+    )
+
+backup-allowed : (q : Plain) (v t : ℕ) (list : List ℕ) → backup_number q v t list ≡ 0
+    → (q.day ≤ t) × (retention_at q v ≡ 0 → ⊥) × (is_retired (taken_of v q.taken) ≡ false)
+unfolding backup_number
+backup-allowed q v t list e = living-allowed q v t _ e
+
+retire-allowed : (q : Plain) (v t : ℕ) → retire_number q v t ≡ 0
+    → (q.day ≤ t) × (retention_at q v ≡ 0 → ⊥) × (is_retired (taken_of v q.taken) ≡ false)
+unfolding retire_number
+retire-allowed q v t e = living-allowed q v t _ e
 
 -- ---- one call
 
@@ -43,8 +85,7 @@ module _ {l d : ℕ} {q : Plain} {h : ℕ → History} (a : AllRecall l d q h) w
     day = a.day;
     room = a.room;
     volume_count = a.volume_count;
-    each = λ v. subst (λ (x : History). Recalls l d q.blocks (retention_at q v) (taken_of v q.taken) (called_of v q.called) x) (e v)
-        (a.each v);
+    each = λ v. subst (λ (x : History). Recalls l d q.blocks (retention_at q v) (taken_of v q.taken) x) (e v) (a.each v);
   }
 
   -- a test that no answer passes
@@ -59,8 +100,8 @@ module _ {l d : ℕ} {q : Plain} {h : ℕ → History} (a : AllRecall l d q h) w
       after = accepted (with_retention v r q)
 
       go : (n : ℕ) → enrol_number q v r ≡ n
-          → AllRecall l d (step_of q (and_then (unless n after) store_to)).next
-          (λ w. noted w (h w) (enrol v r) (step_of q (and_then (unless n after) store_to)).answer)
+          → AllRecall l d (step_of q (and_then (unless n after) store_enrolled)).next
+          (λ w. noted w (h w) (enrol v r) (step_of q (and_then (unless n after) store_enrolled)).answer)
       go zero e = let b = enrol-allowed q v r e in enrol_recalls a v r b.0 b.1
       go (suc k) e = not_noted v (λ w. with_enrol r (h w)) (eqb (suc k) 0) (eqb-suc-zero k)
 
@@ -89,37 +130,6 @@ module _ {l d : ℕ} {q : Plain} {h : ℕ → History} (a : AllRecall l d q h) w
           (λ w. noted w (h w) (retire v t) (step_of q (and_then (unless n after) store_retired)).answer)
       go zero e = let b = retire-allowed q v t e in retire_recalls a v t (rw (← a.day) b.0) b.1 b.2
       go (suc k) e = rw (eqb-suc-zero k) (not_noted v (λ w. with_left t (h w)) false refl)
-
-  name-step : (v k : ℕ) (t : List ℕ)
-      → AllRecall l d (plain q (name v k t)).next (λ w. noted w (h w) (name v k t) (plain q (name v k t)).answer)
-  unfolding plain step_of PlainNaming.name
-  name-step v k t = go (name_number q v k t) refl
-    where
-      new : Name
-      new = record { text = t; volume = v; number = k }
-
-      after : Outcome Plain
-      after = accepted (Plain.with_called (q.called ++ (new ∷ [])) q)
-
-      go : (n : ℕ) → name_number q v k t ≡ n
-          → AllRecall l d (step_of q (and_then (unless n after) store_to)).next
-          (λ w. noted w (h w) (name v k t) (step_of q (and_then (unless n after) store_to)).answer)
-      go zero e = name_recalls a new (name-allowed q v k t e).keeps
-      go (suc j) e = not_noted v (λ w. History.with_names ((h w).called ++ (new ∷ [])) (h w)) (eqb (suc j) 0) (eqb-suc-zero j)
-
-  unname-step : (t : List ℕ)
-      → AllRecall l d (plain q (unname t)).next (λ w. noted w (h w) (unname t) (plain q (unname t)).answer)
-  unfolding plain step_of PlainNaming.unname
-  unname-step t = go (unname_number q t)
-    where
-      after : Outcome Plain
-      after = accepted (Plain.with_called (without t q.called) q)
-
-      go : (n : ℕ)
-          → AllRecall l d (step_of q (and_then (unless n after) store_to)).next
-          (λ w. noted w (h w) (unname t) (step_of q (and_then (unless n after) store_to)).answer)
-      go zero = unname_recalls a t
-      go (suc j) = rw (eqb-suc-zero j) a
 
   module _ (v t : ℕ) (list : List ℕ) where
     abbrev Backs : Outcome PlainBacked → Type 0
@@ -158,8 +168,6 @@ module _ {l d : ℕ} {q : Plain} {h : ℕ → History} (a : AllRecall l d q h) w
   call_recalls (backup v t list) = backup-step v t list
   call_recalls (collect t) = collect-step t
   call_recalls (retire v t) = retire-step v t
-  call_recalls (name v k t) = name-step v k t
-  call_recalls (unname t) = unname-step t
   call_recalls (read v k lbn) = a
   call_recalls audit = a
 

@@ -1,22 +1,18 @@
--- A collect in the plain store: blocks that the map of a kept or named backup names are marked, and marked blocks stay.
-use Prim.Native.Nat.{ℕ, zero, suc, ◌+◌, ◌-◌, ◌<◌}
-use mathlib.Core.Path.{◌≡◌, refl, ap, ◌∙◌}
+-- A collect in the plain store: blocks that a kept map names are marked, and marked blocks stay.
+use Prim.Native.Nat.{ℕ, zero, suc, ◌+◌, ◌<◌}
+use mathlib.Core.Path.{◌≡◌, refl, ap}
 use mathlib.Core.Bool.{Bool, true, false, ◌&&◌, ◌||◌}
 use mathlib.Core.List.{List, [], ◌∷◌}
 use native.Mathlib.Nat.{zero-add, add-zero, add-suc, suc-add}
 use native.Mathlib.Omega.{arith}
-use lib.Dec.{eqb}
 use lib.ListN.{length, get_or}
-use borrow.Author.Tests.{eqb-true}
-use Rattle.words.proofs.ChoiceLaws.{and_true, true_and, or_l, or_r}
-use Rattle.words.proofs.Tests.{some-through}
+use Rattle.words.proofs.ChoiceLaws.{true_and, or_l, or_r}
 use Rattle.words.specs.Lists.{some_of, up_from}
-use Rattle.book.specs.Book.{volumes, Name}
+use Rattle.book.specs.Book.{volumes}
 use Rattle.model.specs.Days.{kept_by, kept}
 use Rattle.model.specs.Plain.{Block, free, What, image, retirement, Taken, Plain, retention_at, taken_of, days_of, map_with, maps_of}
-use Rattle.model.specs.Plain.{no_map, current_maps, map_at, names, names_in, kept_names, named_names, marked, swept}
+use Rattle.model.specs.Plain.{current_maps, names, names_in, kept_names, marked, swept}
 use Rattle.claims.proofs.kept.TakenLaws.{is_image, Ends, volume-some}
-use Rattle.claims.proofs.plain.PlainNames.{called_of, has_number, named-called}
 
 -- ---- marked
 
@@ -46,31 +42,9 @@ pub kept-marked : (q : Plain) (d v k p : ℕ) (z : List ℕ) → v < volumes →
     → marked q d p ≡ true
 unfolding marked
 kept-marked q d v k p z hv s hk e n =
-    let keeps = some_of (λ v. kept_names p (retention_at q v) d (taken_of v q.taken)) (up_from 0 volumes) in
-    or_l (some_of (names p) (current_maps q) || keeps) (named_names p q)
-    (or_r (some_of (names p) (current_maps q)) keeps
+    or_r (some_of (names p) (current_maps q)) (some_of (λ v. kept_names p (retention_at q v) d (taken_of v q.taken)) (up_from 0 volumes))
     (volume-some (λ v. kept_names p (retention_at q v) d (taken_of v q.taken)) v hv
-    (image-named p (retention_at q v) d k z (taken_of v q.taken) s hk e n)))
-
--- backup k + 1 has a name, and its map names p
-pub named-marked : (q : Plain) (d v k p : ℕ) → has_number (suc k) (called_of v q.called) ≡ true
-    → names p (get_or (maps_of (taken_of v q.taken)) k (no_map q.sizes)) ≡ true
-    → marked q d p ≡ true
-unfolding marked
-named-marked q d v k p e n =
-    or_r
-    (some_of (names p) (current_maps q) || some_of (λ v. kept_names p (retention_at q v) d (taken_of v q.taken)) (up_from 0 volumes))
-    (named_names p q)
-    (some-through (λ (m : Name). eqb m.volume v && eqb m.number (suc k)) (λ (m : Name). shows m.volume m.number) q.called
-    (λ m h. let w = and_true (eqb m.volume v) (eqb m.number (suc k)) h in go m (eqb-true m.volume v w.0)
-    (eqb-true m.number (suc k) w.1))
-    (named-called q v (suc k) ∙ e))
-  where
-    shows : ℕ → ℕ → Bool
-    shows u j = names p (map_at q.sizes (taken_of u q.taken) j)
-
-    go : (m : Name) → m.volume ≡ v → m.number ≡ suc k → shows m.volume m.number ≡ true
-    go m f g = let h : suc k - 1 ≡ k = omega arith in rw (f, g, h) n
+    (image-named p (retention_at q v) d k z (taken_of v q.taken) s hk e n))
 
 -- ---- swept
 

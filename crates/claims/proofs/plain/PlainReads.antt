@@ -12,13 +12,13 @@ use Rattle.words.specs.Outcome.{accepted}
 use Rattle.book.specs.Book.{Sizes}
 use Rattle.book.specs.Form.{sizes_ok}
 use Rattle.book.proofs.SizesIn.{sizes-facts}
+use Rattle.model.specs.Days.{kept}
 use Rattle.model.specs.Plain
-use Rattle.model.specs.Plain.{free, Taken, Plain, start, retention_at, is_enrolled, taken_of, maps_of, bytes_of, is_kept, cell}
+use Rattle.model.specs.Plain.{free, Taken, Plain, start, retention_at, is_enrolled, taken_of, days_of, maps_of, bytes_of, cell}
 use Rattle.model.specs.Calls.{Call}
 use Rattle.model.specs.Sides.{answers_of, end_of, read_answer, plain}
-use Rattle.model.specs.History.{History, history_of, day_of, kept_noted, sent_block, is_none, block_or, history_number, history_read}
+use Rattle.model.specs.History.{History, history_of, day_of, days_noted, sent_block, is_none, block_or, history_number, history_read}
 use Rattle.claims.proofs.kept.ReadNumbers.{same-refusal, number-inside}
-use Rattle.claims.proofs.plain.PlainNames.{kept-called}
 use Rattle.claims.proofs.plain.PlainShows.{shown_at, held-bytes-or}
 use Rattle.claims.proofs.plain.PlainRecalls.{image_at, AllRecall}
 use Rattle.claims.proofs.plain.PlainRecallsOthers.{start_recalls}
@@ -46,9 +46,8 @@ module _ {l d : ℕ} {q : Plain} {h : ℕ → History} (a : AllRecall l d q h) (
   same_count : (k : ℕ) → (eqb k 0 || ltb (length (maps_of is)) k) ≡ (eqb k 0 || ltb (length (h v).sent) k)
   same_count k = rw (a.each v).count
 
-  same_kept : (k : ℕ) → is_kept q v k ≡ kept_noted (h v) d k
-  unfolding kept_noted
-  same_kept k = kept-called q v k ∙ rw ((a.each v).days, (a.each v).retention, a.day, (a.each v).called)
+  same_kept : (k : ℕ) → kept (days_of is) (retention_at q v) q.day k ≡ kept (days_noted (h v)) (h v).retention d k
+  same_kept k = rw ((a.each v).days, (a.each v).retention, a.day)
 
   same_logical : (lbn : ℕ) → leb q.sizes.l lbn ≡ leb l lbn
   same_logical lbn = rw a.logical
@@ -67,11 +66,11 @@ module _ {l d : ℕ} {q : Plain} {h : ℕ → History} (a : AllRecall l d q h) (
       let n = number-inside k (length (maps_of is)) e in
       ap (λ (p : ℕ). eqb p unmapped) (cell-image k lbn n.0) ∙ (a.each v).maps k n.1 lbn (lbn-there lbn f)
 
-  same_bytes : (k lbn : ℕ) → (eqb k 0 || ltb (length (maps_of is)) k) ≡ false → is_kept q v k ≡ true
+  same_bytes : (k lbn : ℕ) → (eqb k 0 || ltb (length (maps_of is)) k) ≡ false → kept (days_of is) (retention_at q v) q.day k ≡ true
       → leb q.sizes.l lbn ≡ false → bytes_of (get_or q.blocks (cell q v k lbn) free) ≡ block_or [] (sent_block (h v) k lbn)
   same_bytes k lbn e g f =
       let n = number-inside k (length (maps_of is)) e in
-      let c = (a.each v).carries k n.1 (rw a.day at (sym (kept-called q v k) ∙ g)) lbn (lbn-there lbn f) in
+      let c = (a.each v).carries k n.1 (rw a.day at g) lbn (lbn-there lbn f) in
       held-bytes-or (get_or q.blocks (cell q v k lbn) free)
       ∙ ap (λ (p : ℕ). block_or [] (shown_at q.blocks p)) (cell-image k lbn n.0)
       ∙ ap (block_or []) c
@@ -90,7 +89,7 @@ module _ {l d : ℕ} {q : Plain} {h : ℕ → History} (a : AllRecall l d q h) (
       absent = eqb k 0 || ltb (length (maps_of is)) k
 
       keeps : Bool
-      keeps = is_kept q v k
+      keeps = kept (days_of is) (retention_at q v) q.day k
 
 -- ---- every list of calls from the start
 

@@ -14,10 +14,8 @@ use borrow.Author.Tests.{ltb-true, ltb-false}
 use Rattle.words.specs.Blocks.{unmapped}
 use Rattle.words.specs.Choice.{if◌then◌else◌}
 use Rattle.words.proofs.Appends.{map_append}
-use Rattle.words.proofs.ChoiceLaws.{or_r}
 use Rattle.words.specs.Outcome.{accepted}
 use Rattle.runs.specs.Changes.{Change}
-use Rattle.book.specs.Book.{Name}
 use Rattle.model.specs.Days.{kept}
 use Rattle.model.specs.Plain.{Block, image, Taken, Plain, at_day, with_blocks, with_taken, retention_at, taken_of, days_of, maps_of}
 use Rattle.model.specs.Plain.{is_retired, current_of}
@@ -26,7 +24,6 @@ use Rattle.model.specs.History.{Sent, History, with_sent, days_noted, sent_block
 use Rattle.claims.proofs.kept.DayLaws.{kept_newest}
 use Rattle.claims.proofs.kept.TakenLaws.{maps_append, living-backups, backups-then}
 use Rattle.claims.proofs.plain.HistoryLaws.{sent-earlier, sent_newest}
-use Rattle.claims.proofs.plain.PlainNames.{called_of, has_number, kept_with}
 use Rattle.claims.proofs.plain.PlainShows.{Maps, Carries, maps-same, carries_same}
 use Rattle.claims.proofs.plain.PlainPlacing.{grown-self}
 use Rattle.claims.proofs.plain.PlainChanges.{sent_over, Copies, run-copies}
@@ -35,8 +32,8 @@ use Rattle.claims.proofs.plain.PlainRecalls.{image_newest, days-longer, kept-bef
 
 -- ---- one more image, which shows what its changes sent, or else what the one before it shows
 
-module _ (l t v n : ℕ) (bs : List Block) (span : ℕ) (is : List Taken) (ns : List Name) (h : History) (cells : List ℕ)
-    (cs : List Change) (r : Recalls l t bs span is ns h) where
+module _ (l t v n : ℕ) (bs : List Block) (span : ℕ) (is : List Taken) (h : History) (cells : List ℕ) (cs : List Change)
+    (r : Recalls l t bs span is h) where
   abbrev added : Taken
   added = record { volume = v; day = t; what = image cells; changes = n }
 
@@ -74,12 +71,12 @@ module _ (l t v n : ℕ) (bs : List Block) (span : ℕ) (is : List Taken) (ns : 
       (sent_block (with_sent sending h) (suc (length (maps_of is)))) (sym (image_newest l is added cells refl)) newest_sent maps)
 
   added_carries : Carries l bs cells shown → (k : ℕ) → (k ≤ length (maps_of is)) ⊎ (k ≡ suc (length (maps_of is)))
-      → kept_with ns (days_of (is ++ (added ∷ []))) span t k ≡ true
+      → kept (days_of (is ++ (added ∷ []))) span t k ≡ true
       → Carries l bs (image_at l (is ++ (added ∷ [])) k) (sent_block (with_sent sending h) k)
   added_carries carries k (inl e) f =
       carries_same l (image_at l is k) (image_at l (is ++ (added ∷ [])) k) (sent_block h k) (sent_block (with_sent sending h) k)
       (sym (image-earlier l is added k e)) (λ lbn. earlier-sent k lbn e) bs
-      (r.carries k e (kept-before is added ns span t k e f))
+      (r.carries k e (kept-before is added span t k e f))
   added_carries carries k (inr e) f =
       rw e
       (carries_same l cells (image_at l (is ++ (added ∷ [])) (suc (length (maps_of is)))) shown
@@ -98,7 +95,7 @@ module _ (l t v n : ℕ) (bs : List Block) (span : ℕ) (is : List Taken) (ns : 
       none_left ss = rw (r.stays living) (append-nil (map (λ (s : Sent). s.day) ss))
 
   recalls_added : (span ≡ 0 → ⊥) → is_retired is ≡ false → length cells ≡ l → Maps l cells shown → Carries l bs cells shown
-      → Recalls l t bs span (is ++ (added ∷ [])) ns (with_sent sending h)
+      → Recalls l t bs span (is ++ (added ∷ [])) (with_sent sending h)
   unfolding with_sent
   recalls_added used living wide maps carries = record {
     retention = r.retention;
@@ -109,7 +106,6 @@ module _ (l t v n : ℕ) (bs : List Block) (span : ℕ) (is : List Taken) (ns : 
     unused = λ e. absurd (used e);
     wide = rw (longer, image_newest l is added cells refl) wide;
     maps = λ k e. added_maps maps k (number-cases k e);
-    called = r.called;
     carries = λ k e. added_carries carries k (number-cases k e);
   }
 
@@ -134,8 +130,7 @@ module _ {l d : ℕ} {q : Plain} {h : ℕ → History} (a : AllRecall l d q h) (
       kept_newest (days_of images) (retention_at q v) d (length (maps_of images))
       (rw (← (living-days images living)) (le_refl (length (maps_of images)))) in
       let maps = r.maps (length (maps_of images)) (le_refl (length (maps_of images))) in
-      let carries = r.carries (length (maps_of images)) (le_refl (length (maps_of images)))
-      (or_r (has_number (length (maps_of images)) (called_of v q.called)) _ newest) in
+      let carries = r.carries (length (maps_of images)) (le_refl (length (maps_of images))) newest in
       record {
         grown = grown-self q.blocks;
         wide = ap length copy-begun ∙ r.wide;
@@ -151,9 +146,9 @@ module _ {l d : ℕ} {q : Plain} {h : ℕ → History} (a : AllRecall l d q h) (
     enough : length w.blocks ≤ unmapped
     enough = rw c.grown.long a.room
 
-    others_recall : (x : ℕ) → Recalls l t w.blocks (retention_at q x) (taken_of x q.taken) (called_of x q.called) (h x)
+    others_recall : (x : ℕ) → Recalls l t w.blocks (retention_at q x) (taken_of x q.taken) (h x)
     others_recall x =
-        recalls_later l d t q.blocks w.blocks (retention_at q x) (taken_of x q.taken) (called_of x q.called) (h x) later enough
+        recalls_later l d t q.blocks w.blocks (retention_at q x) (taken_of x q.taken) (h x) later enough
         (λ k lbn b hk e s z. c.grown.keeps (get_or (image_at l (taken_of x q.taken) k) lbn unmapped) b z)
         (a.each x)
 
@@ -170,8 +165,8 @@ module _ {l d : ℕ} {q : Plain} {h : ℕ → History} (a : AllRecall l d q h) (
       volume_count = a.volume_count;
       each =
           each-taken l t w.blocks q h new (with_sent (record { day = t; changes = cs })) others_recall
-          (recalls_added l t v n w.blocks (retention_at q v) images (called_of v q.called) (h v) w.copy cs (others_recall v) used living
-          c.wide c.maps c.carries);
+          (recalls_added l t v n w.blocks (retention_at q v) images (h v) w.copy cs (others_recall v) used living c.wide c.maps
+          c.carries);
     }
 
   pub backup_recalls : (t n : ℕ) (cs : List Change) (w : PlainWork) → d ≤ t → (retention_at q v ≡ 0 → ⊥)

@@ -1,7 +1,6 @@
 -- Enrol and collect of the plain store keep what its volumes sent, and so it starts.
 use Prim.Native.Nat.{ℕ, zero, suc, ◌≤◌, ◌<◌}
 use mathlib.Core.Path.{◌≡◌, refl, sym, ap, subst, ◌∙◌}
-use mathlib.Core.Logic.{◌⊎◌, inl, inr}
 use mathlib.Core.Bool.{Bool, true, false, ◌&&◌}
 use mathlib.Core.List.{List, []}
 use mathlib.Core.Option.{none, some}
@@ -12,18 +11,16 @@ use lib.Seq.{get_or-set_same, get_or-set_other}
 use borrow.Author.Tests.{ltb-true, ltb-false, eq-eqb, eqb-true, eqb-false}
 use Rattle.words.specs.Blocks.{unmapped}
 use Rattle.words.specs.Choice.{if◌then◌else◌}
-use Rattle.words.proofs.ChoiceLaws.{or_cases}
 use Rattle.words.proofs.Options.{none_not}
 use Rattle.words.proofs.Places.{get_or_replicated}
-use Rattle.book.specs.Book.{volumes, Sizes, Name}
+use Rattle.book.specs.Book.{volumes, Sizes}
 use Rattle.model.specs.Days.{kept}
 use Rattle.model.specs.Plain.{Block, free, Taken, Plain, start, at_day, with_blocks, with_retention, retention_at, taken_of, days_of, maps_of}
-use Rattle.model.specs.Plain.{is_retired, names, marked, swept, collected}
+use Rattle.model.specs.Plain.{is_retired, marked, swept, collected}
 use Rattle.model.specs.History.{History, no_history, with_enrol, days_noted, sent_block}
-use Rattle.claims.proofs.plain.PlainNames.{called_of, has_number, kept_with}
 use Rattle.claims.proofs.plain.PlainShows.{held_bytes, shown_at, shown-past, Maps, Carries}
 use Rattle.claims.proofs.kept.KeptNames.{cell-names}
-use Rattle.claims.proofs.plain.PlainMarks.{kept-marked, named-marked, length-swept, swept-marked}
+use Rattle.claims.proofs.plain.PlainMarks.{kept-marked, length-swept, swept-marked}
 use Rattle.claims.proofs.plain.PlainRecalls.{image_at, Recalls, AllRecall, recalls_later}
 
 -- nothing is sent before backup 1
@@ -32,7 +29,7 @@ unfolding sent_block
 none-sent h lbn = refl
 
 -- a volume of which nothing was taken and nothing was sent
-module _ (l d span : ℕ) (bs : List Block) (ns : List Name) (h : History) (room : length bs ≤ unmapped) where
+module _ (l d span : ℕ) (bs : List Block) (h : History) (room : length bs ≤ unmapped) where
   no-maps : (k : ℕ) → k ≤ 0 → Maps l (image_at l [] k) (sent_block h k)
   no-maps zero e lbn i = rw (get_or_replicated l unmapped lbn, none-sent h lbn)
   no-maps (suc k) e lbn i = absurd (omega arith)
@@ -41,9 +38,8 @@ module _ (l d span : ℕ) (bs : List Block) (ns : List Name) (h : History) (room
   no-carries zero e lbn i = rw (get_or_replicated l unmapped lbn, none-sent h lbn) (shown-past bs unmapped room)
   no-carries (suc k) e lbn i = absurd (omega arith)
 
-  none_recalls : span ≡ h.retention → [] ≡ days_noted h → length h.sent ≡ 0 → h.left ≡ [] → h.called ≡ ns
-      → Recalls l d bs span [] ns h
-  none_recalls e days unsent stays called = record {
+  none_recalls : span ≡ h.retention → [] ≡ days_noted h → length h.sent ≡ 0 → h.left ≡ [] → Recalls l d bs span [] h
+  none_recalls e days unsent stays = record {
     retention = e;
     ends = tt;
     days = days;
@@ -52,7 +48,6 @@ module _ (l d span : ℕ) (bs : List Block) (ns : List Name) (h : History) (room
     unused = λ z. refl;
     wide = length-replicate l unmapped;
     maps = no-maps;
-    called = called;
     carries = λ k i z. no-carries k i;
   }
 
@@ -69,7 +64,7 @@ start_recalls z room =
       volume_count = refl;
       each = λ v.
           rw (get_or_replicated {A = ℕ} volumes 0 v)
-          (none_recalls z.l 0 0 (replicate z.n free) [] no_history enough refl refl refl refl refl);
+          (none_recalls z.l 0 0 (replicate z.n free) no_history enough refl refl refl refl);
     }
 
 -- ---- collect
@@ -86,24 +81,9 @@ module _ {l d : ℕ} {q : Plain} {h : ℕ → History} (a : AllRecall l d q h) w
           let none = (a.each v).unused (get_or-eq_default q.retentions 0 past) in
           absurd (omega (arith, ap (λ (is : List Taken). length (maps_of is)) none))
 
-  -- what the map of a backup names that is kept at t or has a name is marked
-  map-marked : (t v k p : ℕ) → k < length (maps_of (taken_of v q.taken))
-      → kept_with (called_of v q.called) (days_of (taken_of v q.taken)) (retention_at q v) t (suc k) ≡ true
-      → names p (get_or (maps_of (taken_of v q.taken)) k (replicate l unmapped)) ≡ true
-      → marked q t p ≡ true
-  map-marked t v k p hk e n =
-      go
-      (or_cases (has_number (suc k) (called_of v q.called)) (kept (days_of (taken_of v q.taken)) (retention_at q v) t (suc k))
-      e)
-    where
-      go : (has_number (suc k) (called_of v q.called) ≡ true) ⊎ (kept (days_of (taken_of v q.taken)) (retention_at q v) t (suc k) ≡ true)
-          → marked q t p ≡ true
-      go (inl f) = named-marked q t v k p f (rw a.logical n)
-      go (inr f) = kept-marked q t v k p (replicate l unmapped) (volume-there v k hk) (a.each v).ends hk f n
-
-  -- what it shows stays
+  -- what a map kept at t shows is marked, and stays
   marked-stays : (t v k lbn : ℕ) (b : List ℕ) → k ≤ length (maps_of (taken_of v q.taken))
-      → kept_with (called_of v q.called) (days_of (taken_of v q.taken)) (retention_at q v) t k ≡ true → sent_block (h v) k lbn ≡ some b
+      → kept (days_of (taken_of v q.taken)) (retention_at q v) t k ≡ true → sent_block (h v) k lbn ≡ some b
       → shown_at q.blocks (get_or (image_at l (taken_of v q.taken) k) lbn unmapped) ≡ some b
       → shown_at (swept (marked q t) 0 q.blocks) (get_or (image_at l (taken_of v q.taken) k) lbn unmapped) ≡ some b
   marked-stays t v zero lbn b hk e s z = absurd (none_not b (sym (none-sent (h v) lbn) ∙ s))
@@ -112,7 +92,8 @@ module _ {l d : ℕ} {q : Plain} {h : ℕ → History} (a : AllRecall l d q h) w
       let p = get_or m lbn unmapped in
       let n : p ≡ unmapped → ⊥ = λ f. not_unmapped p f z in
       ap held_bytes (swept-marked (marked q t) p q.blocks
-      (map-marked t v k p hk e (cell-names p lbn m n (eq-eqb p p refl))))
+      (kept-marked q t v k p (replicate l unmapped) (volume-there v k hk) (a.each v).ends hk e
+      (cell-names p lbn m n (eq-eqb p p refl))))
       ∙ z
     where
       not_unmapped : (p : ℕ) → p ≡ unmapped → shown_at q.blocks p ≡ some b → ⊥
@@ -129,23 +110,21 @@ module _ {l d : ℕ} {q : Plain} {h : ℕ → History} (a : AllRecall l d q h) w
         room = room;
         volume_count = a.volume_count;
         each = λ v.
-            recalls_later l d t q.blocks (swept (marked q t) 0 q.blocks) (retention_at q v) (taken_of v q.taken)
-            (called_of v q.called) (h v) later room
+            recalls_later l d t q.blocks (swept (marked q t) 0 q.blocks) (retention_at q v) (taken_of v q.taken) (h v) later room
             (marked-stays t v) (a.each v);
       }
 
   -- ---- enrol
 
-  enrolled_recalls : (v r : ℕ) → retention_at q v ≡ 0
-      → Recalls l d q.blocks r (taken_of v q.taken) (called_of v q.called) (with_enrol r (h v))
+  enrolled_recalls : (v r : ℕ) → retention_at q v ≡ 0 → Recalls l d q.blocks r (taken_of v q.taken) (with_enrol r (h v))
   unfolding with_enrol
   enrolled_recalls v r e =
       let none = (a.each v).unused e in
       let days : [] ≡ days_noted (h v) = sym (ap (λ (is : List Taken). days_of is) none) ∙ (a.each v).days in
       let unsent : length (h v).sent ≡ 0 = (a.each v).count ∙ ap (λ (is : List Taken). length (maps_of is)) none in
       let stays : (h v).left ≡ [] = (a.each v).stays (ap (λ (is : List Taken). is_retired is) none) in
-      subst (λ (is : List Taken). Recalls l d q.blocks r is (called_of v q.called) (with_enrol r (h v))) (sym none)
-      (none_recalls l d r q.blocks (called_of v q.called) (with_enrol r (h v)) a.room refl days unsent stays (a.each v).called)
+      subst (λ (is : List Taken). Recalls l d q.blocks r is (with_enrol r (h v))) (sym none)
+      (none_recalls l d r q.blocks (with_enrol r (h v)) a.room refl days unsent stays)
 
   pub enrol_recalls : (v r : ℕ) → v < volumes → retention_at q v ≡ 0
       → AllRecall l d (with_retention v r q) (λ x. if eqb v x && true then with_enrol r (h x) else h x)
@@ -162,11 +141,9 @@ module _ {l d : ℕ} {q : Plain} {h : ℕ → History} (a : AllRecall l d q h) w
       there = rw a.volume_count inside
 
       go : (w : ℕ) (t : Bool) → eqb v w ≡ t
-          → Recalls l d q.blocks (get_or (set q.retentions v r) w 0) (taken_of w q.taken) (called_of w q.called)
-          (if t && true then with_enrol r (h w) else h w)
+          → Recalls l d q.blocks (get_or (set q.retentions v r) w 0) (taken_of w q.taken) (if t && true then with_enrol r (h w) else h w)
       go w true f =
-          subst
-          (λ (x : ℕ). Recalls l d q.blocks (get_or (set q.retentions v r) x 0) (taken_of x q.taken) (called_of x q.called) (with_enrol r (h x)))
+          subst (λ (x : ℕ). Recalls l d q.blocks (get_or (set q.retentions v r) x 0) (taken_of x q.taken) (with_enrol r (h x)))
           (eqb-true v w f)
           (rw (get_or-set_same q.retentions v r 0 there) (enrolled_recalls v r e))
       go w false f = rw (get_or-set_other q.retentions v w r 0 (λ g. eqb-false v w f (sym g))) (a.each w)

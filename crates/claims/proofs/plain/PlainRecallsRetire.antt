@@ -8,19 +8,16 @@ use lib.ListN.{length}
 use Rattle.words.specs.Choice.{if◌then◌else◌}
 use Rattle.words.proofs.Appends.{some_of_append}
 use Rattle.words.proofs.ChoiceLaws.{or_r, not_both}
-use Rattle.book.specs.Book.{Name}
 use Rattle.model.specs.Plain.{Block, retirement, Taken, Plain, at_day, with_taken, retention_at, taken_of, days_of, maps_of, is_retirement}
 use Rattle.model.specs.Plain.{is_retired}
 use Rattle.model.specs.PlainRetire.{cells_of, retired}
 use Rattle.model.specs.History.{Sent, History, with_left, days_noted, sent_block}
 use Rattle.claims.proofs.kept.TakenLaws.{maps_append, living-backups, backups-then}
-use Rattle.claims.proofs.plain.PlainNames.{called_of}
 use Rattle.claims.proofs.plain.PlainRecalls.{Recalls, AllRecall, days-longer, kept-before, recalls_later, each-taken}
 
 -- ---- its own volume: the maps stay, and one more day stands behind theirs
 
-module _ (l t v n : ℕ) (bs : List Block) (span : ℕ) (is : List Taken) (ns : List Name) (h : History)
-    (r : Recalls l t bs span is ns h) where
+module _ (l t v n : ℕ) (bs : List Block) (span : ℕ) (is : List Taken) (h : History) (r : Recalls l t bs span is h) where
   abbrev leaving : Taken
   leaving = record { volume = v; day = t; what = retirement; changes = n }
 
@@ -37,7 +34,7 @@ module _ (l t v n : ℕ) (bs : List Block) (span : ℕ) (is : List Taken) (ns : 
   now-retired : is_retired (is ++ (leaving ∷ [])) ≡ true
   now-retired = some_of_append (λ (i : Taken). is_retirement i.what) is (leaving ∷ []) ∙ or_r (is_retired is) true refl
 
-  recalls_left : (span ≡ 0 → ⊥) → is_retired is ≡ false → Recalls l t bs span (is ++ (leaving ∷ [])) ns (with_left t h)
+  recalls_left : (span ≡ 0 → ⊥) → is_retired is ≡ false → Recalls l t bs span (is ++ (leaving ∷ [])) (with_left t h)
   unfolding with_left sent_block
   recalls_left used living = record {
     retention = r.retention;
@@ -48,8 +45,7 @@ module _ (l t v n : ℕ) (bs : List Block) (span : ℕ) (is : List Taken) (ns : 
     unused = λ e. absurd (used e);
     wide = rw same-maps r.wide;
     maps = rw same-maps r.maps;
-    called = r.called;
-    carries = λ k e f. rw same-maps (r.carries k (rw same-maps at e) (kept-before is leaving ns span t k (rw same-maps at e) f));
+    carries = λ k e f. rw same-maps (r.carries k (rw same-maps at e) (kept-before is leaving span t k (rw same-maps at e) f));
   }
 
 -- ---- the whole call: for every other volume the day is later, and that is all
@@ -64,14 +60,12 @@ retire_recalls {l} {d} {q} {h} a v t later used living = record {
   room = a.room;
   volume_count = a.volume_count;
   each =
-      each-taken l t q.blocks q h
-      (leaving l t v (cells_of q v) q.blocks (retention_at q v) (taken_of v q.taken) (called_of v q.called) (h v) (others v))
+      each-taken l t q.blocks q h (leaving l t v (cells_of q v) q.blocks (retention_at q v) (taken_of v q.taken) (h v) (others v))
       (with_left t) others
-      (recalls_left l t v (cells_of q v) q.blocks (retention_at q v) (taken_of v q.taken) (called_of v q.called) (h v) (others v) used
-      living);
+      (recalls_left l t v (cells_of q v) q.blocks (retention_at q v) (taken_of v q.taken) (h v) (others v) used living);
 }
   where
-    others : (x : ℕ) → Recalls l t q.blocks (retention_at q x) (taken_of x q.taken) (called_of x q.called) (h x)
+    others : (x : ℕ) → Recalls l t q.blocks (retention_at q x) (taken_of x q.taken) (h x)
     others x =
-        recalls_later l d t q.blocks q.blocks (retention_at q x) (taken_of x q.taken) (called_of x q.called) (h x) later a.room
+        recalls_later l d t q.blocks q.blocks (retention_at q x) (taken_of x q.taken) (h x) later a.room
         (λ k lbn b hk e s z. z) (a.each x)

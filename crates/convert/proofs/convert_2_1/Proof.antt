@@ -9,13 +9,12 @@ use Rattle.words.proofs.ChoiceLaws.{failed, passed}
 use Rattle.words.specs.Lists.{all}
 use Rattle.book.proofs.FormFactLaws.{facts_as}
 use Rattle.book.proofs.FormNumber.{form-parts, layout-facts}
-use Rattle.book.specs.Book.{name_count}
 use Rattle.book.specs.Form.{form_as}
 use Rattle.book.specs.FormFacts.{FormFactsAs}
 use Rattle.book.specs.Layout.{book_size, sizes_of, book_of}
 use Rattle.book.specs.Next.{sizes_in}
 use Rattle.model.specs.Convert.{is_narrow, narrow_number, to_one}
-use Rattle.carry.proofs.Exits.{misformed, short, asked, done, too_wide, narrow_enough}
+use Rattle.convert.proofs.Exits.{misformed, short, asked, done, too_wide, narrow_enough}
 use Rattle.convert.proofs.convert_2_1.Statement.{statement}
 use Rattle.convert.proofs.convert_2_1.Tie as tie
 
@@ -60,11 +59,11 @@ narrow : (c : tie.Else3)
 narrow c = passed c.before.all-narrow.ensures c.if3.false
 
 rewrite-requires : tie.Need-rewrite-requires
-unfolding book_of name_count
+unfolding book_of
 rewrite-requires c κs =
     let k = c.before in
     let d = k.before.before in
-    (facts d.before.before, (refl, ((λ e. narrow k), room d)))
+    (facts d.before.before, ((λ e. narrow k), room d))
 
 returns-4 : tie.Need-returns-4
 unfolding to_one

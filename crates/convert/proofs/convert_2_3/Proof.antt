@@ -7,13 +7,12 @@ use lib.Seq.{length-take-le}
 use borrow.Author.Rules.{rules}
 use Rattle.book.proofs.FormFactLaws.{facts_as}
 use Rattle.book.proofs.FormNumber.{form-parts, layout-facts}
-use Rattle.book.specs.Book.{name_count}
 use Rattle.book.specs.Form.{form_as}
 use Rattle.book.specs.FormFacts.{FormFactsAs}
 use Rattle.book.specs.Layout.{book_of}
 use Rattle.book.specs.Next.{with_entries}
 use Rattle.model.specs.Convert.{refreshed, to_three}
-use Rattle.carry.proofs.Exits.{misformed, short, done}
+use Rattle.convert.proofs.Exits.{misformed, short, done}
 use Rattle.convert.proofs.Renewing.{front-is, front-parts, renewed}
 use Rattle.convert.proofs.convert_2_3.Statement.{statement}
 use Rattle.convert.proofs.convert_2_3.Tie as tie
@@ -45,10 +44,10 @@ returns-2 c =
     short 2 3 (λ x. 0) refreshed _ _ (in_form k.before) (omega (arith, k.size_in.ensures))
 
 rewrite-requires : tie.Need-rewrite-requires
-unfolding book_of name_count
+unfolding book_of
 rewrite-requires c κs =
     let d = c.before in
-    (facts d.before.before, (refl, ((λ e. absurd (omega arith)), omega (arith, room d, d.before.size_in.ensures))))
+    (facts d.before.before, ((λ e. absurd (omega arith)), omega (arith, room d, d.before.size_in.ensures)))
 
 -- the book with layout 3 stands at the front of the output
 abbrev else2 : tie.After-rewrite → tie.Else2

@@ -1,8 +1,8 @@
 -- `keeping::kept_backup` meets its contract: each way out gives its number, the last one the slots after it.
 use borrow.Author.Rules.{rules}
 use native.Mathlib.Omega.{arith}
+use Rattle.words.proofs.ChoiceLaws.{failed, passed}
 use Rattle.book.specs.FormFacts.{FormFacts}
-use Rattle.book.proofs.FormFactLaws.{names-now}
 use Rattle.keeping.proofs.KeptLaws.{backup-above, backup_unenrolled, backup-zero, backup-missing}
 use Rattle.keeping.proofs.KeptLaws.{backup-retired, backup_lapsed, backup-kept}
 use Rattle.keeping.proofs.kept_backup.Statement.{statement}
@@ -38,31 +38,23 @@ returns-5 c =
     a.backups-after.result a.backups-after.ensures (λ e. omega arith) (omega arith) (formed d).parts.days
     c.if5.true
 
-is-named-requires : tie.Need-is-named-requires
-is-named-requires c κs =
-    let a = c.before.before.before in
-    let f = formed a.before.before.before in
-    (f.holds, names-now f)
-
 returns-6 : tie.Need-returns-6
 returns-6 c =
-    let n = c.before.before in
-    let a = n.before.before.before.before in
+    let a = c.before.before.before.before.before in
     let d = a.before.before.before in
     backup_lapsed _ _ _ d.retention.result d.retention.ensures (omega arith) (λ e. omega arith)
     a.backups-after.result a.backups-after.ensures (λ e. omega arith) (omega arith) (formed d).parts.days
-    n.before.if5.false n.is-named.ensures c.before.is-kept.ensures c.if6.true
+    c.before.before.if5.false (failed c.before.is-kept.ensures c.if6.true)
 
 returns-7 : tie.Need-returns-7
 returns-7 c =
-    let n = c.before.before in
-    let a = n.before.before.before.before in
+    let a = c.before.before.before.before.before in
     let d = a.before.before.before in
     backup-kept _ _ _ d.retention.result d.retention.ensures (omega arith) (λ e. omega arith)
     a.backups-after.result a.backups-after.ensures (λ e. omega arith) (omega arith) (formed d).parts.days
-    n.before.if5.false n.is-named.ensures c.before.is-kept.ensures c.if6.false
+    c.before.before.if5.false (passed c.before.is-kept.ensures c.if6.false)
 
 pub kept-backup-spec : {M : Type 1} → statement M
 kept-backup-spec =
     tie.close (tie.spec returns (λ c κs. search rules) returns-2 returns-3 (λ c κs. search rules) returns-4 returns-5
-    is-named-requires (λ c κs. search rules) returns-6 returns-7)
+    (λ c κs. search rules) returns-6 returns-7)

@@ -60,7 +60,7 @@ pub fn pairs() -> Vec<Job> {
     (0..JOBS).map(job).collect()
 }
 
-/// Calls that the book after case d accepts; the last drops a name that some vectors have.
+/// Calls that the book after case d accepts.
 fn calls() -> Vec<Call> {
     let mut calls = vec![
         Call::Enrol {
@@ -89,7 +89,6 @@ fn calls() -> Vec<Call> {
         let day = 60_000;
         calls.push(Call::Retire { volume, day });
     }
-    calls.extend([cases::name(0, 2, "n"), cases::unname("pre-surgery")]);
     calls
 }
 

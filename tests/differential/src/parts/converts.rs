@@ -1,8 +1,7 @@
-//! Converters, with outputs of any length: between layouts 1 and 2 there and back, and on to layouts 3
-//! and 4.
+//! Converters, with outputs of any length: between layouts 1 and 2 there and back, and on to layout 3.
 
 use reference::call::{Call, Stored};
-use reference::layout::{Book, NAMES, NAME_CELL_BYTES};
+use reference::layout::Book;
 use reference::layout_2::{self, renumbered, FROM_REPLACING};
 use reference::prng::Prng;
 use reference::random_books::{disturb, narrowed};
@@ -33,12 +32,12 @@ fn exact_room(way: Way, book: &[u8]) -> usize {
     way.output_bytes(book).min(book.len() + 9_000)
 }
 
-/// Every converter on a book and on the same in layouts 3, 2 and 1: with an output of just the length,
+/// Every converter on a book and on the same in layouts 2 and 1: with an output of just the length,
 /// with one a byte short, and with a longer one.
 pub fn send_all(outcome: &mut Outcome, label: Label, book: &[u8]) {
     let mut prng = Prng::seeded(0);
-    let (third, wide) = (renumbered(3, book), renumbered(2, book));
-    let mut books = vec![book, &third, &wide];
+    let wide = renumbered(book);
+    let mut books = vec![book, &wide];
     let narrow = narrowed(&wide);
     books.extend(narrow.as_deref());
     for book in books {
@@ -54,13 +53,12 @@ pub fn send_all(outcome: &mut Outcome, label: Label, book: &[u8]) {
 /// Each converter on a book of its own layout, with an output of just the length.
 pub fn send_exact(outcome: &mut Outcome, label: Label, book: &[u8]) {
     let mut prng = Prng::seeded(0);
-    let (third, wide) = (renumbered(3, book), renumbered(2, book));
+    let wide = renumbered(book);
     let narrow = narrowed(&wide);
     for way in Way::ALL {
         let book = match way {
             Way::OneToTwo => narrow.as_deref(),
             Way::TwoToOne | Way::TwoToThree => Some(&wide[..]),
-            Way::ThreeToFour => Some(&third[..]),
         };
         if let Some(book) = book {
             let exact = exact_room(way, book);
@@ -88,7 +86,6 @@ pub fn send_any(outcome: &mut Outcome, prng: &mut Prng, label: Label, book: &[u8
     }
     match way.back() {
         Some(back) => send_returning(outcome, prng, &label, (&book, way, back)),
-        None if way == Way::ThreeToFour => send_longer(outcome, prng, &label, &book),
         None => send_afresh(outcome, prng, &label, &book),
     }
     if prng.once_in(10) {
@@ -98,19 +95,15 @@ pub fn send_any(outcome: &mut Outcome, prng: &mut Prng, label: Label, book: &[u8
     }
 }
 
-/// The book in the layout that a converter takes; in layouts 1 and 2 with the expiries that it has or
-/// those of layout 2.
+/// The book in the layout that a converter takes, with the expiries that it has or those of layout 2.
 fn any_older(prng: &mut Prng, book: &[u8], way: Way) -> Vec<u8> {
-    if way == Way::ThreeToFour {
-        return renumbered(3, book);
-    }
-    let mut older = renumbered(2, book);
+    let mut older = renumbered(book);
     if prng.once_in(2) {
         settle_expiries(&mut Book::over(&mut older[..]), FROM_REPLACING);
     }
     match way {
         Way::OneToTwo => narrowed(&older).expect("a book of layout 2"),
-        _ => older,
+        Way::TwoToOne | Way::TwoToThree => older,
     }
 }
 
@@ -143,33 +136,7 @@ fn send_returning(
     }
 }
 
-/// From layout 3 to 4 with any room.
-fn send_longer(outcome: &mut Outcome, prng: &mut Prng, label: Label, book: &[u8]) {
-    let room = any_room(prng, exact_room(Way::ThreeToFour, book), book.len());
-    send_to_4(outcome, prng, label, book, room);
-}
-
-/// The same bytes under another number, and 128 zeros. Gives the book that was written.
-fn send_to_4(
-    outcome: &mut Outcome,
-    prng: &mut Prng,
-    label: Label,
-    book: &[u8],
-    room: usize,
-) -> Option<Vec<u8>> {
-    let seen = send(outcome, prng, label, (book, Way::ThreeToFour), room)?;
-    if seen.number != 0 {
-        return None;
-    }
-    let mut expected = book.to_vec();
-    expected[0] = 4;
-    expected.resize(book.len() + NAMES * NAME_CELL_BYTES, 0);
-    let new = &seen.content(1)[..expected.len()];
-    outcome.check(label, equal_bytes("the book", new, &expected));
-    Some(expected)
-}
-
-/// From layout 2 to 3 with any room, on to layout 4, and audit there.
+/// From layout 2 to 3 with any room, and audit there.
 pub fn send_afresh(outcome: &mut Outcome, prng: &mut Prng, label: Label, book: &[u8]) {
     let room = any_room(prng, exact_room(Way::TwoToThree, book), book.len());
     send_audited(outcome, prng, label, book, room);
@@ -196,9 +163,7 @@ fn send_audited(
     if seen.number != 0 {
         return None;
     }
-    let third = &seen.content(1)[..book.len()];
-    let room = exact_room(Way::ThreeToFour, third);
-    let new = send_to_4(outcome, prng, label, third, room)?;
+    let new = seen.content(1)[..book.len()].to_vec();
     let said = send_audit(outcome, prng, label, new.clone());
     let faults = layout_2::faults(2, book).unwrap_or_default();
     // A wrong expiry is healed and stands in the way of nothing else; what goes by no day stays.

@@ -2,7 +2,7 @@
 
 use reference::call::{Call, Stored};
 use reference::cases;
-use reference::layout::{Book, Entry, Header, Lbn, NameCell, Pbn};
+use reference::layout::{Book, Header, Lbn, Pbn};
 use reference::layout_2::renumbered;
 use reference::play::encode;
 use reference::prng::Prng;
@@ -18,9 +18,6 @@ use crate::seen::{equal, Seen};
 /// The numbers that each call is tried with; the faults of a set go together.
 const BACKUP: &[u16] = &[1, 2, 3, 4, 5, 7, 8, 9, 10, 11, 13, 14];
 const RETIRE: &[u16] = &[1, 2, 4, 5, 7, 9, 10, 13];
-/// In the order of the checks: what a damaged book's counts say comes last.
-const NAME: &[u16] = &[1, 2, 4, 5, 15, 16, 23, 24, 14];
-const UNNAME: &[u16] = &[1, 2, 4, 23, 13];
 const READ: &[u16] = &[1, 2, 3, 5, 15, 16, 17, 18];
 /// In the order of the checks: 21 comes before 18.
 const RESTORE: &[u16] = &[1, 2, 3, 5, 15, 16, 21, 18];
@@ -50,8 +47,6 @@ pub fn jobs() -> Vec<Job> {
     let job = |(numbers, make)| Job::new(PART, move |o| send_calls(o, numbers, make));
     let mut jobs: Vec<Job> = calls.into_iter().map(job).collect();
     jobs.push(Job::new(PART, send_retires));
-    jobs.push(Job::new(PART, send_names));
-    jobs.push(Job::new(PART, send_unnames));
     jobs.push(Job::new(PART, send_restores));
     jobs.push(Job::new(PART, send_books));
     jobs.push(Job::new(PART, send_views));
@@ -88,27 +83,6 @@ fn send_retires(outcome: &mut Outcome) {
     }
 }
 
-fn send_names(outcome: &mut Outcome) {
-    let mut prng = Prng::seeded(0);
-    for faults in sets(NAME) {
-        for (stored, call) in faults.names() {
-            let (stored, call) = (&stored, &call);
-            send(outcome, &mut prng, &faults, Request::Call { stored, call });
-        }
-    }
-}
-
-fn send_unnames(outcome: &mut Outcome) {
-    let mut prng = Prng::seeded(0);
-    for faults in sets(UNNAME) {
-        let stored = &faults.named();
-        for name in faults.wrong_names("unknown", "name 0") {
-            let call = &Call::Unname { name };
-            send(outcome, &mut prng, &faults, Request::Call { stored, call });
-        }
-    }
-}
-
 /// Every way in which a restore has these faults.
 fn send_restores(outcome: &mut Outcome) {
     let mut prng = Prng::seeded(0);
@@ -136,15 +110,7 @@ fn send_books(outcome: &mut Outcome) {
 /// What shows a book, with an output that is a byte short for 20.
 fn send_views(outcome: &mut Outcome) {
     let mut prng = Prng::seeded(0);
-    let numbers = [
-        BOOK,
-        BOOK,
-        VOLUME,
-        VOLUME_ROWS,
-        VOLUME_ROWS,
-        BLOCK_ROWS,
-        BLOCK_ROWS,
-    ];
+    let numbers = [BOOK, BOOK, VOLUME, VOLUME_ROWS, VOLUME_ROWS, BLOCK_ROWS];
     for (index, numbers) in numbers.into_iter().enumerate() {
         for faults in sets(numbers) {
             let room = View::all(1)[index].output_bytes(&cases::after_d().book);
@@ -165,8 +131,7 @@ fn send_lists(outcome: &mut Outcome) {
         for faults in sets(PLAY) {
             let restore = Call::Restore(damage.restores()[0].0);
             let retire = damage.retires().remove(0).1;
-            let mut calls = vec![damage.backup(), damage.read(), restore, retire];
-            calls.extend([cases::name(0, 2, "n"), cases::unname("n"), Call::Audit]);
+            let calls = [damage.backup(), damage.read(), restore, retire, Call::Audit];
             let mut list = encode(&calls);
             let room = play::room_for(&list) - usize::from(faults.has(20));
             if faults.has(19) {
@@ -184,8 +149,8 @@ fn send_converts(outcome: &mut Outcome) {
     let mut prng = Prng::seeded(0);
     for way in Way::ALL {
         let numbers = match way {
+            Way::OneToTwo | Way::TwoToThree => CONVERT,
             Way::TwoToOne => CONVERT_BACK,
-            _ => CONVERT,
         };
         for faults in sets(numbers) {
             for book in faults.books(way) {
@@ -298,65 +263,6 @@ impl Faults {
         volumes.iter().map(retire).collect()
     }
 
-    /// A box with names of volume 1's newest backup, in all cells for 24. Block 1 is all that it has.
-    fn named(&self) -> Stored {
-        let mut stored = self.stored();
-        let mut book = Book::over(&mut stored.book[..]);
-        for at in 0..self.either(24, 8, 1) {
-            let name = cases::padded(&format!("name {at}"));
-            let (volume, number) = (1, 2);
-            let cell = NameCell {
-                name,
-                volume,
-                number,
-            };
-            book.set_name_cell(at, cell);
-        }
-        stored
-    }
-
-    /// For 14 block 1 is counted to the end, or free. 5 comes by a volume that there isn't and by one
-    /// that isn't enrolled, and 23 in each way.
-    fn names(&self) -> Vec<(Stored, Call)> {
-        let stopped: &[fn(&mut Entry)] = &[
-            |entry| entry.count = u16::MAX,
-            |entry| {
-                entry.count = 0;
-                entry.set_free();
-            },
-        ];
-        let entries: &[fn(&mut Entry)] = self.either(14, stopped, &[|_| {}]);
-        let volumes: &[u16] = self.either(5, &[8, 2], &[1]);
-        let number = self.either(15, 3, self.either(16, 1, 2));
-        let mut named = Vec::new();
-        for edit in entries {
-            let mut stored = self.named();
-            Book::over(&mut stored.book[..]).edit_entry(Pbn(1), edit);
-            for &volume in volumes {
-                let names = self.wrong_names("name 0", "other").into_iter();
-                let call = |name| Call::Name {
-                    volume,
-                    number,
-                    name,
-                };
-                named.extend(names.map(|name| (stored.clone(), call(name))));
-            }
-        }
-        named
-    }
-
-    /// Those that give 23, the first of them by this text, or the one that doesn't.
-    fn wrong_names(&self, wrong: &str, right: &str) -> Vec<Vec<u8>> {
-        if !self.has(23) {
-            return vec![cases::padded(right).to_vec()];
-        }
-        let short = b"pre-surgery".to_vec();
-        let mut zero = cases::padded(right).to_vec();
-        zero[0] = 0;
-        let wrong = cases::padded(wrong).to_vec();
-        vec![wrong, short, vec![7; 13], zero, vec![0; 12], Vec::new()]
-    }
-
     /// Volume 1's backup 1 is kept to day 9, and its newest one has a block at LBN 3 alone.
     fn read(&self) -> Call {
         Call::Read {
@@ -397,12 +303,10 @@ impl Faults {
     /// The book in the layout that the converter takes, broken for 1 in each way.
     fn books(&self, way: Way) -> Vec<Vec<u8>> {
         let without_1 = Faults(self.0.iter().copied().filter(|&n| n != 1).collect());
-        let book = &without_1.stored().book;
-        let wide = renumbered(2, book);
+        let wide = renumbered(&without_1.stored().book);
         let book = match way {
             Way::OneToTwo => narrowed(&wide).expect("a book of layout 2"),
             Way::TwoToOne | Way::TwoToThree => wide,
-            Way::ThreeToFour => renumbered(3, book),
         };
         if !self.has(1) {
             return vec![book];
@@ -415,7 +319,7 @@ impl Faults {
         let mut longer = book.clone();
         longer.push(0);
         let shorter = book[..book.len() - 1].to_vec();
-        let others = (0..6).filter(|&layout| layout != way.from());
+        let others = (0..5).filter(|&layout| layout != way.from());
         let mut books: Vec<_> = others.map(numbered).collect();
         books.extend([numbered(256 + way.from()), longer, shorter]);
         books

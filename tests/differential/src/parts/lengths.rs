@@ -26,8 +26,6 @@ pub fn jobs() -> Vec<Job> {
     let box_jobs = (0..4).map(|buffer| Job::new(PART, move |o| send_box(o, buffer)));
     let writer_jobs = (0..4).map(|buffer| Job::new(PART, move |o| send_writer(o, buffer)));
     let mut jobs: Vec<Job> = box_jobs.chain(writer_jobs).collect();
-    jobs.push(Job::new(PART, send_layouts));
-    jobs.push(Job::new(PART, send_names));
     jobs.push(Job::new(PART, send_outputs));
     jobs.push(Job::new(PART, send_converts));
     jobs
@@ -39,57 +37,10 @@ fn resized(bytes: &[u8], length: usize) -> Vec<u8> {
     bytes
 }
 
-/// The box after case d with a name.
-fn named() -> Stored {
-    let mut stored = cases::after_d();
-    stored.call(&cases::name(0, 1, NAME));
-    stored
-}
-
-/// Each call on the book after case d in every older layout, which has its own length.
-fn send_layouts(outcome: &mut Outcome) {
-    let mut prng = Prng::seeded(0);
-    let wide = layout_2::after_d().book;
-    let narrow = narrowed(&wide).expect("a book of layout 2");
-    let third = layout_2::renumbered(3, &cases::after_d().book);
-    for book in [narrow, wide, third] {
-        let label = || format!("lengths, a book of layout {}", book[0]);
-        outcome.compare(&mut prng, &label, Request::Form { book: &book });
-        let stored = &Stored {
-            book: book.clone(),
-            ..cases::after_d()
-        };
-        for call in &calls(cases::list(&[(0, "X")])) {
-            restores::send_call(outcome, &mut prng, &label, stored, call);
-        }
-    }
-}
-
-/// Names and droppings of any length: the name that there is, cut off or with zeros after it.
-fn send_names(outcome: &mut Outcome) {
-    let mut prng = Prng::seeded(0);
-    let stored = &named();
-    for text in [NAME, "other"] {
-        for length in lengths(12).into_iter().chain(0..30) {
-            let name = resized(&cases::padded(text), length);
-            let label = || format!("lengths, a name of {length} bytes");
-            let (volume, number) = (0, 1);
-            let given = Call::Name {
-                volume,
-                number,
-                name: name.clone(),
-            };
-            for call in &[given, Call::Unname { name }] {
-                outcome.compare(&mut prng, &label, Request::Call { stored, call });
-            }
-        }
-    }
-}
-
-/// Calls on the box after case d with a name, with book, pool, spare or list resized.
+/// Calls on the box after case d, with book, pool, spare or list resized.
 fn send_box(outcome: &mut Outcome, buffer: usize) {
     let mut prng = Prng::seeded(0);
-    let box_after_d = named();
+    let box_after_d = cases::after_d();
     let list = cases::list(&[(0, "X"), (2, "A")]);
     let buffers = [
         &box_after_d.book,
@@ -124,8 +75,8 @@ fn send_box(outcome: &mut Outcome, buffer: usize) {
     }
 }
 
-/// Each call, as the box after case d with a name accepts it.
-fn calls(list: Vec<u8>) -> [Call; 9] {
+/// Each call, as the box after case d accepts it.
+fn calls(list: Vec<u8>) -> [Call; 7] {
     [
         Call::Enrol {
             volume: 7,
@@ -144,13 +95,9 @@ fn calls(list: Vec<u8>) -> [Call; 9] {
         },
         Call::Restore(TWO_BLOCKS),
         Call::Retire { volume: 0, day: 20 },
-        cases::name(0, 1, "other"),
-        cases::unname(NAME),
         Call::Audit,
     ]
 }
-
-const NAME: &str = "pre-surgery";
 
 const TWO_BLOCKS: Run = Run {
     volume: 0,
@@ -190,12 +137,10 @@ fn send_converts(outcome: &mut Outcome) {
     let mut prng = Prng::seeded(0);
     let wide = layout_2::after_d().book;
     let narrow = narrowed(&wide).expect("a book of layout 2");
-    let third = layout_2::renumbered(3, &cases::after_d().book);
     for (way, book) in [
         (Way::OneToTwo, &narrow),
         (Way::TwoToOne, &wide),
         (Way::TwoToThree, &wide),
-        (Way::ThreeToFour, &third),
     ] {
         let exact = way.output_bytes(book);
         for room in lengths(exact).into_iter().chain([book.len(), exact - 4]) {

@@ -37,7 +37,6 @@ pub fn broken() -> Vec<Job> {
         send_cut,
         send_heads,
         send_data,
-        send_names,
         send_rooms,
         send_wrapping,
         send_whole_volume,
@@ -199,7 +198,7 @@ fn send_spoiled(
             0 => calls.truncate(prng.index(calls.len())),
             1 => calls.extend(vec![0; 1 + prng.index(HEAD_BYTES)]),
             // The first head.
-            2 => calls[prng.index(HEAD_BYTES)] = prng.pick(&[0, 1, 4, 5, 6, 7, 8, 9, 255]),
+            2 => calls[prng.index(HEAD_BYTES)] = prng.pick(&[0, 1, 4, 5, 6, 7, 255]),
             _ => {
                 let at = prng.index(calls.len());
                 calls[at] ^= 1 << prng.below(8);
@@ -226,8 +225,6 @@ fn one_of_each() -> Vec<Call> {
         Call::Audit,
         restore(0, 2),
         Call::Retire { volume: 0, day: 13 },
-        cases::name(0, 1, "pre-surgery"),
-        cases::unname("pre-surgery"),
     ]
 }
 
@@ -267,7 +264,7 @@ fn send_heads(outcome: &mut Outcome) {
     for number in 0..calls.len() {
         let place = encode(&calls[..number]).len();
         for at in place..place + HEAD_BYTES {
-            for value in [0, 1, 2, 3, 4, 5, 6, 7, 8, 9, 128, 255] {
+            for value in [0, 1, 2, 3, 4, 5, 6, 7, 128, 255] {
                 let mut calls = whole.clone();
                 calls[at] = value;
                 let label = || format!("list with {value} at {at}");
@@ -296,28 +293,6 @@ fn send_data(outcome: &mut Outcome) {
                 send_any(outcome, &mut prng, &label, (stored, &calls));
             }
         }
-    }
-}
-
-/// Names of any length in a list: the call refuses them, and goes by all of their bytes.
-fn send_names(outcome: &mut Outcome) {
-    let mut prng = Prng::seeded(0);
-    let stored = &cases::after_d();
-    for length in [0, 1, 11, 12, 13, 24, 65_535, 65_536, 65_548] {
-        let name = || vec![b'n'; length];
-        let (volume, number) = (0, 1);
-        let given = Call::Name {
-            volume,
-            number,
-            name: name(),
-        };
-        let dropped = Call::Unname { name: name() };
-        let known = cases::unname("nnnnnnnnnnnn");
-        let twelve = cases::name(0, 1, "nnnnnnnnnnnn");
-        let calls = [given.clone(), known, twelve, given, dropped, Call::Audit];
-        let label = || format!("list with names of {length} bytes");
-        let list = encode(&calls);
-        send(outcome, &mut prng, &label, (stored, &list), room_for(&list));
     }
 }
 

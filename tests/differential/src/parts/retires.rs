@@ -3,18 +3,20 @@
 
 use reference::call::{Answer, Call, Stored};
 use reference::cases::{self, after_d, SIZES};
+use reference::history::History;
 use reference::layout::{Book, Header, Lbn, Pbn, Sizes, HELD};
+use reference::plain::Plain;
 use reference::prng::Prng;
 use reference::random_books::disturb;
 use reference::random_calls::RandomCalls;
 use reference::store;
 
-use super::clinic::Clinic;
 use super::runs::disturbed;
-use super::Job;
+use super::tested::Tested;
+use super::{runs, views, Job};
 use crate::outcome::Outcome;
 use crate::request::Request;
-use crate::seen::equal;
+use crate::seen::{equal, Seen};
 
 const PART: &str = "retirements";
 
@@ -50,6 +52,58 @@ pub fn send_disturbed(
     }
     let (stored, label) = (&stored, || format!("{}, disturbed", label()));
     outcome.compare(prng, &label, Request::Call { stored, call });
+}
+
+/// A box in step with the plain store and the history.
+struct Clinic {
+    tested: Tested,
+    plain: Plain,
+    history: History,
+    prng: Prng,
+}
+
+impl Clinic {
+    fn new(outcome: &mut Outcome, label: Label, sizes: Sizes) -> Option<Self> {
+        let mut prng = Prng::seeded(0);
+        let pool = vec![0; sizes.pool_bytes()];
+        Some(Clinic {
+            tested: Tested::format(outcome, &mut prng, label, sizes, pool)?,
+            plain: Plain::new(sizes),
+            history: History::new(sizes.lbns),
+            prng,
+        })
+    }
+
+    fn call(&mut self, outcome: &mut Outcome, label: Label, call: &Call) -> Option<Seen> {
+        let answer = self.plain.call(call);
+        let seen = self.tested.call(outcome, &mut self.prng, label, call)?;
+        let pool = &self.tested.0.pool;
+        outcome.check(label, runs::answers_agree(&answer, &seen, pool));
+        if let Some(past) = self.history.answer(call) {
+            outcome.check(label, runs::answers_agree(&past, &seen, pool));
+        }
+        self.history.note(call, &answer);
+        Some(seen)
+    }
+
+    /// Reads of each backup and the rows of this volume, and what the audit says.
+    fn look(&mut self, outcome: &mut Outcome, label: Label, volume: u16) -> Option<()> {
+        let backups = self.history.backups(volume) as u16;
+        for number in 1..=backups + 1 {
+            for lbn in 0..self.plain.sizes().lbns.min(4) {
+                let read = Call::Read {
+                    volume,
+                    number,
+                    lbn,
+                };
+                self.call(outcome, label, &read)?;
+            }
+        }
+        self.call(outcome, label, &Call::Audit)?;
+        let (book, plain) = (&self.tested.0.book, &self.plain);
+        views::send_plain(outcome, &mut self.prng, label, (book, plain), &[volume]);
+        Some(())
+    }
 }
 
 /// Retention, the days of two backups, and that of the retirement.
@@ -108,9 +162,27 @@ fn send_days(outcome: &mut Outcome) {
 /// retirement leaves no count.
 fn send_every_volume(outcome: &mut Outcome) {
     let label = || "eight volumes retired".to_string();
-    let Some(mut clinic) = Clinic::crowded(outcome, &label) else {
+    let sizes = Sizes {
+        blocks: 2,
+        lbns: 1_024,
+        slots: 16,
+        records: 16_384,
+    };
+    let Some(mut clinic) = Clinic::new(outcome, &label, sizes) else {
         return;
     };
+    let piece = "A".repeat(64);
+    let rows: Vec<(u16, &str)> = (0..16).map(|index| (64 * index, &piece[..])).collect();
+    let enrols = (0..8).map(|volume| Call::Enrol {
+        volume,
+        retention: 1,
+    });
+    let backups = (0..8).map(|volume| cases::backup(volume, 1, &rows));
+    for call in enrols.chain(backups) {
+        if clinic.call(outcome, &label, &call).is_none() {
+            return;
+        }
+    }
     for volume in 0..8 {
         let seen = clinic.call(outcome, &label, &retire(volume, 2));
         if seen.is_none() || clinic.look(outcome, &label, volume).is_none() {

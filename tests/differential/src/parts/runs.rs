@@ -15,7 +15,7 @@ use reference::store::Run;
 use reference::view::View;
 
 use super::tested::Tested;
-use super::{converts, names, restores, retires, views, Job};
+use super::{converts, restores, retires, views, Job};
 use crate::outcome::Outcome;
 use crate::request::Request;
 use crate::seen::{equal, Seen};
@@ -100,9 +100,7 @@ impl Course {
         outcome.check(&label, answers_agree(&answer, &seen, &stored.pool));
         let volumes = match answer {
             _ if last => ALL_VOLUMES,
-            Answer::Freed(_) | Answer::Retired(_) | Answer::Named | Answer::Unnamed => {
-                &[prng.pick(ALL_VOLUMES)]
-            }
+            Answer::Freed(_) | Answer::Retired(_) => &[prng.pick(ALL_VOLUMES)],
             _ => &[],
         };
         send_plain(outcome, prng, &label, (stored, &self.plain), volumes);
@@ -123,7 +121,6 @@ impl Course {
             send_disturbed(outcome, prng, label, stored, (call, view));
             send_run_disturbed(outcome, drawn, label, (stored, run));
             retires::send_disturbed(outcome, drawn, label, (stored, &self.calls));
-            names::send_disturbed(outcome, drawn, label, (stored, &self.calls));
         }
     }
 }
@@ -146,8 +143,8 @@ fn send_plain(
     views::send_plain(outcome, prng, label, (book, plain), volumes);
 }
 
-/// Counts as many held blocks as the plain store has, and a reference for each cell of its current and
-/// its named maps that names a block.
+/// Counts as many held blocks as the plain store has, and a reference for each of its cells that
+/// names a block.
 fn send_count(
     outcome: &mut Outcome,
     prng: &mut Prng,
@@ -158,8 +155,7 @@ fn send_count(
     let Some(seen) = outcome.compare(prng, label, Request::Count { book }) else {
         return;
     };
-    let current = (0..VOLUMES).flat_map(|volume| plain.current_map(volume));
-    let cells = current.chain(plain.named_maps().flatten().copied());
+    let cells = (0..VOLUMES).flat_map(|volume| plain.current_map(volume));
     let named = cells.filter(|&pbn| pbn != UNMAPPED).count() as u32;
     for (index, expected) in [(1, plain.held().count() as u32), (3, named)] {
         let (name, answer) = seen.answers[index];
@@ -177,7 +173,7 @@ pub fn answers_agree(answer: &Answer, seen: &Seen, pool: &[u8]) -> Result<(), St
     let damaged = DAMAGE.contains(&seen.number);
     equal("a number of damage", damaged, false)?;
     let expected = match answer {
-        Answer::Refused(_) | Answer::Enrolled | Answer::Named | Answer::Unnamed => return Ok(()),
+        Answer::Refused(_) | Answer::Enrolled => return Ok(()),
         Answer::BackedUp(b) => vec![b.number, b.taken, b.touched],
         Answer::Freed(number) | Answer::Retired(number) => vec![*number],
         Answer::Sound(sound) => vec![u16::from(*sound)],

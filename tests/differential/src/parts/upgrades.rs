@@ -6,7 +6,7 @@ use std::ops::Range;
 
 use reference::history::History;
 use reference::keeping;
-use reference::layout::{Book, Header, LAYOUT, NAMES, NAME_CELL_BYTES};
+use reference::layout::{Book, Header};
 use reference::layout_2::{self, OldBox};
 use reference::plain::Plain;
 use reference::prng::Prng;
@@ -94,9 +94,8 @@ fn send_old(outcome: &mut Outcome, prng: &mut Prng, label: Label, book: Vec<u8>)
     disturb(prng, &mut disturbed);
     let damaged = || format!("{}, disturbed", label());
     converts::send_afresh(outcome, prng, &damaged, &disturbed);
-    let mut said_4 = book;
-    Book::over(&mut said_4[..]).set_header(Header::Layout, LAYOUT);
-    said_4.resize(said_4.len() + NAMES * NAME_CELL_BYTES, 0);
+    let mut said_3 = book;
+    Book::over(&mut said_3[..]).set_header(Header::Layout, 3);
     let label = || format!("{}, not converted", label());
-    converts::send_audit(outcome, prng, &label, said_4);
+    converts::send_audit(outcome, prng, &label, said_3);
 }

@@ -3,7 +3,7 @@
 use reference::keeping;
 use reference::layout::{Book, Entry, Header, Slot, HELD, VOLUMES};
 use reference::layout_2;
-use reference::store::Fault;
+use reference::store::{self, Fault};
 
 use super::days::replacing;
 use super::Shape;
@@ -19,7 +19,7 @@ impl<'a> Afresh<'a> {
     /// Of an accepted conversion.
     pub fn new(old: &'a [u8], output: &[u8]) -> Self {
         let new = &output[..old.len()];
-        let faults = (layout_2::faults(2, old), layout_2::faults(3, new));
+        let faults = (layout_2::faults(2, old), store::faults(new));
         let (old, new) = (Book::over(old), Book::over(new));
         let entries = old.pbns().map(|pbn| (old.entry(pbn), new.entry(pbn)));
         Afresh {

@@ -1,7 +1,6 @@
 //! Shapes of audits.
 
-use reference::keeping::is_kept;
-use reference::layout::{Book, Header, Slot, HELD, UNMAPPED, VOLUMES};
+use reference::layout::{Book, Slot, HELD, UNMAPPED, VOLUMES};
 use reference::layout_2::{self, renumbered};
 use reference::store::{self, Fault};
 
@@ -20,7 +19,7 @@ fn previous(book: &Book<&[u8]>) -> (bool, bool) {
 pub fn shapes(book: &[u8]) -> [Shape; 13] {
     let faults = store::faults(book).expect("a book in form");
     // A book with a retirement isn't in form in layout 2.
-    let old = layout_2::faults(2, &renumbered(2, book)).ok();
+    let old = layout_2::faults(2, &renumbered(book)).ok();
     let old_has = |fault| old.as_ref().map(|old| old.contains(&fault));
     let (sound, alone) = (faults.is_empty(), |fault| faults == [fault]);
     let view = Book::over(book);
@@ -134,39 +133,4 @@ impl<'a> Retired<'a> {
             ),
         ]
     }
-}
-
-/// The audit of a book with names.
-pub fn named(book: &[u8]) -> [Shape; 6] {
-    let faults = store::faults(book).expect("a book in form");
-    let view = Book::over(book);
-    let names: Vec<(u16, u16)> = view
-        .names()
-        .map(|cell| (cell.volume, cell.number))
-        .collect();
-    let (some, sound) = (!names.is_empty(), faults.is_empty());
-    let twice = (1..names.len()).any(|at| names[..at].contains(&names[at]));
-    let past = |&(volume, number): &(u16, u16)| {
-        let mut backups = view.backups_of(volume as u8);
-        backups.named.clear();
-        !is_kept(&backups, number.into(), view.header(Header::Day))
-    };
-    let count = faults == [Fault::Count];
-    [
-        ("yes, with a name", sound && some),
-        ("yes, with two names of one backup", sound && twice),
-        (
-            "yes, with a backup that its name alone keeps",
-            sound && names.iter().any(past),
-        ),
-        ("no, by a count alone, with a name", count && some),
-        (
-            "no, by a count alone, with two names of one backup",
-            count && twice,
-        ),
-        (
-            "no, by the counts and a freed block, with a name",
-            faults == [Fault::Count, Fault::FreeButNamed] && some,
-        ),
-    ]
 }

@@ -4,7 +4,6 @@ use reference::call::{Call, Stored};
 use reference::layout::BLOCK_BYTES;
 
 use super::Shape;
-use crate::request::takes_spare;
 
 pub struct Buffers {
     book: usize,
@@ -23,6 +22,7 @@ impl Buffers {
             let blocks = usize::from(u16::from_le_bytes([two[0], two[1]]));
             stored.pool.len() as isize - (BLOCK_BYTES * blocks) as isize
         });
+        let takes_spare = matches!(call, Call::Backup { .. } | Call::Retire { .. });
         let list = match call {
             Call::Backup { list, .. } => Some(list.len()),
             _ => None,
@@ -31,7 +31,7 @@ impl Buffers {
         Buffers {
             book: stored.book.len(),
             pool_over,
-            spare_over: takes_spare(call).then_some(spare_over),
+            spare_over: takes_spare.then_some(spare_over),
             list,
         }
     }

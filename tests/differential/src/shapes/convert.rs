@@ -95,7 +95,7 @@ impl<'a> Converted<'a> {
         if let Some(number) = later.first_mut() {
             *number = 3;
         }
-        let alone = self.number == 2 && form::check_in(3, &later).is_ok();
+        let alone = self.number == 2 && form::check(&later).is_ok();
         [("2 for a retirement alone", alone)]
     }
 
@@ -112,25 +112,7 @@ impl<'a> Converted<'a> {
         ]
     }
 
-    /// Of the one that takes retirements.
-    pub fn last_shapes(&self) -> [Shape; 3] {
-        let accepted = self.number == 0;
-        let retired = accepted
-            && Book::over(self.book)
-                .used_slots()
-                .any(|slot| slot.is_retirement());
-        let wide = || form::check_in(2, self.book).is_ok();
-        [
-            ("a retirement", retired),
-            ("1 for a book of layout 2", self.number == 1 && wide()),
-            (
-                "1 for a later number",
-                self.number == 1 && self.says() > Some(4) && self.has_its_length(),
-            ),
-        ]
-    }
-
-    /// Of those that write a longer book.
+    /// Of the one that writes a longer book.
     pub fn longer_shapes(&self) -> [Shape; 1] {
         let as_it_is = self.room == self.book.len();
         [(

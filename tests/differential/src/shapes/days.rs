@@ -15,8 +15,6 @@ pub struct Days {
     /// The day on which the volume was retired, and whether that is the header's.
     retired: Option<u16>,
     retired_today: bool,
-    /// How many names it has.
-    names: usize,
 }
 
 impl Days {
@@ -35,10 +33,6 @@ impl Days {
             replaced_today: next.is_some_and(|next| next.day == today),
             retired,
             retired_today: retired == Some(today),
-            names: book
-                .names()
-                .filter(|cell| (cell.volume, cell.number) == (volume.into(), number))
-                .count(),
         })
     }
 
@@ -104,23 +98,6 @@ pub fn retired_shapes(days: Option<&Days>, number: u16) -> [Shape; 6] {
             "16 for the newest on the day of the retirement",
             gone && at_once,
         ),
-    ]
-}
-
-/// Of a backup with a name.
-pub fn named_shapes(days: Option<&Days>, number: u16) -> [Shape; 4] {
-    let days = days.filter(|days| days.names > 0 && number == 0);
-    let is = |is: fn(&Days) -> bool| days.is_some_and(is);
-    let past = |days: &Days| days.own < 0;
-    let newest = days.is_some_and(Days::is_newest);
-    [
-        ("one with a name, within its days", is(|days| days.own >= 0)),
-        ("by a name alone", !newest && is(past)),
-        (
-            "the newest of a retired volume, by a name alone",
-            newest && is(|days| days.own < 0 && days.retired.is_some()),
-        ),
-        ("one with two names", is(|days| days.names > 1)),
     ]
 }
 

@@ -1,6 +1,6 @@
 //! Shapes of the other calls of the box.
 
-use reference::layout::{Book, Header, Lbn, Pbn, Sizes, Slot, DAY_MAX, HELD, UNMAPPED, VOLUMES};
+use reference::layout::{Book, Header, Lbn, Pbn, Sizes, Slot, DAY_MAX, HELD, UNMAPPED};
 use reference::layout_2::FROM_REPLACING;
 use reference::store::expiries;
 
@@ -31,8 +31,6 @@ pub struct Collect {
     /// was on the header's day.
     retired: bool,
     retired_today: bool,
-    /// A block of no current map stays, whose expiry is past: a name keeps it.
-    named: bool,
 }
 
 impl Collect {
@@ -44,14 +42,7 @@ impl Collect {
         let by_old_rule = view.pbns().zip(expiries(&view, FROM_REPLACING));
         let mut kept_by_it = by_old_rule.filter(|(_, expiry)| *expiry >= day);
         let mut unmapped = retirements(&view).filter(|(_, pbn)| freed(*pbn)).peekable();
-        let current: Vec<Pbn> = (0..VOLUMES).flat_map(|volume| view.map(volume)).collect();
-        let by_name = |pbn: Pbn| {
-            let entry = view.entry(pbn);
-            entry.count > 0 && entry.expiry < day && !current.contains(&pbn)
-        };
-        let has_names = view.names().next().is_some();
         Collect {
-            named: has_names && seen.number == 0 && view.pbns().any(by_name),
             retired: unmapped.peek().is_some(),
             retired_today: unmapped.any(|(day, _)| day == view.header(Header::Day)),
             sooner: kept_by_it.any(|(pbn, _)| freed(pbn)),
@@ -63,7 +54,7 @@ impl Collect {
         }
     }
 
-    pub fn shapes(&self) -> [Shape; 14] {
+    pub fn shapes(&self) -> [Shape; 13] {
         let (accepted, refused) = (self.number == 0, self.number == 7);
         let (day, before, freed) = (self.day, self.day_before, self.freed);
         let waiting = self.waiting.len();
@@ -86,7 +77,6 @@ impl Collect {
                 "frees what a retirement of the book's day unmapped",
                 self.retired_today,
             ),
-            ("leaves what a name alone keeps", self.named),
             ("the day stays", accepted && day == before),
             ("the day goes on", accepted && day > before),
             (
@@ -143,10 +133,6 @@ impl Read {
 
     pub fn day_shapes(&self, refusal: u16) -> [Shape; 6] {
         days::shapes(self.days.as_ref(), refusal)
-    }
-
-    pub fn named_shapes(&self, refusal: u16) -> [Shape; 4] {
-        days::named_shapes(self.days.as_ref(), refusal)
     }
 
     pub fn retired_shapes(&self, refusal: u16) -> impl Iterator<Item = Shape> {
@@ -212,7 +198,7 @@ pub fn format(sizes: Sizes) -> [Shape; 10] {
         ("1,024 slots", sizes.slots == 1_024),
         ("1 record", sizes.records == 1),
         ("16,384 records", sizes.records == 16_384),
-        ("all of them smallest", bytes == 215),
-        ("all of them largest", bytes == 209_060),
+        ("all of them smallest", bytes == 87),
+        ("all of them largest", bytes == 208_932),
     ]
 }

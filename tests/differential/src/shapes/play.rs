@@ -13,7 +13,7 @@ const UNKNOWN: &str = "an unknown kind, alone";
 const EARLY: &str = "data that ends early, alone";
 
 /// What a call mustn't have: the kind, a field's place in the head, and the shape's name.
-const UNUSED: [(u8, usize, &str); 26] = [
+const UNUSED: [(u8, usize, &str); 20] = [
     (0, 6, "an enrol with c, alone"),
     (0, 8, "an enrol with d, alone"),
     (0, 10, "an enrol with data, alone"),
@@ -34,12 +34,6 @@ const UNUSED: [(u8, usize, &str); 26] = [
     (6, 6, "a retirement with c, alone"),
     (6, 8, "a retirement with d, alone"),
     (6, 10, "a retirement with data, alone"),
-    (7, 6, "a name with c, alone"),
-    (7, 8, "a name with d, alone"),
-    (8, 2, "a dropped name with a, alone"),
-    (8, 4, "a dropped name with b, alone"),
-    (8, 6, "a dropped name with c, alone"),
-    (8, 8, "a dropped name with d, alone"),
 ];
 
 /// From the first call that is none to the end.
@@ -65,7 +59,7 @@ fn faults(rest: &[u8]) -> Vec<&'static str> {
     let mut faults: Vec<&str> = unused.map(|(_, _, name)| *name).collect();
     let others = [
         (SECOND, head[1] != 0),
-        (UNKNOWN, head[0] > 8),
+        (UNKNOWN, head[0] > 6),
         (EARLY, data_bytes(head) > data.len()),
     ];
     faults.extend(others.into_iter().filter(|(_, has)| *has).map(|(n, _)| n));
@@ -230,38 +224,6 @@ pub fn told(playing: &Playing, seen: &Seen) -> [Shape; 4] {
         (
             "a retirement refused by 5",
             any("retire", |answer| refusal(answer) == 5),
-        ),
-    ]
-}
-
-/// Of the names in it.
-pub fn named(playing: &Playing, seen: &Seen) -> [Shape; 8] {
-    let answered = answered(playing, seen);
-    let any = |name: &str, is: &dyn Fn(&Call, &[u8]) -> bool| {
-        let mut of_name = answered.iter().filter(|(call, _)| call_name(call) == name);
-        of_name.any(|(call, answer)| is(call, answer))
-    };
-    let accepted = |_: &Call, answer: &[u8]| answer == [0, 0, 0];
-    let length = |call: &Call| match call {
-        Call::Name { name, .. } | Call::Unname { name } => name.len(),
-        _ => 0,
-    };
-    let empty = |call: &Call, _: &[u8]| length(call) == 0;
-    let long = |call: &Call, _: &[u8]| length(call) > 65_535;
-    [
-        ("a name", any("name", &accepted)),
-        ("a dropped name", any("unname", &accepted)),
-        ("a name without data", any("name", &empty)),
-        ("a dropped name without data", any("unname", &empty)),
-        ("a name above 65,535 bytes", any("name", &long)),
-        ("a dropped name above 65,535 bytes", any("unname", &long)),
-        (
-            "a name refused by 24",
-            any("name", &|_, answer| refusal(answer) == 24),
-        ),
-        (
-            "a dropped name refused by 23",
-            any("unname", &|_, answer| refusal(answer) == 23),
         ),
     ]
 }

@@ -135,10 +135,6 @@ impl Restored {
         days::shapes(self.days.as_ref(), self.number)
     }
 
-    pub fn named_shapes(&self) -> [Shape; 4] {
-        days::named_shapes(self.days.as_ref(), self.number)
-    }
-
     pub fn retired_shapes(&self) -> [Shape; 6] {
         days::retired_shapes(self.days.as_ref(), self.number)
     }

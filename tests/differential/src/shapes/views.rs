@@ -13,7 +13,7 @@ fn numbers(row: &[u8]) -> Vec<u16> {
     pairs.map(|p| u16::from_le_bytes([p[0], p[1]])).collect()
 }
 
-/// Of the four that write rows.
+/// Of the three that write rows.
 pub fn output(viewed: &Viewed, number: u16) -> [Shape; 5] {
     let (room, exact) = (viewed.output.len(), viewed.view.output_bytes(viewed.book));
     let (short, accepted) = (number == 20, number == 0);
@@ -63,55 +63,7 @@ pub fn shown(viewed: &Viewed, seen: &Seen) -> Vec<Shape> {
         View::Backups { volume } => backups(viewed.book, volume, rows()).into(),
         View::Cells { .. } => cells(rows()).into(),
         View::Blocks => blocks(rows()).into(),
-        View::Names => names(rows()).into(),
     }
-}
-
-/// Of an accepted call that shows backups with a name.
-pub fn named(viewed: &Viewed, seen: &Seen) -> Vec<Shape> {
-    let View::Backups { volume } = viewed.view else {
-        return Vec::new();
-    };
-    let book = Book::over(viewed.book);
-    let (facts, day) = (book.backups_of(volume as u8), book.header(Header::Day));
-    let rows = backup_rows(rows_of(viewed, seen));
-    let named: Vec<&[u16; 4]> = (1..)
-        .zip(&rows)
-        .filter(|(number, _)| facts.named.contains(number))
-        .map(|(_, row)| row)
-        .collect();
-    let past = |row: &&[u16; 4]| u32::from(row[0]) + u32::from(facts.retention) < day.into();
-    let newest = named.last() == rows.last().as_ref();
-    let retired = facts.retired.is_some() && newest;
-    vec![
-        ("one with a name", !named.is_empty()),
-        ("one that its name alone keeps", named.iter().any(past)),
-        (
-            "the newest of a retired volume that its name alone keeps",
-            retired && named.last().is_some_and(past),
-        ),
-    ]
-}
-
-fn names(rows: &[u8]) -> [Shape; 5] {
-    let used: Vec<bool> = rows.chunks_exact(16).map(|row| row[0] != 0).collect();
-    let number = used.iter().filter(|&&used| used).count();
-    let mut backups: Vec<&[u8]> = rows.chunks_exact(16).map(|row| &row[12..]).collect();
-    backups.retain(|backup| *backup != [0; 4]);
-    backups.sort_unstable();
-    [
-        ("no name", number == 0),
-        ("some names", 0 < number && number < used.len()),
-        ("eight names", number == used.len()),
-        (
-            "an unused cell below a name",
-            used.windows(2).any(|two| two == [false, true]),
-        ),
-        (
-            "two names of one backup",
-            backups.windows(2).any(|two| two[0] == two[1]),
-        ),
-    ]
 }
 
 fn sizes(seen: &Seen) -> [Shape; 4] {

@@ -14,13 +14,10 @@ use crate::tree::Tree;
 const LATER: u16 = 7;
 
 impl Cases {
-    pub(super) fn add_older_layouts(&mut self, older: &[(u16, &Tree)], all: bool) {
-        for (layout, whole) in older {
-            self.add_older(*layout, whole, all);
+    pub(super) fn add_other_layouts(&mut self, whole: &Tree, all: bool) {
+        for layout in LAYOUTS {
+            self.add_older(layout, whole, all);
         }
-    }
-
-    pub(super) fn add_later_layout(&mut self, whole: &Tree) {
         let later = with(whole, BOOK, later_book(whole));
         for line in lines() {
             let says = "refused 1: box/book has layout 7 and";
@@ -61,10 +58,13 @@ impl Cases {
                 let mut changed = book.to_vec();
                 changed[at] ^= mask;
                 let what = format!("book of layout {layout} with byte {at} changed by {mask:#04x}");
-                let said = says_of(sealed::open(&changed).book);
+                let said = says_of(layout, sealed::open(&changed).book);
                 let tree = with(old, BOOK, changed);
                 for line in [UPGRADE, others[turn % others.len()]] {
-                    self.add_told(&what, &tree, line.line, &said);
+                    match &said {
+                        Some(says) => self.add_told(&what, &tree, line.line, says),
+                        None => self.add_judged(&what, &tree, line),
+                    }
                 }
                 turn += 1;
             }
@@ -72,36 +72,34 @@ impl Cases {
     }
 }
 
-/// What every command says of a changed book. One bit makes a book of another older layout of it, which
-/// may be in form there; today's has another length.
-fn says_of(book: &[u8]) -> String {
-    let refusals = LAYOUTS.map(|layout| form::check_in(layout, book).err());
-    let numbers = refusals.map(|refusal| refusal.map_or(0, |refusal| refusal.number()));
-    match numbers.contains(&0) {
-        true => "box/book is damaged: ".into(),
-        false => format!("refused {}:", numbers.into_iter().max().unwrap_or(0)),
+/// What every command says of a changed book; none where it is one of today's layout now.
+fn says_of(layout: u16, book: &[u8]) -> Option<String> {
+    if form::check(book).is_ok() {
+        return None;
     }
+    Some(match form::check_in(layout, book) {
+        Err(refusal) => format!("refused {}:", refusal.number()),
+        Ok(_) => "box/book is damaged: ".into(),
+    })
 }
 
 /// The file of a book in an older layout that is unsound, under a digest that fits.
 fn unsound_old_book(layout: u16, whole: &Tree) -> Vec<u8> {
     let parts = sealed::open(file(whole, BOOK));
     let id = parts.seal.as_ref().expect("a sealed book").id;
-    let book = book_in(layout, &unsound_when_upgraded(layout, &parts));
+    let book = book_in(layout, &unsound_when_upgraded(&parts));
     sealed::make(&book, &parts.lengths, id)
 }
 
-/// A changed book that the audit finds unsound, and also once its expiries are worked out afresh, as
-/// they are for older layouts.
-fn unsound_when_upgraded(layout: u16, parts: &Parts) -> Vec<u8> {
+/// A changed book that the audit finds unsound, and also once its expiries are worked out afresh.
+fn unsound_when_upgraded(parts: &Parts) -> Vec<u8> {
     let changed = (0..parts.book.len()).map(|at| {
         let mut book = parts.book.to_vec();
         book[at] ^= 1;
         book
     });
     let mut unsound = changed.filter(|book| {
-        let wide = layout.max(2);
-        form::check(book).is_ok() && store::audit(&upgraded(&book_in(wide, book))) == Ok(false)
+        form::check(book).is_ok() && store::audit(&upgraded(&book_in(2, book))) == Ok(false)
     });
     unsound.next().expect("some byte that the audit looks at")
 }

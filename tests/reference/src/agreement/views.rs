@@ -2,7 +2,7 @@
 //! single backup, no counts and no expiries.
 
 use crate::keeping::Backups;
-use crate::layout::{get_u16, NameCell, NAMES, NAME_CELL_BYTES, UNUSED_NAME};
+use crate::layout::get_u16;
 use crate::plain::Plain;
 use crate::refusal::Refusal;
 use crate::store::NO_END;
@@ -31,7 +31,7 @@ fn refusal(plain: &Plain, view: View) -> Option<Refusal> {
         View::Volume { volume } | View::Backups { volume } | View::Cells { volume } => {
             plain.volume(volume).err()
         }
-        View::Sizes | View::Used | View::Blocks | View::Names => None,
+        View::Sizes | View::Used | View::Blocks => None,
     }
 }
 
@@ -65,11 +65,6 @@ fn view_agrees(plain: &Plain, view: View, answers: &[u32], rows: &[u8]) -> Resul
                 .all(|(lbn, pbn)| get_u16(rows, 2 * lbn) == pbn.0)
         }
         View::Blocks => blocks_agree(plain, rows),
-        View::Names => {
-            let cells = rows.chunks_exact(NAME_CELL_BYTES).take(NAMES);
-            let cells = cells.map(NameCell::of_bytes);
-            super::names_agree(plain, cells.filter(|cell| *cell != UNUSED_NAME))
-        }
     })
 }
 
@@ -86,9 +81,7 @@ fn backups_agree(
         let [day, until, kept] = [0, 4, 6].map(|at| get_u16(row, at));
         let is_kept = |day| plain.is_kept(volume, number, day);
         let ends = match until {
-            NO_END => {
-                facts.named.contains(&number) || number == days.len() && facts.retired.is_none()
-            }
+            NO_END => number == days.len() && facts.retired.is_none(),
             _ => is_kept(until)? && !is_kept(until + 1)?,
         };
         if day != days[number - 1] || !ends || kept != u16::from(is_kept(plain.day())?) {

@@ -5,8 +5,8 @@ use std::ops::{Deref, DerefMut};
 use crate::keeping::Backups;
 
 use super::{
-    get_u16, put_u16, retention_at, Entry, Header, Lbn, NameCell, Pbn, Places, Record, Sizes, Slot,
-    FINGERPRINT_BYTES, NAME_BYTES, NAME_CELL_BYTES, PAST_COUNT_BYTES,
+    get_u16, put_u16, retention_at, Entry, Header, Lbn, Pbn, Places, Record, Sizes, Slot,
+    FINGERPRINT_BYTES, PAST_COUNT_BYTES,
 };
 
 /// A view of a book whose length fits the layout and the sizes in its header.
@@ -90,21 +90,6 @@ impl<B: Deref<Target = [u8]>> Book<B> {
         }
     }
 
-    pub fn name_cell(&self, cell: usize) -> NameCell {
-        let at = self.places.name_at(cell);
-        NameCell::of_bytes(&self.bytes[at..at + NAME_CELL_BYTES])
-    }
-
-    /// The name cells in order, used or not; none before layout 4.
-    pub fn name_cells(&self) -> impl Iterator<Item = NameCell> + '_ {
-        (0..self.places.name_cells()).map(|cell| self.name_cell(cell))
-    }
-
-    /// The cells that have a name.
-    pub fn names(&self) -> impl Iterator<Item = NameCell> + '_ {
-        self.name_cells().filter(NameCell::is_used)
-    }
-
     pub fn pbns(&self) -> impl Iterator<Item = Pbn> {
         (0..self.sizes().blocks).map(Pbn)
     }
@@ -141,12 +126,10 @@ impl<B: Deref<Target = [u8]>> Book<B> {
     /// What the rule of keeping looks at in a volume.
     pub fn backups_of(&self, volume: u8) -> Backups {
         let slots = self.backup_slots_of(volume);
-        let named = self.names().filter(|cell| cell.volume == volume.into());
         Backups {
             days: slots.iter().map(|slot| slot.day).collect(),
             retention: self.retention(volume),
             retired: self.retired_on(volume),
-            named: named.map(|cell| cell.number.into()).collect(),
         }
     }
 
@@ -196,13 +179,6 @@ impl<B: DerefMut<Target = [u8]>> Book<B> {
         put_u16(&mut self.bytes, at + 4, value.after.0);
     }
 
-    pub fn set_name_cell(&mut self, cell: usize, value: NameCell) {
-        let at = self.places.name_at(cell);
-        self.bytes[at..at + NAME_BYTES].copy_from_slice(&value.name);
-        put_u16(&mut self.bytes, at + NAME_BYTES, value.volume);
-        put_u16(&mut self.bytes, at + NAME_BYTES + 2, value.number);
-    }
-
     pub fn edit_entry(&mut self, pbn: Pbn, edit: impl FnOnce(&mut Entry)) {
         let mut entry = self.entry(pbn);
         edit(&mut entry);
@@ -219,11 +195,5 @@ impl<B: DerefMut<Target = [u8]>> Book<B> {
         let mut value = self.record(record);
         edit(&mut value);
         self.set_record(record, value);
-    }
-
-    pub fn edit_name_cell(&mut self, cell: usize, edit: impl FnOnce(&mut NameCell)) {
-        let mut value = self.name_cell(cell);
-        edit(&mut value);
-        self.set_name_cell(cell, value);
     }
 }

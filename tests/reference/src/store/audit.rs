@@ -4,7 +4,7 @@ use std::collections::HashSet;
 use std::ops::{Deref, DerefMut};
 
 use crate::keeping::{self, IsKept};
-use crate::layout::{Book, Header, NameCell, Pbn, Slot, FREE, HELD, UNMAPPED, VOLUMES};
+use crate::layout::{Book, Header, Pbn, Slot, FREE, HELD, UNMAPPED, VOLUMES};
 
 /// What audit asks of a rule of days.
 #[derive(Clone, Copy)]
@@ -83,37 +83,17 @@ fn maps_are_replayed(book: &Book<&[u8]>) -> bool {
     (0..VOLUMES).all(|volume| book.map(volume) == maps[usize::from(volume)])
 }
 
-/// Those of the maps and, for each name, of the map that it names.
 fn counts_are_cells(book: &Book<&[u8]>) -> bool {
     let mut cells = vec![0u32; usize::from(book.sizes().blocks)];
-    let current = (0..VOLUMES).map(|volume| book.map(volume));
-    let named = book.names().map(|cell| named_map(book, &cell));
-    for cell in current.chain(named).flatten() {
-        if cell != UNMAPPED {
-            cells[cell.index()] += 1;
+    for volume in 0..VOLUMES {
+        for cell in book.map(volume) {
+            if cell != UNMAPPED {
+                cells[cell.index()] += 1;
+            }
         }
     }
     book.pbns()
         .all(|pbn| u32::from(book.entry(pbn).count) == cells[pbn.index()])
-}
-
-/// The map of a backup with a name.
-fn named_map(book: &Book<&[u8]>, cell: &NameCell) -> Vec<Pbn> {
-    let volume = cell.volume as u8;
-    let mut map = book.map(volume);
-    let later = book.used_slots_of(volume).split_off(cell.number.into());
-    for slot in later.iter().rev() {
-        undo(book, slot, &mut map);
-    }
-    map
-}
-
-/// Takes a slot's records back from the last, which leaves the first one's before.
-fn undo(book: &Book<&[u8]>, slot: &Slot, map: &mut [Pbn]) {
-    for index in slot.records().rev() {
-        let record = book.record(index);
-        map[record.lbn.index()] = record.before;
-    }
 }
 
 fn expiries_are_largest(book: &Book<&[u8]>, days: Days) -> bool {
@@ -158,8 +138,9 @@ fn held_fingerprints_differ(book: &Book<&[u8]>) -> bool {
         .all(|entry| seen.insert(entry.fingerprint))
 }
 
-/// Neither the current map nor a kept backup names a free block. Goes back from the current map. The
-/// newest backup is the current map, or what is left once a retirement is undone.
+/// Neither the current map nor a kept backup names a free block. Goes back from the
+/// current map; undoing a slot's records from the last leaves the first one's before. The newest
+/// backup is the current map, or what is left once a retirement is undone.
 fn named_blocks_are_held(book: &Book<&[u8]>, volume: u8, is_kept: IsKept) -> bool {
     let is_held = |&cell: &Pbn| cell == UNMAPPED || book.entry(cell).state != FREE;
     let mut map = book.map(volume);
@@ -169,7 +150,10 @@ fn named_blocks_are_held(book: &Book<&[u8]>, volume: u8, is_kept: IsKept) -> boo
     let slots = book.used_slots_of(volume);
     let (backups, day) = (book.backups_of(volume), book.header(Header::Day));
     for number in (1..slots.len()).rev() {
-        undo(book, &slots[number], &mut map);
+        for index in slots[number].records().rev() {
+            let record = book.record(index);
+            map[record.lbn.index()] = record.before;
+        }
         let kept = is_kept(&backups, number, day);
         if kept && !map.iter().all(is_held) {
             return false;

@@ -1,5 +1,5 @@
 //! Books from one layout to another: every field is equal but the layout number, and, to layout 3,
-//! the expiries. Layout 4 has name cells besides, which are written unused.
+//! the expiries.
 
 use super::audit::{settle_expiries, FROM_TAKING};
 use crate::form;
@@ -12,23 +12,16 @@ pub enum Way {
     OneToTwo,
     TwoToOne,
     TwoToThree,
-    ThreeToFour,
 }
 
 impl Way {
-    pub const ALL: [Way; 4] = [
-        Way::OneToTwo,
-        Way::TwoToOne,
-        Way::TwoToThree,
-        Way::ThreeToFour,
-    ];
+    pub const ALL: [Way; 3] = [Way::OneToTwo, Way::TwoToOne, Way::TwoToThree];
 
     /// The layout that is taken.
     pub fn from(self) -> u16 {
         match self {
             Way::OneToTwo => 1,
             Way::TwoToOne | Way::TwoToThree => 2,
-            Way::ThreeToFour => 3,
         }
     }
 
@@ -38,17 +31,15 @@ impl Way {
             Way::OneToTwo => 2,
             Way::TwoToOne => 1,
             Way::TwoToThree => 3,
-            Way::ThreeToFour => 4,
         }
     }
 
-    /// The converter that gives the very same book back. The old expiries don't come back, and from
-    /// layout 4 there is no way.
+    /// The converter that gives the very same book back. The old expiries don't come back.
     pub fn back(self) -> Option<Way> {
         match self {
             Way::OneToTwo => Some(Way::TwoToOne),
             Way::TwoToOne => Some(Way::OneToTwo),
-            Way::TwoToThree | Way::ThreeToFour => None,
+            Way::TwoToThree => None,
         }
     }
 

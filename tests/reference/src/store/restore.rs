@@ -1,6 +1,6 @@
 //! A run of a backup's blocks in one call: what the reads one by one give, in order.
 
-use super::readable;
+use super::kept_backup;
 use crate::layout::{Lbn, BLOCK_BYTES};
 use crate::refusal::{require, Refusal};
 
@@ -28,7 +28,7 @@ impl Run {
 /// Writes the blocks of a run to the front of the output. No byte is written before every block is
 /// found.
 pub fn restore(book: &[u8], pool: &[u8], run: Run, output: &mut [u8]) -> Result<(), Refusal> {
-    let backup = readable(book, pool, run.volume, run.number)?;
+    let backup = kept_backup(book, pool, run.volume, run.number)?;
     let lbns = backup.book.sizes().lbns;
     require(run.end() <= lbns.into(), Refusal::Run)?;
     require(run.bytes() <= output.len(), Refusal::Run)?;

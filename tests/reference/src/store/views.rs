@@ -6,8 +6,8 @@ use crate::keeping::{is_kept, kept_until};
 use crate::layout::{Header, Sizes, HELD};
 use crate::refusal::{require, Refusal};
 
-/// In place of a day: a backup with a name, and the newest of a volume that isn't retired, has no last
-/// day on which it is kept, and such a volume none on which it was retired.
+/// In place of a day: the newest backup of a volume that isn't retired has no last day on which it is
+/// kept, and the volume none on which it was retired.
 pub const NO_END: u16 = 65_535;
 
 /// How much of a book is used.
@@ -85,17 +85,6 @@ pub fn blocks(book: &[u8], output: &mut [u8]) -> Result<(), Refusal> {
         let held = entry.state == HELD;
         push(&mut rows, &[held.into(), entry.count, entry.expiry]);
         rows.extend(entry.fingerprint);
-    }
-    write(&rows, output)
-}
-
-/// Each name cell as it stands: name, volume and number.
-pub fn names(book: &[u8], output: &mut [u8]) -> Result<(), Refusal> {
-    let book = form::check(book)?;
-    let mut rows = Vec::new();
-    for cell in book.name_cells() {
-        rows.extend(cell.name);
-        push(&mut rows, &[cell.volume, cell.number]);
     }
     write(&rows, output)
 }

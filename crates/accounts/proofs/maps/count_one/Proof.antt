@@ -12,7 +12,7 @@ add-counts : tie.Need-overflow-add-counts
 add-counts c = omega (arith, c.before.before.before.requires.1 (omega arith))
 
 returns-2 : tie.Need-returns-2
-returns-2 c = counted-one _ _ (omega arith) (omega arith)
+returns-2 c = counted-one _ _ (omega arith)
 
 pub count-one-spec : {M : Type 1} → statement M
 count-one-spec =

@@ -4,7 +4,6 @@ use mathlib.Core.Path.{◌≡◌, refl, ◌∙◌}
 use mathlib.Core.List.{[]}
 use lib.ListN.{get_or, take, length-take}
 use lib.Seq.{take_all}
-use Rattle.words.specs.Blocks.{unmapped}
 use Rattle.book.specs.Layout.{book_of}
 use Rattle.accounts.specs.Counts.{Counted}
 use Rattle.accounts.proofs.CountLaws.{counted_none, counted-cell, counted-le}
@@ -60,7 +59,7 @@ loop-again c =
     let m = get_or (book_of s.args.book.now).maps s.args.v [] in (
       omega arith,
       matching-grow _ _ l.l l.inv.1 e.ensures refl,
-      counted-cell m l.l e.result.0 unmapped
+      counted-cell m l.l e.result.0
           (omega (arith, s.pre.0.holds.sized.cells s.args.v s.pre.1.0)) e.ensures l.inv.2
           c.count-one.ensures,
     )

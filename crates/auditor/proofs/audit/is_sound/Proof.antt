@@ -1,7 +1,6 @@
 -- `auditor::audit::is_sound` meets its contract: what each pass decides on its way out.
 use borrow.Author.Rules.{rules}
 use borrow.Author.Tests.{not-true, not-false}
-use Rattle.accounts.proofs.MapsTakenLaws.{taken-few}
 use Rattle.auditor.proofs.WaysOut.{journal-no, maps-no, entries-no, prints-last}
 use Rattle.auditor.proofs.audit.is_sound.Statement.{statement}
 use Rattle.auditor.proofs.audit.is_sound.Tie as tie
@@ -20,33 +19,24 @@ returns-2 c =
     maps-no (start j).requires j.before.take-journal.ensures (not-false _ j.if1.false)
     c.before.maps-match.ensures (not-true _ c.if2.true)
 
-count-names-requires : tie.Need-count-names-requires
-count-names-requires c κs =
-    let m = c.before in
-    let j = m.before.before.before.before in
-    let f = (start j).requires in
-    (f, taken-few f m.before.maps-match.ensures)
-
 returns-3 : tie.Need-returns-3
 returns-3 c =
-    let n = c.before.before.before.before in
-    let m = n.before.before in
+    let m = c.before.before.before.before in
     let j = m.before.before.before.before in
     entries-no (start j).requires j.before.take-journal.ensures (not-false _ j.if1.false)
-    m.before.maps-match.ensures (not-false _ m.if2.false) n.count-names.ensures
+    m.before.maps-match.ensures (not-false _ m.if2.false)
     c.before.entries-match.ensures (not-true _ c.if3.true)
 
 returns-4 : tie.Need-returns-4
 returns-4 c =
     let e = c.before in
-    let n = e.before.before.before.before in
-    let m = n.before.before in
+    let m = e.before.before.before.before in
     let j = m.before.before.before.before in
     prints-last (start j).requires j.before.take-journal.ensures (not-false _ j.if1.false)
-    m.before.maps-match.ensures (not-false _ m.if2.false) n.count-names.ensures
+    m.before.maps-match.ensures (not-false _ m.if2.false)
     e.before.entries-match.ensures (not-false _ e.if3.false) c.prints-sound.ensures
 
 pub is-sound-spec : {M : Type 1} → statement M
 is-sound-spec =
-    tie.close (tie.spec (λ c κs. search rules) returns (λ c κs. search rules) returns-2 count-names-requires (λ c κs. search rules) returns-3
+    tie.close (tie.spec (λ c κs. search rules) returns (λ c κs. search rules) returns-2 (λ c κs. search rules) returns-3
     (λ c κs. search rules) returns-4)

@@ -1,6 +1,5 @@
 -- `fields::fresh::format`: what the two steps left, by `is-fresh`.
 use Rattle.book.proofs.FreshBook.{is-fresh}
-use Rattle.book.specs.Book.{name_count}
 use Rattle.book.specs.Layout.{entry_size}
 use Rattle.book.specs.Next.{new_sizes}
 use borrow.Author.Rules.{rules}
@@ -18,11 +17,11 @@ abbrev start : tie.After-blank → tie.Start
 start c = c.before.before.before
 
 blank-requires : tie.Need-blank-requires
-unfolding entry_size name_count
+unfolding entry_size
 blank-requires c κs = search rules
 
 returns : tie.Need-returns
-unfolding entry_size name_count
+unfolding entry_size
 returns c =
     let k = sized c in
     let b = blanked k in
@@ -33,5 +32,5 @@ returns c =
 pub format-spec : {M : Type 1} → statement M
 format-spec =
     tie.close (tie.spec (λ c. search rules) (λ c. search rules) (λ c. search rules) (λ c. search rules)
-    (λ c. search rules) (λ c. search rules) (λ c. search rules) (λ c. search rules) (λ c. search rules) blank-requires (λ c κs. search rules)
+    (λ c. search rules) (λ c. search rules) (λ c. search rules) blank-requires (λ c κs. search rules)
     (λ c. search rules) returns)

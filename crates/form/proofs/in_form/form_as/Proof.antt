@@ -7,7 +7,7 @@ use Rattle.book.specs.Form.{layout_as}
 use Rattle.book.proofs.FormNumber.{number_1, layout-facts}
 use Rattle.sections.specs.Checks.{head_ok}
 use Rattle.sections.proofs.CheckLaws.{head-facts}
-use Rattle.form.specs.Passes.{blocks_ok, slots_ok, journal_ok}
+use Rattle.form.specs.Passes.{blocks_ok, slots_ok}
 use Rattle.form.proofs.PassLaws.{out-of-form, in_form}
 use Rattle.form.proofs.in_form.form_as.Statement.{statement}
 use Rattle.form.proofs.in_form.form_as.Tie as tie
@@ -30,9 +30,6 @@ blocks c = passed c.before.blocks-ok.ensures c.if3.false
 
 slots : (c : tie.Else4) → slots_ok (started c.before.before).args.book.now ≡ true
 slots c = passed c.before.slots-ok.ensures c.if4.false
-
-journal : (c : tie.Else5) → journal_ok (started c.before.before.before.before).args.book.now ≡ true
-journal c = passed c.before.journal-ok.ensures c.if5.false
 
 returns : tie.Need-returns
 returns c = sym (number_1 _ _ (failed c.before.layout-ok.ensures c.if1.true))
@@ -79,34 +76,18 @@ returns-5 c =
     let h = k.before.before in
     let l = laid h.before.before in
     let no = failed c.before.journal-ok.ensures c.if5.true in
-    out-of-form _ (layout-facts _ _ l).len _ l (rw (head h, blocks k, slots s, no))
-
-names-ok-requires : tie.Need-names-ok-requires
-names-ok-requires c κs =
-    let h = c.before.before.before.before.before.before in
-    (layout-facts _ _ (laid h.before.before), head-facts _ (head h))
+    out-of-form _ (layout-facts _ _ l).len _ l (rw (head h, blocks k, slots s) no)
 
 returns-6 : tie.Need-returns-6
 returns-6 c =
-    let j = c.before.before in
-    let s = j.before.before in
+    let s = c.before.before in
     let k = s.before.before in
     let h = k.before.before in
     let l = laid h.before.before in
-    let no = failed c.before.names-ok.ensures c.if6.true in
-    out-of-form _ (layout-facts _ _ l).len _ l (rw (head h, blocks k, slots s, journal j) no)
-
-returns-7 : tie.Need-returns-7
-returns-7 c =
-    let j = c.before.before in
-    let s = j.before.before in
-    let k = s.before.before in
-    let h = k.before.before in
-    let l = laid h.before.before in
-    let yes = passed c.before.names-ok.ensures c.if6.false in
-    in_form _ (layout-facts _ _ l).len _ l (rw (head h, blocks k, slots s, journal j) yes)
+    let yes = passed c.before.journal-ok.ensures c.if5.false in
+    in_form _ (layout-facts _ _ l).len _ l (rw (head h, blocks k, slots s) yes)
 
 pub form-as-spec : {M : Type 1} → statement M
 form-as-spec =
     tie.close (tie.spec (λ c κs. search rules) returns head-ok-requires returns-2 blocks-ok-requires returns-3
-    slots-ok-requires returns-4 journal-ok-requires returns-5 names-ok-requires returns-6 returns-7)
+    slots-ok-requires returns-4 journal-ok-requires returns-5 returns-6)

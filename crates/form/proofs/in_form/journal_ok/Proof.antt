@@ -32,16 +32,15 @@ used-records-ok-requires c κs =
 
 returns : tie.Need-returns
 returns c =
-    let end = c.before in
-    let used = end.before.before.before.before in
+    let used = c.before.before.before.before in
     let k = found used in
     let s = start k in
-    journal_tests s.args.b.now k.slots-from.ensures used.before.before.u16-at.ensures
-    used.u16-at3.ensures end.names-from.ensures end.before.used-records-ok.ensures c.zeros.ensures
+    journal_tests s.args.b.now s.pre.0.len k.slots-from.ensures used.before.before.u16-at.ensures
+    used.u16-at3.ensures c.before.used-records-ok.ensures c.zeros.ensures
 
 pub journal-ok-spec : {M : Type 1} → statement M
 journal-ok-spec =
     tie.close (tie.spec (λ c κs. search rules) (λ c κs. search rules) (λ c. search rules) (λ c. search rules)
     (λ c. search rules) (λ c κs. search rules) (λ c. search rules) (λ c κs. search rules) (λ c. search rules)
     (λ c κs. search rules) (λ c κs. search rules) used-records-ok-requires (λ c. search rules) (λ c. search rules)
-    (λ c κs. search rules) (λ c κs. search rules) returns)
+    (λ c κs. search rules) returns)

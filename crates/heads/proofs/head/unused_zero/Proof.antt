@@ -57,11 +57,7 @@ returns-5 c = let k = kind c.before in
 past : (c : tie.Else5) (a b x d size : ℕ)
     → (let k = kind c.before in
     unused_zero k a b x d size
-    ≡ (if eqb k 5 then eqb size 0 else
-    if eqb k 6 then eqb x 0 && eqb d 0 && eqb size 0 else
-    if eqb k 7 then eqb x 0 && eqb d 0 else
-    if eqb k 8 then eqb a 0 && eqb b 0 && eqb x 0 && eqb d 0 else
-    false))
+    ≡ (if eqb k 5 then eqb size 0 else if eqb k 6 then eqb x 0 && eqb d 0 && eqb size 0 else false))
 unfolding unused_zero
 past c a b x d size = let k = kind c.before in
     rw (
@@ -79,33 +75,13 @@ returns-7 : tie.Need-returns-7
 returns-7 c =
     let if6 = c.before in
     let k = kind if6.before.before in
-    sym (past if6.before _ _ _ _ _ ∙ rw (ne_eqb k 5 if6.if6.false, eq-eqb k 6 (omega arith)))
+    sym (past if6.before _ _ _ _ _ ∙ rw (ne_eqb k 5 if6.if6.false, eq-eqb k 6 c.if7.true))
 
 returns-8 : tie.Need-returns-8
 returns-8 c =
-    let if7 = c.before in
-    let if6 = if7.before in
+    let if6 = c.before in
     let k = kind if6.before.before in
-    sym (past if6.before _ _ _ _ _ ∙ rw (ne_eqb k 5 if6.if6.false, ne_eqb k 6 if7.if7.false, eq-eqb k 7 c.if8.true))
-
-returns-9 : tie.Need-returns-9
-returns-9 c =
-    let if8 = c.before in
-    let if7 = if8.before in
-    let if6 = if7.before in
-    let k = kind if6.before.before in
-    sym (past if6.before _ _ _ _ _
-    ∙ rw (ne_eqb k 5 if6.if6.false, ne_eqb k 6 if7.if7.false, ne_eqb k 7 if8.if8.false, eq-eqb k 8 c.if9.true))
-
-returns-10 : tie.Need-returns-10
-returns-10 c =
-    let if8 = c.before in
-    let if7 = if8.before in
-    let if6 = if7.before in
-    let k = kind if6.before.before in
-    sym (past if6.before _ _ _ _ _
-    ∙ rw (ne_eqb k 5 if6.if6.false, ne_eqb k 6 if7.if7.false, ne_eqb k 7 if8.if8.false, ne_eqb k 8 c.if9.false))
+    sym (past if6.before _ _ _ _ _ ∙ rw (ne_eqb k 5 if6.if6.false, ne_eqb k 6 c.if7.false))
 
 pub unused-zero-spec : {M : Type 1} → statement M
-unused-zero-spec =
-    tie.close (tie.spec returns returns-2 returns-3 returns-4 returns-5 returns-6 returns-7 returns-8 returns-9 returns-10)
+unused-zero-spec = tie.close (tie.spec returns returns-2 returns-3 returns-4 returns-5 returns-6 returns-7 returns-8)

@@ -9,8 +9,8 @@ use Rattle.book.specs.Book.{Sizes, Slot}
 use Rattle.book.specs.Layout.{book_of}
 use Rattle.book.specs.Next.{with_day}
 use Rattle.book.proofs.Holding.{is-then, is_same}
-use Rattle.clearer.proofs.ClearLaws.{ClearedAt, all-stopped, all-cleared}
 use Rattle.retirer.specs.Closing.{closed_book, WorkedBy}
+use Rattle.retirer.proofs.ClearLaws.{ClearedAt, all-stopped, all-cleared}
 use borrow.Author.Rules.{rules}
 use Rattle.retirer.proofs.retire.work_through.Statement.{statement}
 use Rattle.retirer.proofs.retire.work_through.Tie as tie

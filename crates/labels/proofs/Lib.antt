@@ -1,3 +1,0 @@
-pub mod BackupLaws
-pub mod CellTests
-pub mod LeftLaws

@@ -1,4 +1,0 @@
-pub mod Open
-pub mod Letters
-pub mod Table
-pub mod Both

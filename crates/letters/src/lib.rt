@@ -1,1 +1,0 @@
-// No code: what closed cases are written with, in proofs/.

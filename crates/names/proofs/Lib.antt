@@ -1,3 +1,0 @@
-pub mod CellLaws
-pub mod FindingLaws
-pub mod AllCells

@@ -1,3 +1,0 @@
-pub mod Days
-pub mod Retire
-pub mod Names

@@ -1,0 +1,74 @@
+// The cells of a volume that is retired: how many are mapped, and one after the other cleared.
+ghost use Rattle.std.specs.Prelude.{◌≡◌, true, ◌+◌, ◌<◌, ◌≤◌, length};
+ghost use Rattle.words.specs.Blocks.{unmapped};
+ghost use Rattle.words.specs.Lists.{all};
+ghost use Rattle.book.specs.Book.{volumes, cell_at};
+ghost use Rattle.book.specs.Form.{pbn_ok};
+ghost use Rattle.book.specs.Layout.{told, Holds};
+ghost use Rattle.model.specs.Retire.{mapped_cells};
+ghost use Rattle.retirer.specs.Clearing.{ClearedBy, AllClearedBy};
+
+use fields::{header, map};
+use journal::record;
+use mover::moving::lower;
+use words::{LBN, PBN, UNMAPPED};
+
+// How many cells of volume v's map name a block.
+pub fn mapped_cells(book: &[u8], v: u16) -> u16
+    requires holds { Holds book.now }
+    requires v_lt_volumes { v < volumes }
+    ensures { result ≡ mapped_cells (told book.entry) v }
+{
+    let l = header::cells(book);
+    let mut count = 0;
+    let mut lbn = 0;
+    while lbn < l {
+        let p = map::cell(book, v, LBN(lbn));
+        if p.0 != UNMAPPED {
+            count += 1;
+        }
+        lbn += 1;
+    }
+    count
+}
+
+// A mapped cell: step 3 of a change, then the map names no block there, and a record is added. Not where the block's
+// count is 0.
+fn clear_cell(work: &mut [u8], v: u16, lbn: LBN, until: u16) -> bool
+    requires holds { Holds work.old }
+    requires v_lt_volumes { (v < volumes) × (lbn.0 < (told work).sizes.l) }
+    requires work_value { all (all (pbn_ok (told work).sizes.n)) (told work).maps ≡ true }
+    requires work_len_bound { (cell_at (told work).maps v lbn.0 ≡ unmapped → ⊥)
+        → length (told work).records < (told work).sizes.j }
+    ensures { ClearedBy work v lbn.0 until result }
+{
+    let before = map::cell(work, v, lbn);
+    if before.0 == UNMAPPED {
+        return true;
+    }
+    if !lower(work, before, until) {
+        return false;
+    }
+    map::set_cell(work, v, lbn, PBN(UNMAPPED));
+    record::append_record(work, lbn, before, PBN(UNMAPPED));
+    true
+}
+
+// All cells by LBN; the first that can't be cleared leaves early.
+pub fn clear_cells(work: &mut [u8], v: u16, until: u16) -> bool
+    requires holds { Holds work.old }
+    requires v_lt_volumes { v < volumes }
+    requires work_value { all (all (pbn_ok (told work).sizes.n)) (told work).maps ≡ true }
+    requires v_len_bound { length (told work).records + mapped_cells (told work) v ≤ (told work).sizes.j }
+    ensures { AllClearedBy work v until result }
+{
+    let l = header::cells(work);
+    let mut lbn = 0;
+    while lbn < l {
+        if !clear_cell(work, v, LBN(lbn), until) {
+            return false;
+        }
+        lbn += 1;
+    }
+    true
+}
