@@ -1,5 +1,8 @@
 // Each call made through its exported function. Its answer in bytes is stored at `to`, and each gives the offset past
 // it.
+
+#![tactic(auto)]
+
 ghost use Rattle.std.specs.Prelude.{◌+◌, ◌*◌, ◌≤◌, ◌∷◌, length};
 ghost use Rattle.words.specs.Numbers.{two};
 ghost use Rattle.words.specs.Laying.{Stored};

@@ -1,4 +1,7 @@
 // Book and pool as a call is lent them: numbers 1 to 3, which read and backup check first.
+
+#![tactic(auto)]
+
 ghost use Rattle.std.specs.Prelude.{◌≡◌};
 ghost use Rattle.buffers.specs.Buffers.{buffers_number};
 

@@ -1,2 +1,5 @@
 // A volume's backups by their days, as rows that a host shows.
+
+#![tactic(auto)]
+
 pub mod backups;

@@ -1,6 +1,9 @@
 // Cases a to j of document 01, in order, through the compiled engine: a line for each, with what the calls answer,
 // what the book has afterwards and whether it is sound. A volume's LBNs are written as letters: `AB--` changes LBN 0
 // and 1 to blocks of A and of B.
+
+#![tactic(auto)]
+
 mod calls;
 mod facts;
 

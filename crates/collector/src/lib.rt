@@ -1,2 +1,5 @@
 // Collect: blocks that nothing needs become free.
+
+#![tactic(auto)]
+
 pub mod collect;

@@ -1,5 +1,8 @@
 // The converters: a book of one layout, written in another (document 02, K3 and K4). All is checked before the output
 // is written.
+
+#![tactic(auto)]
+
 ghost use Rattle.std.specs.Prelude.{◌≡◌, ◌≤◌, length};
 ghost use Rattle.words.specs.Lists.{all};
 ghost use Rattle.book.specs.Layout.{header_size, book_size, sizes_of, told, Holds};

@@ -1,4 +1,7 @@
 // The calls of the box (document 01, "The calls"), proved to do what `model` defines, and exported for C.
+
+#![tactic(auto)]
+
 pub mod audit;
 pub mod backup;
 pub mod collect;

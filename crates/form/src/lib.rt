@@ -1,4 +1,7 @@
 // Whether a book is in form: the check that every call makes first.
+
+#![tactic(auto)]
+
 mod in_form;
 
 pub use in_form::{form_as, form_number};

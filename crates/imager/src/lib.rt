@@ -1,5 +1,8 @@
 // A backup's image, whole: the current map, and then the records of the volume's later backups taken back, the last one
 // first. One pass gives the block at every LBN.
+
+#![tactic(auto)]
+
 ghost use Rattle.std.specs.Prelude.{◌≡◌, ◌<◌, ◌≤◌, length};
 ghost use Rattle.std.proofs.Math.Seq.{slice};
 ghost use Rattle.book.specs.Book.{volumes};

@@ -1,4 +1,7 @@
 // Whether a volume has a backup of this number and keeps it, and where its later backups start.
+
+#![tactic(auto)]
+
 ghost use Rattle.std.specs.Prelude.{◌≡◌};
 ghost use Rattle.book.specs.Layout.{told, Holds};
 ghost use Rattle.book.specs.FormFacts.{FormFacts};

@@ -1,5 +1,8 @@
 // The changes of a list that was checked (document 01, "Change list"): a cursor over them, fingerprint and block of
 // change i.
+
+#![tactic(auto)]
+
 ghost use Rattle.std.specs.Prelude.{◌≡◌, ◌+◌, ◌*◌, ◌<◌};
 ghost use Rattle.words.specs.Sections.{part};
 ghost use Rattle.runs.specs.Changes.{change_at, prints_from};

@@ -1,5 +1,8 @@
 // The marks of an aid in longest runs (document 01, "The writer on the aid"), each cut into pieces that are runs of the
 // list (document 02, K1): how many there are, and their pairs in bytes.
+
+#![tactic(auto)]
+
 ghost use Rattle.std.specs.Prelude.{◌≡◌, ◌+◌, ◌≤◌, ◌<◌, length};
 ghost use Rattle.words.specs.Laying.{Stored};
 ghost use Rattle.runs.specs.Passing.{row_after};

@@ -1,4 +1,7 @@
 // Pages that are written from a book.
+
+#![tactic(auto)]
+
 mod line;
 
 ghost use Rattle.std.specs.Prelude.{◌≡◌, ◌≤◌, length, take};

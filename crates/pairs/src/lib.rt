@@ -1,4 +1,7 @@
 // Whether bytes are a change list (document 01, "Change list", number 8), and what its pairs come to.
+
+#![tactic(auto)]
+
 ghost use Rattle.std.specs.Prelude.{◌≡◌, ◌+◌, ◌*◌, ◌≤◌, length};
 ghost use Rattle.runs.specs.Changes.{pair_count, pair_fits, pair_size};
 ghost use Rattle.pairs.specs.Answers.{countedOf, checkedOf};

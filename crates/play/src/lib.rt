@@ -1,4 +1,7 @@
 // Lists of calls in bytes (docs/FORMAT.md), checked as a whole and then played through the exported functions; their
 // answers are written in bytes.
+
+#![tactic(auto)]
+
 pub mod fresh;
 pub mod playing;

@@ -1,5 +1,8 @@
 // Reads N, L, S, J and a list of calls from standard input (docs/FORMAT.md), plays the list on a fresh book and prints
 // the answers, a line for each call.
+
+#![tactic(auto)]
+
 mod printing;
 
 use fields::sizes::{size, sizes_ok};

@@ -1,4 +1,7 @@
 // Every expiry of a book worked out afresh from its journal (document 02, K4), whatever it was before.
+
+#![tactic(auto)]
+
 ghost use Rattle.std.specs.Prelude.{◌<◌};
 ghost use Rattle.book.specs.FormFacts.{BookParts};
 ghost use Rattle.book.specs.Layout.{told, Holds, Is};

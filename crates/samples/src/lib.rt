@@ -1,4 +1,7 @@
 // What the programs that run the engine share: sample blocks, backups of them, and what is printed.
+
+#![tactic(auto)]
+
 mod backups;
 mod blocks;
 mod lists;

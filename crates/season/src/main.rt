@@ -1,6 +1,9 @@
 // A season of the box: eight volumes with retentions of a day to a quarter of a year send what changed; once a week
 // blocks are collected, and every backup is read back and compared with what was sent. It prints the book's page, how
 // many calls of each kind were made and what came of them.
+
+#![tactic(auto)]
+
 mod calls;
 mod counts;
 mod draw;

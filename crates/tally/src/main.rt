@@ -1,4 +1,7 @@
 // Reads a book from standard input and prints its page (document 01, "the program tally").
+
+#![tactic(auto)]
+
 use libc::{STDIN_FILENO, STDOUT_FILENO};
 
 fn main() {
