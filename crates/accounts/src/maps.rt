@@ -7,6 +7,7 @@ ghost use Rattle.accounts.specs.Counts.{Counted};
 ghost use Rattle.accounts.specs.MapsTaken.{AtMost};
 ghost use Rattle.due.specs.Pool.{pool_blocks, OfPool};
 ghost use Rattle.replay.specs.Table.{row_size};
+ghost use Rattle.words.specs.Lent.{lent};
 
 use fields::header;
 use fields::map::cell;
@@ -29,7 +30,7 @@ fn count_one(counts: &mut Table, p: PBN)
 fn take_row(book: &[u8], cells: &Cells, counts: &mut Table, v: u16) -> bool
     requires form_facts { FormFacts book.now }
     requires v_lt_volumes { (v < volumes) × OfPool counts.old × AtMost (v * row_size) counts.old }
-    ensures { TakesRow book cells counts v result }
+    ensures { TakesRow book cells (lent counts) v result }
 {
     let row = (v as usize) * MAX_LBNS;
     let wide = header::cells(book);
@@ -47,7 +48,7 @@ fn take_row(book: &[u8], cells: &Cells, counts: &mut Table, v: u16) -> bool
 // The counts start at 0, whatever was there.
 pub fn maps_match(book: &[u8], cells: &Cells, counts: &mut Table) -> bool
     requires { FormFacts book.now }
-    ensures { TakesMaps book cells counts result }
+    ensures { TakesMaps book cells (lent counts) result }
 {
     *counts = [0u16; MAX_BLOCKS];
     let mut good = true;

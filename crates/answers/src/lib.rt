@@ -9,6 +9,7 @@ ghost use Rattle.words.specs.Laying.{Stored};
 ghost use Rattle.model.specs.Calls.{enrol, backup, collect, retire, read, audit};
 ghost use Rattle.calls.specs.Asked.{listed, restore};
 ghost use Rattle.calls.specs.Doing.{DidLent, DidSpared, DidAnySpare, DidAnyPool};
+ghost use Rattle.words.specs.Lent.{lent};
 
 use engine::audit::aspen_audit;
 use engine::backup::aspen_backup;
@@ -44,7 +45,7 @@ fn tell(answers: &mut [u8], to: usize, tag: u8, v: u16) -> usize
 
 pub fn answer_enrol(book: &mut [u8], v: u16, retention: u16, answers: &mut [u8], to: usize) -> usize
     requires { to + 3 ≤ length answers.old }
-    ensures { DidAnyPool book (listed (enrol v retention)) answers to result }
+    ensures { DidAnyPool (lent book) (listed (enrol v retention)) (lent answers) to result }
 {
     let refusal = aspen_enrol(book, v, retention);
     tell(answers, to, NUMBER, refusal)
@@ -52,7 +53,7 @@ pub fn answer_enrol(book: &mut [u8], v: u16, retention: u16, answers: &mut [u8],
 
 pub fn answer_collect(book: &mut [u8], day: u16, answers: &mut [u8], to: usize) -> usize
     requires { to + 3 ≤ length answers.old }
-    ensures { DidAnyPool book (listed (collect day)) answers to result }
+    ensures { DidAnyPool (lent book) (listed (collect day)) (lent answers) to result }
 {
     let mut freed = 0u16;
     let refusal = aspen_collect(book, day, &mut freed);
@@ -71,7 +72,7 @@ pub fn answer_retire(
     to: usize,
 ) -> usize
     requires { to + 3 ≤ length answers.old }
-    ensures { DidSpared book spare (listed (retire v day)) answers to result }
+    ensures { DidSpared (lent book) (lent spare) (listed (retire v day)) (lent answers) to result }
 {
     let mut cells = 0u16;
     let refusal = aspen_retire(book, spare, v, day, &mut cells);
@@ -91,7 +92,7 @@ pub fn answer_read(
     to: usize,
 ) -> usize
     requires { to + 513 ≤ length answers.old }
-    ensures { DidAnySpare book pool (listed (read v number lbn)) answers to result }
+    ensures { DidAnySpare book pool (listed (read v number lbn)) (lent answers) to result }
 {
     let mut at = 0u32;
     let refusal = aspen_read(book, pool, v, number, lbn, &mut at);
@@ -116,7 +117,7 @@ pub fn answer_restore(
     to: usize,
 ) -> usize
     requires { to + 3 + many * 512 ≤ length answers.old }
-    ensures { DidAnySpare book pool (restore v number first many) answers to result }
+    ensures { DidAnySpare book pool (restore v number first many) (lent answers) to result }
 {
     let from = to + 3;
     let end = from + (many as usize) * BLOCK_SIZE;
@@ -130,7 +131,7 @@ pub fn answer_restore(
 
 pub fn answer_audit(book: &[u8], answers: &mut [u8], to: usize) -> usize
     requires { to + 3 ≤ length answers.old }
-    ensures { DidAnyPool book (listed audit) answers to result }
+    ensures { DidAnyPool book (listed audit) (lent answers) to result }
 {
     let mut sound = 0u16;
     let refusal = aspen_audit(book, &mut sound);
@@ -151,7 +152,7 @@ pub fn answer_backup(
     to: usize,
 ) -> usize
     requires { to + 7 ≤ length answers.old }
-    ensures { DidLent book pool spare (listed (backup v day list.now)) answers to result }
+    ensures { DidLent (lent book) (lent pool) (lent spare) (listed (backup v day list.now)) (lent answers) to result }
 {
     let mut number = 0u16;
     let mut taken = 0u16;

@@ -4,6 +4,7 @@ ghost use Rattle.book.specs.Layout.{told};
 ghost use Rattle.book.specs.FormFacts.{FormFacts};
 ghost use Rattle.model.specs.Audit.{audit};
 ghost use Rattle.auditor.specs.Promises.{Audited};
+ghost use Rattle.words.specs.Lent.{lent};
 
 use super::prints::prints_sound;
 use accounts::maps::maps_match;
@@ -37,7 +38,7 @@ fn is_sound(book: &[u8]) -> bool
 
 // The number that refuses the book, or 0; then sound is 1 for yes and 0 for no.
 pub fn answer(book: &[u8], sound: &mut u16) -> u16
-    ensures { Audited book sound result }
+    ensures { Audited book (lent sound) result }
 {
     let refusal = form_number(book);
     if refusal != 0 {

@@ -9,6 +9,7 @@ ghost use Rattle.model.specs.Views.{backups_of};
 ghost use Rattle.calendar.specs.Promises.{BackupsTold};
 ghost use Rattle.calendar.specs.Own.{NextIs};
 ghost use Rattle.calendar.specs.Row.{until_from, row_from};
+ghost use Rattle.words.specs.Lent.{lent};
 
 use fields::header;
 use figures::enrolled::enrolled_number;
@@ -88,7 +89,7 @@ fn put_rows(book: &[u8], v: u16, out: &mut [u8])
 }
 
 pub fn backups(book: &[u8], volume: u16, out: &mut [u8], count: &mut u16) -> u16
-    ensures { BackupsTold book volume out count result }
+    ensures { BackupsTold book volume (lent out) (lent count) result }
 {
     let refusal = enrolled_number(book, volume);
     if refusal != 0 {

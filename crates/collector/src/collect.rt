@@ -2,10 +2,11 @@
 ghost use Rattle.std.specs.Prelude.{◌≡◌, map, ◌<◌};
 ghost use Rattle.words.specs.Lists.{count_of};
 ghost use Rattle.book.specs.Book.{entry_at};
-ghost use Rattle.book.specs.Layout.{told, Holds, Is};
+ghost use Rattle.book.specs.Layout.{book_of, told, Holds, Is};
 ghost use Rattle.book.specs.Next.{with_entry, with_entries};
 ghost use Rattle.model.specs.Collect.{is_over, swept_entry};
 ghost use Rattle.collector.specs.Promises.{Swept};
+ghost use Rattle.words.specs.Lent.{lent};
 
 use entries::entry;
 use fields::header;
@@ -25,9 +26,9 @@ fn is_over(book: &[u8], p: PBN, day: u16) -> bool
 // Frees the block if it is over, and says whether it did.
 fn free_over(book: &mut [u8], p: PBN, day: u16) -> bool
     requires holds { Holds book.old }
-    requires p_bound { p.0 < (told book).sizes.n }
-    ensures value { result ≡ is_over day (entry_at (told book.entry).entries p.0) }
-    ensures is { Is book.new (with_entry (swept_entry day) p.0 (told book.entry)) }
+    requires p_bound { p.0 < (book_of book.old).sizes.n }
+    ensures value { result ≡ is_over day (entry_at (book_of book.old).entries p.0) }
+    ensures is { Is book.new (with_entry (swept_entry day) p.0 (book_of book.old)) }
 {
     if !is_over(book, p, day) {
         return false;
@@ -39,9 +40,9 @@ fn free_over(book: &mut [u8], p: PBN, day: u16) -> bool
 // One pass over the blocks; the answer is how many became free.
 fn sweep(book: &mut [u8], day: u16) -> u16
     requires { Holds book.old }
-    ensures value { result ≡ count_of (is_over day) (told book.entry).entries }
+    ensures value { result ≡ count_of (is_over day) (book_of book.old).entries }
     ensures is { Is book.new
-        (with_entries (map (swept_entry day) (told book.entry).entries) (told book.entry)) }
+        (with_entries (map (swept_entry day) (book_of book.old).entries) (book_of book.old)) }
 {
     let n = header::blocks(book);
     let mut freed: u16 = 0;
@@ -57,7 +58,7 @@ fn sweep(book: &mut [u8], day: u16) -> u16
 
 // The call: freed is how many blocks became free.
 pub fn collect(book: &mut [u8], day: u16, freed: &mut u16) -> u16
-    ensures { Swept book day freed result }
+    ensures { Swept (lent book) day (lent freed) result }
 {
     let in_form = form_number(book);
     if in_form != 0 {

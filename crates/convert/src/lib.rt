@@ -9,6 +9,7 @@ ghost use Rattle.book.specs.Layout.{header_size, book_size, sizes_of, told, Hold
 ghost use Rattle.book.specs.Next.{sizes_in};
 ghost use Rattle.model.specs.Convert.{is_narrow};
 ghost use Rattle.convert.specs.Promises.{WrittenInTwo, WrittenInOne, WrittenInThree};
+ghost use Rattle.words.specs.Lent.{lent};
 
 use entries::entry;
 use fields::header::{J_OFFSET, L_OFFSET, N_OFFSET, S_OFFSET, blocks};
@@ -49,7 +50,7 @@ fn all_narrow(book: &[u8]) -> bool
 }
 
 pub fn convert_1_2(book: &[u8], out: &mut [u8]) -> u16
-    ensures { WrittenInTwo book out result }
+    ensures { WrittenInTwo book (lent out) result }
 {
     let refusal = form_as(book, 1);
     if refusal != 0 {
@@ -63,7 +64,7 @@ pub fn convert_1_2(book: &[u8], out: &mut [u8]) -> u16
 }
 
 pub fn convert_2_1(book: &[u8], out: &mut [u8]) -> u16
-    ensures { WrittenInOne book out result }
+    ensures { WrittenInOne book (lent out) result }
 {
     let refusal = form_as(book, 2);
     if refusal != 0 {
@@ -81,7 +82,7 @@ pub fn convert_2_1(book: &[u8], out: &mut [u8]) -> u16
 
 // The book is written first, and its expiries are worked out there. What follows it in the output stays.
 pub fn convert_2_3(book: &[u8], out: &mut [u8]) -> u16
-    ensures { WrittenInThree book out result }
+    ensures { WrittenInThree book (lent out) result }
 {
     let in_form = form_as(book, 2);
     if in_form != 0 {

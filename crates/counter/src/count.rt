@@ -1,5 +1,6 @@
 // What a book's entries come to, for callers that print their own page.
 ghost use Rattle.counter.specs.Counted.{CountedUp};
+ghost use Rattle.words.specs.Lent.{lent};
 
 use super::counts::count_entries;
 use form::form_number;
@@ -13,7 +14,7 @@ pub fn count(
     waiting: &mut u16,
     references: &mut u32,
 ) -> u16
-    ensures { CountedUp book blocks held waiting references result }
+    ensures { CountedUp book (lent blocks) (lent held) (lent waiting) (lent references) result }
 {
     let refusal = form_number(book);
     if refusal != 0 {

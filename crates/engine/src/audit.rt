@@ -1,11 +1,12 @@
 // Audit: whether the book is sound.
 ghost use Rattle.auditor.specs.Promises.{Audited};
+ghost use Rattle.words.specs.Lent.{lent};
 
 use auditor::audit::answer;
 
 #[unsafe(no_mangle)]
 pub extern "C" fn aspen_audit(book: &[u8], sound: &mut u16) -> u16
-    ensures { Audited book sound result }
+    ensures { Audited book (lent sound) result }
 {
     answer(book, sound)
 }

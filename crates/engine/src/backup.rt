@@ -1,5 +1,6 @@
 // Backup: a change list becomes a backup of a volume.
 ghost use Rattle.intake.specs.Promises.{BackedUp};
+ghost use Rattle.words.specs.Lent.{lent};
 
 #[unsafe(no_mangle)]
 pub extern "C" fn aspen_backup(
@@ -13,7 +14,7 @@ pub extern "C" fn aspen_backup(
     taken: &mut u16,
     touched: &mut u16,
 ) -> u16
-    ensures { BackedUp book pool spare volume day list number taken touched result }
+    ensures { BackedUp (lent book) (lent pool) (lent spare) volume day list (lent number) (lent taken) (lent touched) result }
 {
     intake::backup::backup(book, pool, spare, volume, day, list, number, taken, touched)
 }

@@ -1,5 +1,6 @@
 // Counting: how many blocks are held and waiting, and how many references point to them.
 ghost use Rattle.counter.specs.Counted.{CountedUp};
+ghost use Rattle.words.specs.Lent.{lent};
 
 use counter::count::count;
 
@@ -11,7 +12,7 @@ pub extern "C" fn aspen_count(
     waiting: &mut u16,
     references: &mut u32,
 ) -> u16
-    ensures { CountedUp book blocks held waiting references result }
+    ensures { CountedUp book (lent blocks) (lent held) (lent waiting) (lent references) result }
 {
     count(book, blocks, held, waiting, references)
 }

@@ -1,5 +1,6 @@
 // Read: a block of a backup. Rattle callers get the block itself, C callers its offset in the pool.
 ghost use Rattle.restorer.specs.Promises.{Located};
+ghost use Rattle.words.specs.Lent.{lent};
 
 pub use restorer::read::{read, read_number};
 use words::LBN;
@@ -14,7 +15,7 @@ pub extern "C" fn aspen_read(
     lbn: u16,
     at: &mut u32,
 ) -> u16
-    ensures { Located book pool volume number lbn at result }
+    ensures { Located book pool volume number lbn (lent at) result }
 {
     restorer::read::read_offset(book, pool, volume, number, LBN(lbn), at)
 }

@@ -1,5 +1,6 @@
 // Restore: a run of a backup's blocks, to the front of the output (document 02, K2).
 ghost use Rattle.recover.specs.Promises.{Restored};
+ghost use Rattle.words.specs.Lent.{lent};
 
 #[unsafe(no_mangle)]
 pub extern "C" fn aspen_restore(
@@ -11,7 +12,7 @@ pub extern "C" fn aspen_restore(
     many: u16,
     out: &mut [u8],
 ) -> u16
-    ensures { Restored book pool volume number first many out result }
+    ensures { Restored book pool volume number first many (lent out) result }
 {
     recover::restore(book, pool, volume, number, first, many, out)
 }

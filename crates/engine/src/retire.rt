@@ -1,5 +1,6 @@
 // Retire (document 02, K6): a volume gets no backup any more.
 ghost use Rattle.retirer.specs.Promises.{RetiredBy};
+ghost use Rattle.words.specs.Lent.{lent};
 
 #[unsafe(no_mangle)]
 pub extern "C" fn aspen_retire(
@@ -9,7 +10,7 @@ pub extern "C" fn aspen_retire(
     day: u16,
     cells: &mut u16,
 ) -> u16
-    ensures { RetiredBy book spare volume day cells result }
+    ensures { RetiredBy (lent book) (lent spare) volume day (lent cells) result }
 {
     retirer::retire::retire(book, spare, volume, day, cells)
 }

@@ -1,5 +1,6 @@
 // The numbers that a host shows of a book: its sizes, how much of it is used, and what a volume has.
 ghost use Rattle.figures.specs.Promises.{SizesTold, UsedTold, VolumeTold};
+ghost use Rattle.words.specs.Lent.{lent};
 
 #[unsafe(no_mangle)]
 pub extern "C" fn aspen_sizes(
@@ -9,14 +10,14 @@ pub extern "C" fn aspen_sizes(
     slots: &mut u16,
     records: &mut u16,
 ) -> u16
-    ensures { SizesTold book blocks cells slots records result }
+    ensures { SizesTold book (lent blocks) (lent cells) (lent slots) (lent records) result }
 {
     figures::header::sizes(book, blocks, cells, slots, records)
 }
 
 #[unsafe(no_mangle)]
 pub extern "C" fn aspen_used(book: &[u8], slots: &mut u16, records: &mut u16, day: &mut u16) -> u16
-    ensures { UsedTold book slots records day result }
+    ensures { UsedTold book (lent slots) (lent records) (lent day) result }
 {
     figures::header::used(book, slots, records, day)
 }
@@ -29,7 +30,7 @@ pub extern "C" fn aspen_volume(
     backups: &mut u16,
     retired: &mut u16,
 ) -> u16
-    ensures { VolumeTold book volume retention backups retired result }
+    ensures { VolumeTold book volume (lent retention) (lent backups) (lent retired) result }
 {
     figures::volume::volume(book, volume, retention, backups, retired)
 }

@@ -2,7 +2,7 @@
 ghost use Rattle.std.specs.Prelude.{◌≡◌, ◌<◌, length};
 ghost use Rattle.words.specs.Blocks.{print_size};
 ghost use Rattle.book.specs.Book.{entry_at};
-ghost use Rattle.book.specs.Layout.{told, Holds, Is};
+ghost use Rattle.book.specs.Layout.{book_of, told, Holds, Is};
 ghost use Rattle.book.specs.Next.{count_as, expiry_as, held_as, made_free, with_entry};
 
 use fields::offsets::entry_offset;
@@ -60,8 +60,8 @@ pub fn print_of(book: &[u8], p: PBN) -> &[u8]
 
 pub fn set_count(book: &mut [u8], p: PBN, c: u16)
     requires holds { Holds book.old }
-    requires p_bound { p.0 < (told book).sizes.n }
-    ensures { Is book.new (with_entry (count_as c) p.0 (told book.entry)) }
+    requires p_bound { p.0 < (book_of book.old).sizes.n }
+    ensures { Is book.new (with_entry (count_as c) p.0 (book_of book.old)) }
 {
     let at = entry_offset(p);
     put_u16(book, at, c);
@@ -69,8 +69,8 @@ pub fn set_count(book: &mut [u8], p: PBN, c: u16)
 
 pub fn set_expiry(book: &mut [u8], p: PBN, day: u16)
     requires holds { Holds book.old }
-    requires p_bound { p.0 < (told book).sizes.n }
-    ensures { Is book.new (with_entry (expiry_as day) p.0 (told book.entry)) }
+    requires p_bound { p.0 < (book_of book.old).sizes.n }
+    ensures { Is book.new (with_entry (expiry_as day) p.0 (book_of book.old)) }
 {
     let at = entry_offset(p);
     put_u16(book, at + EXPIRY, day);
@@ -79,8 +79,8 @@ pub fn set_expiry(book: &mut [u8], p: PBN, day: u16)
 // The block becomes held with this fingerprint; its count and expiry stay.
 pub fn hold(book: &mut [u8], p: PBN, print: &[u8])
     requires holds { Holds book.old }
-    requires p_bound { (p.0 < (told book).sizes.n) × (length print.now ≡ print_size) }
-    ensures { Is book.new (with_entry (held_as print.now) p.0 (told book.entry)) }
+    requires p_bound { (p.0 < (book_of book.old).sizes.n) × (length print.now ≡ print_size) }
+    ensures { Is book.new (with_entry (held_as print.now) p.0 (book_of book.old)) }
 {
     let at = entry_offset(p);
     book[at + STATE] = HELD;
@@ -90,8 +90,8 @@ pub fn hold(book: &mut [u8], p: PBN, print: &[u8])
 // The block becomes free with a zero fingerprint; its count and expiry stay.
 pub fn free(book: &mut [u8], p: PBN)
     requires holds { Holds book.old }
-    requires p_bound { p.0 < (told book).sizes.n }
-    ensures { Is book.new (with_entry made_free p.0 (told book.entry)) }
+    requires p_bound { p.0 < (book_of book.old).sizes.n }
+    ensures { Is book.new (with_entry made_free p.0 (book_of book.old)) }
 {
     let at = entry_offset(p);
     book[at + STATE] = FREE;

@@ -1,7 +1,7 @@
 // The header's numbers and the retentions.
 ghost use Rattle.std.specs.Prelude.{◌≡◌, ◌<◌, length};
 ghost use Rattle.book.specs.Book.{volumes, retention_of};
-ghost use Rattle.book.specs.Layout.{told, Holds, Is};
+ghost use Rattle.book.specs.Layout.{book_of, told, Holds, Is};
 ghost use Rattle.book.specs.Next.{with_day, with_cursor, with_retention};
 
 use words::{put_u16, u16_at};
@@ -106,14 +106,14 @@ pub fn retention(book: &[u8], v: u16) -> u16
 
 pub fn set_day(book: &mut [u8], day: u16)
     requires { Holds book.old }
-    ensures { Is book.new (with_day day (told book.entry)) }
+    ensures { Is book.new (with_day day (book_of book.old)) }
 {
     put_u16(book, DAY_OFFSET, day);
 }
 
 pub fn set_cursor(book: &mut [u8], cursor: u16)
     requires { Holds book.old }
-    ensures { Is book.new (with_cursor cursor (told book.entry)) }
+    ensures { Is book.new (with_cursor cursor (book_of book.old)) }
 {
     put_u16(book, CURSOR_OFFSET, cursor);
 }
@@ -121,7 +121,7 @@ pub fn set_cursor(book: &mut [u8], cursor: u16)
 pub fn set_retention(book: &mut [u8], v: u16, days: u16)
     requires holds { Holds book.old }
     requires v_lt_volumes { v < volumes }
-    ensures { Is book.new (with_retention v days (told book.entry)) }
+    ensures { Is book.new (with_retention v days (book_of book.old)) }
 {
     put_u16(book, HEADER_SIZE + (v as usize) * 2, days);
 }

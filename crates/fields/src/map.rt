@@ -3,7 +3,7 @@ ghost use Rattle.std.specs.Prelude.{◌≡◌, [], ◌<◌, get_or};
 ghost use Rattle.words.specs.Numbers.{two};
 ghost use Rattle.words.specs.Sections.{flat};
 ghost use Rattle.book.specs.Book.{volumes, cell_at};
-ghost use Rattle.book.specs.Layout.{told, Holds, Is};
+ghost use Rattle.book.specs.Layout.{book_of, told, Holds, Is};
 ghost use Rattle.book.specs.Next.{with_cell};
 
 use super::header;
@@ -22,8 +22,8 @@ pub fn cell(book: &[u8], v: u16, lbn: LBN) -> PBN
 
 pub fn set_cell(book: &mut [u8], v: u16, lbn: LBN, p: PBN)
     requires holds { Holds book.old }
-    requires v_lt_volumes { (v < volumes) × (lbn.0 < (told book).sizes.l) }
-    ensures { Is book.new (with_cell v lbn.0 p.0 (told book.entry)) }
+    requires v_lt_volumes { (v < volumes) × (lbn.0 < (book_of book.old).sizes.l) }
+    ensures { Is book.new (with_cell v lbn.0 p.0 (book_of book.old)) }
 {
     let at = cell_offset(book, v, lbn);
     put_u16(book, at, p.0);

@@ -1,5 +1,6 @@
 // The sizes of a book, and how much of it is used.
 ghost use Rattle.figures.specs.Promises.{SizesTold, UsedTold};
+ghost use Rattle.words.specs.Lent.{lent};
 
 use fields::header;
 use form::form_number;
@@ -12,7 +13,7 @@ pub fn sizes(
     slots: &mut u16,
     records: &mut u16,
 ) -> u16
-    ensures { SizesTold book blocks cells slots records result }
+    ensures { SizesTold book (lent blocks) (lent cells) (lent slots) (lent records) result }
 {
     let refusal = form_number(book);
     if refusal != 0 {
@@ -27,7 +28,7 @@ pub fn sizes(
 
 // Slots and records used, and the book's day.
 pub fn used(book: &[u8], slots: &mut u16, records: &mut u16, day: &mut u16) -> u16
-    ensures { UsedTold book slots records day result }
+    ensures { UsedTold book (lent slots) (lent records) (lent day) result }
 {
     let refusal = form_number(book);
     if refusal != 0 {

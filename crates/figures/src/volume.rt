@@ -4,6 +4,7 @@ ghost use Rattle.book.specs.Layout.{told, Holds};
 ghost use Rattle.model.specs.Journal.{slots_of, backup_count};
 ghost use Rattle.model.specs.Views.{retired_on};
 ghost use Rattle.figures.specs.Promises.{VolumeTold};
+ghost use Rattle.words.specs.Lent.{lent};
 
 use super::enrolled::enrolled_number;
 use fields::header;
@@ -52,7 +53,7 @@ pub fn volume(
     backups: &mut u16,
     retired: &mut u16,
 ) -> u16
-    ensures { VolumeTold book volume retention backups retired result }
+    ensures { VolumeTold book volume (lent retention) (lent backups) (lent retired) result }
 {
     let refusal = enrolled_number(book, volume);
     if refusal != 0 {

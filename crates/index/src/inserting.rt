@@ -2,7 +2,7 @@
 ghost use Rattle.std.specs.Prelude.{◌≡◌, false, ◌<◌, length};
 ghost use Rattle.words.specs.Blocks.{print_size};
 ghost use Rattle.book.specs.Book.{entry_at};
-ghost use Rattle.book.specs.Layout.{told, Holds, Is};
+ghost use Rattle.book.specs.Layout.{book_of, Holds, Is};
 ghost use Rattle.book.specs.Next.{held_as, with_entry};
 ghost use Rattle.finder.specs.Indexed.{Indexed};
 
@@ -15,11 +15,11 @@ use words::limits::Table;
 // bucket below it, so that a lookup still finds the lowest.
 pub fn hold(book: &mut [u8], heads: &mut Table, nexts: &mut Table, p: PBN, print: &[u8])
     requires holds { Holds book.old }
-    requires p_bound { (p.0 < (told book).sizes.n) × ((entry_at (told book).entries p.0).held ≡ false) }
+    requires p_bound { (p.0 < (book_of book.old).sizes.n) × ((entry_at (book_of book.old).entries p.0).held ≡ false) }
     requires print_len { length print.now ≡ print_size }
-    requires indexed { Indexed (told book).entries heads.old nexts.old }
-    ensures is { Is book.new (with_entry (held_as print.now) p.0 (told book.entry)) }
-    ensures indexed_2 { Indexed (told book.exit).entries heads.new nexts.new }
+    requires indexed { Indexed (book_of book.old).entries heads.old nexts.old }
+    ensures is { Is book.new (with_entry (held_as print.now) p.0 (book_of book.old)) }
+    ensures indexed_2 { Indexed (book_of book.new).entries heads.new nexts.new }
 {
     entry::hold(book, p, print);
     let at = p.0 as usize;

@@ -1,12 +1,13 @@
 // Backup: a change list becomes a backup of a volume.
 ghost use Rattle.std.specs.Prelude.{◌≡◌, ◌<◌, length};
 ghost use Rattle.book.specs.Book.{volumes};
-ghost use Rattle.book.specs.Layout.{told, Holds, Is};
+ghost use Rattle.book.specs.Layout.{book_of, told, Holds, Is};
 ghost use Rattle.book.specs.FormFacts.{FormFacts};
 ghost use Rattle.mover.specs.Stepping.{step_number};
 ghost use Rattle.placer.specs.Working.{Job};
 ghost use Rattle.intake.specs.Promises.{BackedUp};
 ghost use Rattle.intake.specs.Closing.{closed_book, WorkedBy};
+ghost use Rattle.words.specs.Lent.{lent};
 
 use super::storing::{copy, store_all};
 use fields::header;
@@ -30,8 +31,8 @@ fn step_number(step: Step) -> u16
 // The slot of the backup is added, and its day becomes the book's.
 fn close(work: &mut [u8], v: u16, day: u16, first: u16, number: u16)
     requires holds { Holds work.old }
-    requires work_len_bound { (length (told work).slots < (told work).sizes.s) × (v < volumes) }
-    ensures { Is work.new (closed_book v day first number (told work.entry)) }
+    requires work_len_bound { (length (book_of work.old).slots < (book_of work.old).sizes.s) × (v < volumes) }
+    ensures { Is work.new (closed_book v day first number (book_of work.old)) }
 {
     slot::append_slot(work, v, false, day, first, number);
     header::set_day(work, day);
@@ -52,7 +53,7 @@ fn work_through(
     requires form_facts { FormFacts book.now × (work.old ≡ book.now) }
     requires job { Job (told book) pool.old list.now shape × (v < volumes) }
     requires book_len_bound { length (told book).slots < (told book).sizes.s }
-    ensures { WorkedBy book pool work list v day until result }
+    ensures { WorkedBy book (lent pool) (lent work) list v day until result }
 {
     let mut taker = [0u16; MAX_BLOCKS];
     let step = run_changes(book, pool, work, list, shape, &mut taker, v, until);
@@ -77,7 +78,7 @@ pub fn backup(
     taken: &mut u16,
     touched: &mut u16,
 ) -> u16
-    ensures { BackedUp book pool spare volume day list number taken touched result }
+    ensures { BackedUp (lent book) (lent pool) (lent spare) volume day list (lent number) (lent taken) (lent touched) result }
 {
     let allowed = allow(book, pool, spare.len(), volume, day, list);
     let Allowed::Go(plan) = allowed else {

@@ -1,7 +1,7 @@
 // The journal's records.
 ghost use Rattle.std.specs.Prelude.{◌<◌, length};
 ghost use Rattle.book.specs.Book.{rec_at};
-ghost use Rattle.book.specs.Layout.{told, Holds, Is};
+ghost use Rattle.book.specs.Layout.{book_of, told, Holds, Is};
 ghost use Rattle.book.specs.Next.{with_record};
 ghost use Rattle.journal.specs.Struct.{RecordIs};
 
@@ -34,9 +34,9 @@ pub fn record_at(book: &[u8], q: u16) -> Record
 // The next record is used.
 pub fn append_record(book: &mut [u8], lbn: LBN, before: PBN, after: PBN)
     requires holds { Holds book.old }
-    requires book_len_bound { length (told book).records < (told book).sizes.j }
+    requires book_len_bound { length (book_of book.old).records < (book_of book.old).sizes.j }
     ensures { Is book.new
-        (with_record (record { lbn = lbn.0; before = before.0; after = after.0 }) (told book.entry)) }
+        (with_record (record { lbn = lbn.0; before = before.0; after = after.0 }) (book_of book.old)) }
 {
     let used = header::used_records(book);
     let at = record_offset(book, used);

@@ -2,7 +2,7 @@
 ghost use Rattle.std.specs.Prelude.{◌≡◌, ◌+◌, ◌<◌, ◌≤◌, length};
 ghost use Rattle.std.proofs.lemmas.List.Edits.{sets};
 ghost use Rattle.book.specs.Book.{slot_at};
-ghost use Rattle.book.specs.Layout.{slot_size, slot_bytes, told, Holds, Is};
+ghost use Rattle.book.specs.Layout.{book_of, slot_size, slot_bytes, told, Holds, Is};
 ghost use Rattle.book.specs.Next.{with_slot};
 ghost use Rattle.journal.specs.Struct.{SlotIs};
 
@@ -51,9 +51,9 @@ fn put_slot(b: &mut [u8], at: usize, volume: u16, retire: bool, day: u16, first:
 // The next slot is used.
 pub fn append_slot(book: &mut [u8], volume: u16, retire: bool, day: u16, first: u16, number: u16)
     requires holds { Holds book.old }
-    requires book_len_bound { (length (told book).slots < (told book).sizes.s) × (volume < 256) }
+    requires book_len_bound { (length (book_of book.old).slots < (book_of book.old).sizes.s) × (volume < 256) }
     ensures { Is book.new
-        (with_slot (record { volume = volume; retire = retire; day = day; first = first; number = number }) (told book.entry)) }
+        (with_slot (record { volume = volume; retire = retire; day = day; first = first; number = number }) (book_of book.old)) }
 {
     let used = header::used_slots(book);
     let at = slot_offset(book, used);

@@ -2,11 +2,12 @@
 ghost use Rattle.std.specs.Prelude.{◌≡◌, ◌<◌};
 ghost use Rattle.runs.specs.Changes.{change_at};
 ghost use Rattle.book.specs.Book.{volumes};
-ghost use Rattle.book.specs.Layout.{told, Holds};
+ghost use Rattle.book.specs.Layout.{book_of, told, Holds};
 ghost use Rattle.finder.specs.Indexed.{Indexed};
 ghost use Rattle.placer.specs.Working.{Job, Standing};
 ghost use Rattle.mover.specs.Stepping.{no_tally, SteppedBy, StillIndexed, RanBy};
 ghost use Rattle.placer.specs.Placing.{placed_number};
+ghost use Rattle.words.specs.Lent.{lent};
 
 use super::moving::{Step, move_to};
 use index::build;
@@ -43,11 +44,11 @@ fn change(
 ) -> Step
     requires holds { Holds book.now × Holds work.old }
     requires job { Job (told book) pool.now list.now shape × (i < shape.changes) × (v < volumes) }
-    requires standing { Standing (told book) (told work) taker.old t i i }
+    requires standing { Standing (told book) (book_of work.old) taker.old t i i }
     requires lbn_value { lbn.0 ≡ (change_at list.now i).lbn }
-    requires indexed { Indexed (told work).entries heads.old nexts.old }
-    ensures stepped_by { SteppedBy book pool work list taker v until i t result }
-    ensures still_indexed { StillIndexed work heads nexts result }
+    requires indexed { Indexed (book_of work.old).entries heads.old nexts.old }
+    ensures stepped_by { SteppedBy book pool (lent work) list (lent taker) v until i t result }
+    ensures still_indexed { StillIndexed (lent work) (lent heads) (lent nexts) result }
 {
     let placed = place(book, pool, work, list, shape, taker, heads, nexts, i, t);
     let Placement::At(p, u) = placed else {
@@ -69,8 +70,8 @@ pub fn run_changes(
 ) -> Step
     requires holds { Holds book.now × Holds work.old }
     requires job { Job (told book) pool.now list.now shape × (v < volumes) }
-    requires standing { Standing (told book) (told work) taker.old no_tally 0 0 }
-    ensures { RanBy book pool work list taker v until result }
+    requires standing { Standing (told book) (book_of work.old) taker.old no_tally 0 0 }
+    ensures { RanBy book pool (lent work) list (lent taker) v until result }
 {
     let mut heads = [0u16; MAX_BLOCKS];
     let mut nexts = [0u16; MAX_BLOCKS];

@@ -5,9 +5,10 @@ ghost use Rattle.words.specs.Choice.{if◌then◌else◌};
 ghost use Rattle.words.specs.Lists.{all};
 ghost use Rattle.book.specs.Book.{volumes, entry_at, cell_at};
 ghost use Rattle.book.specs.Form.{pbn_ok};
-ghost use Rattle.book.specs.Layout.{told, Holds, Is};
+ghost use Rattle.book.specs.Layout.{book_of, Holds, Is};
 ghost use Rattle.model.specs.Backup.{name_block};
 ghost use Rattle.mover.specs.Stepping.{LoweredBy, MovedBy};
+ghost use Rattle.words.specs.Lent.{lent};
 
 use entries::entry;
 use fields::map;
@@ -33,8 +34,8 @@ fn touches(before: PBN) -> u16
 // The before's count falls by 1, and it is kept until this day at least. Not where its count is 0.
 pub fn lower(work: &mut [u8], before: PBN, until: u16) -> bool
     requires holds { Holds work.old }
-    requires fact { (before.0 < (told work).sizes.n) ⊎ (before.0 ≡ unmapped) }
-    ensures { LoweredBy work before.0 until result }
+    requires fact { (before.0 < (book_of work.old).sizes.n) ⊎ (before.0 ≡ unmapped) }
+    ensures { LoweredBy (lent work) before.0 until result }
 {
     if before.0 == UNMAPPED {
         return true;
@@ -53,12 +54,12 @@ pub fn lower(work: &mut [u8], before: PBN, until: u16) -> bool
 // The block's count rises by 1, the map names it, a record is added.
 fn name_block(work: &mut [u8], v: u16, lbn: LBN, before: PBN, p: PBN, count: u16)
     requires holds { Holds work.old }
-    requires v_lt_volumes { (v < volumes) × (lbn.0 < (told work).sizes.l) × (p.0 < (told work).sizes.n) }
-    requires work_len_bound { (length (told work).records < (told work).sizes.j)
-        × (before.0 ≡ cell_at (told work).maps v lbn.0) }
-    requires count_value { (count ≡ (entry_at (told work).entries p.0).count) × (count < 65535) }
+    requires v_lt_volumes { (v < volumes) × (lbn.0 < (book_of work.old).sizes.l) × (p.0 < (book_of work.old).sizes.n) }
+    requires work_len_bound { (length (book_of work.old).records < (book_of work.old).sizes.j)
+        × (before.0 ≡ cell_at (book_of work.old).maps v lbn.0) }
+    requires count_value { (count ≡ (entry_at (book_of work.old).entries p.0).count) × (count < 65535) }
     ensures { Is work.new
-        (name_block v lbn.0 p.0 (told work.entry).entries (told work.entry)) }
+        (name_block v lbn.0 p.0 (book_of work.old).entries (book_of work.old)) }
 {
     entry::set_count(work, p, count + 1);
     map::set_cell(work, v, lbn, p);
@@ -68,10 +69,10 @@ fn name_block(work: &mut [u8], v: u16, lbn: LBN, before: PBN, p: PBN, count: u16
 // Volume v's cell at an LBN goes to block p.
 pub fn move_to(work: &mut [u8], v: u16, lbn: LBN, p: PBN, until: u16, t: Tally) -> Step
     requires holds { Holds work.old }
-    requires v_lt_volumes { (v < volumes) × (lbn.0 < (told work).sizes.l) × (p.0 < (told work).sizes.n) }
-    requires work_len_bound { (length (told work).records < (told work).sizes.j) × (t.touched < 65000) }
-    requires work_value { all (all (pbn_ok (told work).sizes.n)) (told work).maps ≡ true }
-    ensures { MovedBy work v lbn.0 p.0 until t result }
+    requires v_lt_volumes { (v < volumes) × (lbn.0 < (book_of work.old).sizes.l) × (p.0 < (book_of work.old).sizes.n) }
+    requires work_len_bound { (length (book_of work.old).records < (book_of work.old).sizes.j) × (t.touched < 65000) }
+    requires work_value { all (all (pbn_ok (book_of work.old).sizes.n)) (book_of work.old).maps ≡ true }
+    ensures { MovedBy (lent work) v lbn.0 p.0 until t result }
 {
     let before = map::cell(work, v, lbn);
     if !lower(work, before, until) {

@@ -4,11 +4,12 @@ ghost use Rattle.words.specs.Lists.{same};
 ghost use Rattle.runs.specs.Changes.{change_at};
 ghost use Rattle.list.specs.Readers.{Whole};
 ghost use Rattle.book.specs.Book.{entry_at};
-ghost use Rattle.book.specs.Layout.{told, Holds, Is};
+ghost use Rattle.book.specs.Layout.{book_of, told, Holds, Is};
 ghost use Rattle.model.specs.Pool.{pool_size};
 ghost use Rattle.finder.specs.Indexed.{Indexed};
 ghost use Rattle.placer.specs.Working.{held_block, Job, Standing};
 ghost use Rattle.placer.specs.Placing.{taken_book, PlacedBy};
+ghost use Rattle.words.specs.Lent.{lent};
 
 use super::find::{find_free, find_held};
 use entries::entry;
@@ -74,12 +75,12 @@ fn take_block(
 )
     requires holds { Holds work.old }
     requires whole { Whole list.now shape × (i < shape.changes) }
-    requires p_bound { (p.0 < (told work).sizes.n) × ((entry_at (told work).entries p.0).held ≡ false) }
-    requires indexed { Indexed (told work).entries heads.old nexts.old }
+    requires p_bound { (p.0 < (book_of work.old).sizes.n) × ((entry_at (book_of work.old).entries p.0).held ≡ false) }
+    requires indexed { Indexed (book_of work.old).entries heads.old nexts.old }
     ensures is { Is work.new
-        (taken_book (change_at list.now i).print p.0 (told work.entry)) }
+        (taken_book (change_at list.now i).print p.0 (book_of work.old)) }
     ensures taker_after { taker.new ≡ set taker.old p.0 i }
-    ensures indexed_2 { Indexed (told work.exit).entries heads.new nexts.new }
+    ensures indexed_2 { Indexed (book_of work.new).entries heads.new nexts.new }
 {
     hold(work, heads, nexts, p, list::print_of(list, shape, i));
     let n = header::blocks(work);
@@ -103,10 +104,10 @@ pub fn place(
 ) -> Placement
     requires holds { Holds book.now × Holds work.old }
     requires job { Job (told book) pool.now list.now shape × (i < shape.changes) }
-    requires standing { Standing (told book) (told work) taker.old t i i }
-    requires indexed { Indexed (told work).entries heads.old nexts.old }
-    ensures placed_by { PlacedBy book pool work list taker i t result }
-    ensures indexed_2 { Indexed (told work.exit).entries heads.new nexts.new }
+    requires standing { Standing (told book) (book_of work.old) taker.old t i i }
+    requires indexed { Indexed (book_of work.old).entries heads.old nexts.old }
+    ensures placed_by { PlacedBy book pool (lent work) list (lent taker) i t result }
+    ensures indexed_2 { Indexed (book_of work.new).entries heads.new nexts.new }
 {
     let held = find_held(work, heads, nexts, list::prints(list, shape), i);
     let Found::At(q) = held else {

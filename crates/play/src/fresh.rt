@@ -1,6 +1,7 @@
 // A list of calls on a fresh book.
 ghost use Rattle.book.specs.Next.{new_sizes};
 ghost use Rattle.calls.specs.Lending.{PlayedFreshLent};
+ghost use Rattle.words.specs.Lent.{lent};
 
 use super::playing::aspen_play;
 use engine::format::aspen_format;
@@ -18,7 +19,7 @@ pub fn play_fresh(
     answers: &mut [u8],
     written: &mut u32,
 ) -> u16
-    ensures { PlayedFreshLent book pool spare (new_sizes n l s j) calls answers written result }
+    ensures { PlayedFreshLent (lent book) (lent pool) (lent spare) (new_sizes n l s j) calls (lent answers) (lent written) result }
 {
     let refusal = aspen_format(book, n, l, s, j);
     if refusal != 0 {

@@ -5,6 +5,7 @@ ghost use Rattle.calls.specs.Answers.{longestReply, most_of};
 ghost use Rattle.calls.specs.Lending.{PlayedLent};
 ghost use Rattle.calls.specs.Doing.{DidLent, DidAllLent};
 ghost use Rattle.calls.specs.Reading.{rest_of, Good, backup_call};
+ghost use Rattle.words.specs.Lent.{lent};
 
 use answers::{
     answer_audit, answer_backup, answer_collect, answer_enrol, answer_read, answer_restore,
@@ -25,7 +26,7 @@ fn play_backup(
     to: usize,
 ) -> usize
     requires { (is_call calls.now at ≡ true) × (to + 7 ≤ length answers.old) }
-    ensures { DidLent book pool spare (backup_call calls.now at) answers to result }
+    ensures { DidLent (lent book) (lent pool) (lent spare) (backup_call calls.now at) (lent answers) to result }
 {
     let from = at + HEAD_SIZE;
     let end = from + data_size(calls, at);
@@ -54,7 +55,7 @@ fn play_call(
     to: usize,
 ) -> usize
     requires { (is_call calls.now at ≡ true) × (to + longestReply (call_at calls.now at) ≤ length answers.old) }
-    ensures { DidLent book pool spare (call_at calls.now at) answers to result }
+    ensures { DidLent (lent book) (lent pool) (lent spare) (call_at calls.now at) (lent answers) to result }
 {
     let kind = calls[at];
     let a = u16_at(calls, at + 2);
@@ -91,7 +92,7 @@ fn play_list(
     answers: &mut [u8],
 ) -> usize
     requires { Good calls.now 0 × (most_of (rest_of calls.now 0) ≤ length answers.old) }
-    ensures { DidAllLent book pool spare (rest_of calls.now 0) answers result }
+    ensures { DidAllLent (lent book) (lent pool) (lent spare) (rest_of calls.now 0) (lent answers) result }
 {
     let mut at = 0;
     let mut to = 0;
@@ -112,7 +113,7 @@ pub extern "C" fn aspen_play(
     answers: &mut [u8],
     written: &mut u32,
 ) -> u16
-    ensures { PlayedLent book pool spare calls answers written result }
+    ensures { PlayedLent (lent book) (lent pool) (lent spare) calls (lent answers) (lent written) result }
 {
     let number = check(calls, room_of(answers.len()));
     if number != 0 {

@@ -14,6 +14,7 @@ ghost use Rattle.model.specs.Written.{Written};
 ghost use Rattle.imager.specs.Imaging.{image_size};
 ghost use Rattle.recover.specs.Promises.{Restored};
 ghost use Rattle.recover.specs.Running.{mapped_at, Inside, blocks_from, restored_from};
+ghost use Rattle.words.specs.Lent.{lent};
 
 use buffers::buffers_number;
 use fields::header;
@@ -108,7 +109,7 @@ pub fn restore(
     many: u16,
     out: &mut [u8],
 ) -> u16
-    ensures { Restored book pool volume number first many out result }
+    ensures { Restored book pool volume number first many (lent out) result }
 {
     let refusal = buffers_number(book, pool);
     if refusal != 0 {

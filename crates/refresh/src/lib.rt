@@ -4,7 +4,7 @@
 
 ghost use Rattle.std.specs.Prelude.{◌<◌};
 ghost use Rattle.book.specs.FormFacts.{BookParts};
-ghost use Rattle.book.specs.Layout.{told, Holds, Is};
+ghost use Rattle.book.specs.Layout.{book_of, Holds, Is};
 ghost use Rattle.model.specs.Convert.{refreshed};
 ghost use Rattle.due.specs.Pool.{OfPool};
 ghost use Rattle.refresh.specs.Expiring.{with_expiry, with_expiries};
@@ -18,8 +18,8 @@ use words::limits::{MAX_BLOCKS, Table};
 // The block's expiry becomes its number in the table, whatever it was.
 fn put_expiry(book: &mut [u8], expiries: &Table, p: PBN)
     requires holds { Holds book.old × OfPool expiries.now }
-    requires p_bound { p.0 < (told book).sizes.n }
-    ensures { Is book.new (with_expiry expiries.now p.0 (told book.entry)) }
+    requires p_bound { p.0 < (book_of book.old).sizes.n }
+    ensures { Is book.new (with_expiry expiries.now p.0 (book_of book.old)) }
 {
     let until = expiries[p.0 as usize];
     set_expiry(book, p, until);
@@ -27,7 +27,7 @@ fn put_expiry(book: &mut [u8], expiries: &Table, p: PBN)
 
 fn put_expiries(book: &mut [u8], expiries: &Table)
     requires { Holds book.old × OfPool expiries.now }
-    ensures { Is book.new (with_expiries expiries.now (told book.entry)) }
+    ensures { Is book.new (with_expiries expiries.now (book_of book.old)) }
 {
     let n = blocks(book);
     let mut p: u16 = 0;
@@ -38,8 +38,8 @@ fn put_expiries(book: &mut [u8], expiries: &Table)
 }
 
 pub fn refresh(book: &mut [u8])
-    requires { Holds book.old × BookParts (told book) }
-    ensures { Is book.new (refreshed (told book.entry)) }
+    requires { Holds book.old × BookParts (book_of book.old) }
+    ensures { Is book.new (refreshed (book_of book.old)) }
 {
     let mut expiries = [0u16; MAX_BLOCKS];
     gather(book, &mut expiries);

@@ -11,6 +11,7 @@ ghost use Rattle.due.specs.Lasts.{LastsAre};
 ghost use Rattle.due.specs.Pool.{OfPool};
 ghost use Rattle.replay.specs.Taking.{TakesRecord, TakesRecords, TakesSlot, TakesJournal};
 ghost use Rattle.replay.specs.Table.{row_size};
+ghost use Rattle.words.specs.Lent.{lent};
 
 use super::notes::{Cells, Stamps, meet, replace};
 use due::expiries::raise;
@@ -55,7 +56,7 @@ fn take_record(
 ) -> bool
     requires form_facts { FormFacts book.now }
     requires volume_lt_volumes { (t.volume < volumes) × OfPool expiries.old × (q < length (told book).records) }
-    ensures { TakesRecord book cells expiries stamps t q result }
+    ensures { TakesRecord book (lent cells) (lent expiries) (lent stamps) t q result }
 {
     let change = record_at(book, q);
     let same = replace(cells, t.volume, change);
@@ -77,7 +78,7 @@ fn take_records(
 ) -> bool
     requires form_facts { FormFacts book.now }
     requires volume_lt_volumes { (t.volume < volumes) × OfPool expiries.old × (from ≤ end) × (end ≤ length (told book).records) }
-    ensures { TakesRecords book cells expiries stamps t from end result }
+    ensures { TakesRecords book (lent cells) (lent expiries) (lent stamps) t from end result }
 {
     let mut good = true;
     let mut q = from;
@@ -101,7 +102,7 @@ fn take_slot(
     requires form_facts { FormFacts book.now }
     requires q_in_bounds { (q < length (told book).slots) × OfPool expiries.old × LastsAre (told book) q lasts.old }
     requires stamps_len { (length stamps.old ≡ row_size) × ((l : ℕ) → get_or stamps.old l 0 ≤ q) }
-    ensures takes_slot { TakesSlot book cells expiries stamps q result }
+    ensures takes_slot { TakesSlot book (lent cells) (lent expiries) (lent stamps) q result }
     ensures lasts_are { LastsAre (told book.entry) (q + 1) lasts.new }
 {
     let slot = slot_at(book, q);
@@ -123,7 +124,7 @@ fn take_slot(
 pub fn take_journal(book: &[u8], cells: &mut Cells, expiries: &mut Table) -> bool
     requires form_facts { FormFacts book.now }
     requires of_pool { OfPool expiries.old }
-    ensures { TakesJournal book cells expiries result }
+    ensures { TakesJournal book (lent cells) (lent expiries) result }
 {
     let mut stamps = [0u16; MAX_LBNS];
     let mut lasts = [0u16; VOLUMES];

@@ -7,6 +7,7 @@ ghost use Rattle.book.specs.FormFacts.{FormFacts};
 ghost use Rattle.model.specs.OnBytes.{read_bytes, read_number_bytes, block_after};
 ghost use Rattle.restorer.specs.Promises.{Located};
 ghost use Rattle.restorer.specs.Reading.{sought_of, sought_number, sought_from, sought_bytes};
+ghost use Rattle.words.specs.Lent.{lent};
 
 use super::image::image_at;
 use buffers::buffers_number;
@@ -76,7 +77,7 @@ pub fn read_offset(
     lbn: LBN,
     at: &mut u32,
 ) -> u16
-    ensures { Located book pool volume number lbn.0 at result }
+    ensures { Located book pool volume number lbn.0 (lent at) result }
 {
     let sought = locate(book, pool, volume, number, lbn);
     let Sought::At(p) = sought else {

@@ -4,9 +4,10 @@ ghost use Rattle.words.specs.Blocks.{unmapped};
 ghost use Rattle.words.specs.Lists.{all};
 ghost use Rattle.book.specs.Book.{volumes, cell_at};
 ghost use Rattle.book.specs.Form.{pbn_ok};
-ghost use Rattle.book.specs.Layout.{told, Holds};
+ghost use Rattle.book.specs.Layout.{book_of, told, Holds};
 ghost use Rattle.model.specs.Retire.{mapped_cells};
 ghost use Rattle.retirer.specs.Clearing.{ClearedBy, AllClearedBy};
+ghost use Rattle.words.specs.Lent.{lent};
 
 use fields::{header, map};
 use journal::record;
@@ -36,11 +37,11 @@ pub fn mapped_cells(book: &[u8], v: u16) -> u16
 // count is 0.
 fn clear_cell(work: &mut [u8], v: u16, lbn: LBN, until: u16) -> bool
     requires holds { Holds work.old }
-    requires v_lt_volumes { (v < volumes) × (lbn.0 < (told work).sizes.l) }
-    requires work_value { all (all (pbn_ok (told work).sizes.n)) (told work).maps ≡ true }
-    requires work_len_bound { (cell_at (told work).maps v lbn.0 ≡ unmapped → ⊥)
-        → length (told work).records < (told work).sizes.j }
-    ensures { ClearedBy work v lbn.0 until result }
+    requires v_lt_volumes { (v < volumes) × (lbn.0 < (book_of work.old).sizes.l) }
+    requires work_value { all (all (pbn_ok (book_of work.old).sizes.n)) (book_of work.old).maps ≡ true }
+    requires work_len_bound { (cell_at (book_of work.old).maps v lbn.0 ≡ unmapped → ⊥)
+        → length (book_of work.old).records < (book_of work.old).sizes.j }
+    ensures { ClearedBy (lent work) v lbn.0 until result }
 {
     let before = map::cell(work, v, lbn);
     if before.0 == UNMAPPED {
@@ -58,9 +59,9 @@ fn clear_cell(work: &mut [u8], v: u16, lbn: LBN, until: u16) -> bool
 pub fn clear_cells(work: &mut [u8], v: u16, until: u16) -> bool
     requires holds { Holds work.old }
     requires v_lt_volumes { v < volumes }
-    requires work_value { all (all (pbn_ok (told work).sizes.n)) (told work).maps ≡ true }
-    requires v_len_bound { length (told work).records + mapped_cells (told work) v ≤ (told work).sizes.j }
-    ensures { AllClearedBy work v until result }
+    requires work_value { all (all (pbn_ok (book_of work.old).sizes.n)) (book_of work.old).maps ≡ true }
+    requires v_len_bound { length (book_of work.old).records + mapped_cells (book_of work.old) v ≤ (book_of work.old).sizes.j }
+    ensures { AllClearedBy (lent work) v until result }
 {
     let l = header::cells(work);
     let mut lbn = 0;

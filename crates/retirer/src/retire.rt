@@ -3,10 +3,11 @@ ghost use Rattle.std.specs.Prelude.{◌≡◌, true, ◌+◌, ◌<◌, ◌≤◌
 ghost use Rattle.words.specs.Lists.{all};
 ghost use Rattle.book.specs.Book.{volumes};
 ghost use Rattle.book.specs.Form.{pbn_ok};
-ghost use Rattle.book.specs.Layout.{told, Holds};
+ghost use Rattle.book.specs.Layout.{book_of, Holds};
 ghost use Rattle.model.specs.Retire.{mapped_cells};
 ghost use Rattle.retirer.specs.Closing.{WorkedBy};
 ghost use Rattle.retirer.specs.Promises.{RetiredBy};
+ghost use Rattle.words.specs.Lent.{lent};
 
 use super::allowing::{Allowed, allow, allowed_number};
 use super::clearing::clear_cells;
@@ -18,10 +19,10 @@ use words::{put_bytes, refusals};
 // cell's block has a count of 0.
 fn work_through(work: &mut [u8], v: u16, day: u16, until: u16, cells: u16) -> bool
     requires holds { Holds work.old }
-    requires v_lt_volumes { (v < volumes) × (length (told work).slots < (told work).sizes.s) }
-    requires work_value { all (all (pbn_ok (told work).sizes.n)) (told work).maps ≡ true }
-    requires v_len_bound { length (told work).records + mapped_cells (told work) v ≤ (told work).sizes.j }
-    ensures { WorkedBy work v day until cells result }
+    requires v_lt_volumes { (v < volumes) × (length (book_of work.old).slots < (book_of work.old).sizes.s) }
+    requires work_value { all (all (pbn_ok (book_of work.old).sizes.n)) (book_of work.old).maps ≡ true }
+    requires v_len_bound { length (book_of work.old).records + mapped_cells (book_of work.old) v ≤ (book_of work.old).sizes.j }
+    ensures { WorkedBy (lent work) v day until cells result }
 {
     let first = header::used_records(work);
     if !clear_cells(work, v, until) {
@@ -34,7 +35,7 @@ fn work_through(work: &mut [u8], v: u16, day: u16, until: u16, cells: u16) -> bo
 
 // A volume is retired; cells is how many of its cells were mapped.
 pub fn retire(book: &mut [u8], spare: &mut [u8], volume: u16, day: u16, cells: &mut u16) -> u16
-    ensures { RetiredBy book spare volume day cells result }
+    ensures { RetiredBy (lent book) (lent spare) volume day (lent cells) result }
 {
     let allowed = allow(book, spare.len(), volume, day);
     let Allowed::Go(plan) = allowed else {

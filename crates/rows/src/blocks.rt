@@ -6,6 +6,7 @@ ghost use Rattle.book.specs.Book.{entry_at};
 ghost use Rattle.book.specs.Layout.{told, Holds};
 ghost use Rattle.model.specs.Views.{block_row, blocks_of};
 ghost use Rattle.rows.specs.Promises.{BlocksTold};
+ghost use Rattle.words.specs.Lent.{lent};
 
 use entries::entry;
 use fields::header;
@@ -48,7 +49,7 @@ fn put_blocks(book: &[u8], out: &mut [u8])
 }
 
 pub fn blocks(book: &[u8], out: &mut [u8]) -> u16
-    ensures { BlocksTold book out result }
+    ensures { BlocksTold book (lent out) result }
 {
     let refusal = form_number(book);
     if refusal != 0 {

@@ -3,6 +3,7 @@ ghost use Rattle.std.specs.Prelude.{◌≡◌};
 ghost use Rattle.book.specs.Layout.{told, Holds};
 ghost use Rattle.model.specs.Enrol.{enrol_number};
 ghost use Rattle.setup.specs.Promises.{Enrolled};
+ghost use Rattle.words.specs.Lent.{lent};
 
 use fields::header;
 use form::form_number;
@@ -30,7 +31,7 @@ fn enrol_number(book: &[u8], volume: u16, retention: u16) -> u16
 }
 
 pub fn enrol(book: &mut [u8], volume: u16, retention: u16) -> u16
-    ensures { Enrolled book volume retention result }
+    ensures { Enrolled (lent book) volume retention result }
 {
     let in_form = form_number(book);
     if in_form != 0 {

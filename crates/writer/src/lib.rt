@@ -8,6 +8,7 @@ ghost use Rattle.words.specs.Lists.{all};
 ghost use Rattle.words.specs.Laying.{Stored};
 ghost use Rattle.writer.specs.Elements.{if_marked, marked_elements, Room};
 ghost use Rattle.runs.specs.Writer.{Wrote, list_of, input_ok};
+ghost use Rattle.words.specs.Lent.{lent};
 
 use marks::{Tally, count_marks, put_runs};
 use words::limits::MAX_LBNS;
@@ -108,7 +109,7 @@ pub extern "C" fn aspen_write_list(
     list: &mut [u8],
     written: &mut u32,
 ) -> u16
-    ensures { Wrote l marks prints image list written result }
+    ensures { Wrote l marks prints image (lent list) (lent written) result }
 {
     if !input_ok(l, marks, prints, image) {
         return refusals::BAD_INPUT;
