@@ -1,7 +1,7 @@
 #!/usr/bin/env python3
 """Brings this repository's own definitions and lemmas to the spelling of today's Rattle: words in snake case, a dash only between two names.
 
-usage: tools/respell.py [ROOT]      after port.py, once, at the top of a checkout that has the older spelling
+usage: tools/respell.py [ROOT]      after port.py, once and never twice, at the top of a checkout that has the older spelling
 
 respell.tsv, beside this script, has each name and what it becomes. Names of src/, exported C names and strings stay. A lemma that would have
 its definition's name, or one that the same file uses, ends in _lem (IN_PART, by the crates whose proofs say it). specs/Contracts.antt becomes

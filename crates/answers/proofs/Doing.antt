@@ -20,7 +20,7 @@ use Rattle.model.specs.Pool.{block_at}
 use Rattle.model.specs.Read.{image}
 use Rattle.model.specs.Sides.{Step, step_of, read_answer, audit_answer, Ours, enrolled_to, backed_to, collected_to, retired_to, ours}
 use Rattle.calls.specs.Asked.{listed, reply_to, next_after}
-use Rattle.calls.specs.Answers.{answerBytes}
+use Rattle.calls.specs.Answers.{answer_bytes}
 use Rattle.calls.specs.Promises.{at}
 use Rattle.calls.specs.Doing.{Did}
 use Rattle.claims.proofs.form.Proper.{Proper, not_refused}
@@ -43,7 +43,7 @@ is b = b.exit.now
 
 -- the step that was made, and the answer that was stored
 abbrev By : Step Ours → List ℕ → ℕ → List ℕ → List ℕ → List ℕ → ℕ → Type 0
-By s out to x y out' r = (at x y ≡ s.next) × Stored out to (answerBytes s.answer) out' r
+By s out to x y out' r = (at x y ≡ s.next) × Stored out to (answer_bytes s.answer) out' r
 
 module _ (spare : ℕ) (book : Lent (List ℕ)) (pool out : List ℕ) (to : ℕ) {out' : List ℕ} {r : ℕ} where
   pub enrol_did : (v retention k : ℕ) → Enrolled book v retention k → Stored out to (0 ∷ two k) out' r
@@ -88,7 +88,7 @@ module _ (spare : ℕ) (book : Lent (List ℕ)) (pool out : List ℕ) (to : ℕ)
     unfolding reply_to next_after ours audit_answer
     audit-refused h s = record { next = refl; answer = go (audit_bytes (was book)) e.number }
       where
-        go : (o : Outcome Bool) → k ≡ number_of o → Stored out to (answerBytes (audit_answer o)) out' r
+        go : (o : Outcome Bool) → k ≡ number_of o → Stored out to (answer_bytes (audit_answer o)) out' r
         go (refused j) n = rw n at s
         go (accepted d) n = absurd (h n)
 
@@ -98,7 +98,7 @@ module _ (spare : ℕ) (book : Lent (List ℕ)) (pool out : List ℕ) (to : ℕ)
     audit-done z s = record { next = refl; answer = go (audit_bytes (was book)) (audit_proper (was book)) e.number e.answer }
       where
         go : (o : Outcome Bool) → Proper o → k ≡ number_of o → f.exit.now ≡ sound_after o f.entry.now
-            → Stored out to (answerBytes (audit_answer o)) out' r
+            → Stored out to (answer_bytes (audit_answer o)) out' r
         go (refused j) p n a = absurd (not_refused j p (sym n ∙ z))
         go (accepted d) p n a = rw a at s
 
@@ -136,7 +136,7 @@ module _ (spare : ℕ) (book pool : Lent (List ℕ)) (out : List ℕ) (to v k lb
   unfolding reply_to next_after ours read_answer read_number_bytes
   read-refused {r} h s = record { next = refl; answer = go (read_bytes (was book) (was pool) v k lbn) e.number }
     where
-      go : (o : Outcome (List ℕ)) → n ≡ number_of o → Stored out to (answerBytes (read_answer o)) out' r
+      go : (o : Outcome (List ℕ)) → n ≡ number_of o → Stored out to (answer_bytes (read_answer o)) out' r
       go (refused j) m = rw m at s
       go (accepted d) m = absurd (h m)
 

@@ -14,7 +14,7 @@ use Rattle.words.specs.Outcome.{Outcome, refused, accepted, and_then, unless}
 use Rattle.calls.specs.Asked.{Asked}
 use Rattle.model.specs.OnBytes.{number_of}
 use Rattle.calls.specs.Coding.{call_size, is_call, call_at, before, calls_from, calls_of}
-use Rattle.calls.specs.Answers.{longestReply, most_of}
+use Rattle.calls.specs.Answers.{longest_reply, most_of}
 use Rattle.calls.specs.Promises.{at, room_of, room_number, playable, Played}
 use Rattle.calls.specs.Doing.{DidAll}
 use Rattle.calls.proofs.ReadingLaws.{calls-end, calls_broken, calls-more, calls-refused, good-accepted}
@@ -59,9 +59,9 @@ module _ (room : ℕ) where
           room-passed (most + (more + rest)) (omega arith) ∙ sym (room-passed (most + rest) (omega arith))
 
   left-more : (most : ℕ) (c : Asked) (o : Outcome (List Asked))
-      → number_left room most (and_then o (before c)) ≡ number_left room (added_to room most (longestReply c)) o
+      → number_left room most (and_then o (before c)) ≡ number_left room (added_to room most (longest_reply c)) o
   left-more most c (refused k) = refl
-  left-more most c (accepted cs) = sum_more most (longestReply c) (most_of cs)
+  left-more most c (accepted cs) = sum_more most (longest_reply c) (most_of cs)
 
   module _ (b : List ℕ) where
     pub number-begin : number_of (playable b room) ≡ number_from room b 0 0
@@ -81,7 +81,7 @@ module _ (room : ℕ) where
     number_broken at most h e = rw (calls_broken b (length b) at h e)
 
     pub number_more : (at most : ℕ) → at < length b → is_call b at ≡ true
-        → number_from room b at most ≡ number_from room b (at + call_size b at) (added_to room most (longestReply (call_at b at)))
+        → number_from room b at most ≡ number_from room b (at + call_size b at) (added_to room most (longest_reply (call_at b at)))
     number_more at most h e =
         ap (λ (o : Outcome (List Asked)). number_left room most o) (calls-more b (length b) at (omega arith) h e)
         ∙ left-more most (call_at b at) (calls_from (length b) b (at + call_size b at))

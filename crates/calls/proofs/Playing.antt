@@ -9,7 +9,7 @@ use lib.Seq.{sets}
 use Rattle.words.proofs.LayingLaws.{sets_append, sets-front}
 use Rattle.model.specs.Sides.{Ours}
 use Rattle.calls.specs.Asked.{Asked, reply_to, next_after, left_by}
-use Rattle.calls.specs.Answers.{replyBytes, most_of}
+use Rattle.calls.specs.Answers.{reply_bytes, most_of}
 use Rattle.calls.specs.Promises.{at, answered}
 use Rattle.calls.specs.Doing.{Did, DidAll}
 use Rattle.calls.proofs.Short.{answers-short}
@@ -47,7 +47,7 @@ module _ {spare : ℕ} {b₀ pool₀ : List ℕ} {cs : List Asked} {out₀ : Lis
             ap (λ (x : List ℕ). sets out' r x) same
             ∙ ap₂ (λ (o : List ℕ) (k : ℕ). sets o k (answered spare (next_after spare (at b pool) c) rest))
             d.answer.list d.answer.place
-            ∙ sets_append (replyBytes (reply_to spare (at b pool) c)) (answered spare (next_after spare (at b pool) c) rest) out to
+            ∙ sets_append (reply_bytes (reply_to spare (at b pool) c)) (answered spare (next_after spare (at b pool) c) rest) out to
             ∙ p.answers;
         reach =
             omega (
@@ -55,6 +55,6 @@ module _ {spare : ℕ} {b₀ pool₀ : List ℕ} {cs : List Asked} {out₀ : Lis
               p.reach,
               d.answer.place,
               ap length same,
-              length-append (replyBytes (reply_to spare (at b pool) c)) (answered spare (next_after spare (at b pool) c) rest),
+              length-append (reply_bytes (reply_to spare (at b pool) c)) (answered spare (next_after spare (at b pool) c) rest),
             );
       }

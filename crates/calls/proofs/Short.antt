@@ -25,7 +25,7 @@ use Rattle.model.specs.Pool.{block_at}
 use Rattle.model.specs.Sides.{Changed, answer_of, step_of, read_answer, audit_answer, Ours, ours}
 use Rattle.calls.specs.Asked.{Asked, listed, restore, restore_reply, reply_to, next_after}
 use Rattle.calls.specs.Coding.{data_size, call_of, call_at}
-use Rattle.calls.specs.Answers.{answerBytes, replyBytes, longest, longestReply, longestOf, most_of}
+use Rattle.calls.specs.Answers.{answer_bytes, reply_bytes, longest, longest_reply, longest_of, most_of}
 use Rattle.calls.specs.Promises.{answered}
 
 pub take-most : (n : ℕ) (l : List ℕ) → length (take n l) ≤ n
@@ -41,16 +41,16 @@ numbers-long (k ∷ ks) = let ih = numbers-long ks in omega arith
 
 changed_short : {A : Type 0} (o : Ours) (x : Outcome A) (to : A → Changed Ours) (most : ℕ) → 1 ≤ most
     → ((a : A) → length (to a).answers ≤ most)
-    → length (answerBytes (step_of o (and_then x (λ a. accepted (to a)))).answer) ≤ 1 + most * 2
+    → length (answer_bytes (step_of o (and_then x (λ a. accepted (to a)))).answer) ≤ 1 + most * 2
 unfolding step_of
 changed_short o (refused k) to most h few = omega arith
 changed_short o (accepted a) to most h few = go (to a).answers (few a)
   where
-    go : (ns : List ℕ) → length ns ≤ most → length (answerBytes (answer_of ns)) ≤ 1 + most * 2
+    go : (ns : List ℕ) → length ns ≤ most → length (answer_bytes (answer_of ns)) ≤ 1 + most * 2
     go [] i = omega arith
     go (k ∷ ks) i = omega (arith, numbers-long (k ∷ ks))
 
-answer-short : (spare : ℕ) (o : Ours) (c : Call) → length (answerBytes (ours spare o c).answer) ≤ longest c
+answer-short : (spare : ℕ) (o : Ours) (c : Call) → length (answer_bytes (ours spare o c).answer) ≤ longest c
 unfolding ours read_answer audit_answer read_bytes Read.read
 answer-short spare o (enrol v r) = changed_short o (enrol_bytes o.book v r) _ 1 (omega arith) (λ b. omega arith)
 answer-short spare o (backup v t list) =
@@ -62,14 +62,14 @@ answer-short spare o (read v k lbn) = go (form_number o.book) (pool_number o.boo
     found : List ℕ
     found = block_at o.pool (image (book_of o.book) v k lbn)
 
-    go : (f p n : ℕ) → length (answerBytes (read_answer (unless f (unless p (unless n (accepted found)))))) ≤ 513
+    go : (f p n : ℕ) → length (answer_bytes (read_answer (unless f (unless p (unless n (accepted found)))))) ≤ 513
     go zero zero zero = suc-le-suc (take-most 512 (drop (image (book_of o.book) v k lbn * 512) o.pool))
     go zero zero (suc n) = omega arith
     go zero (suc p) n = omega arith
     go (suc f) p n = omega arith
 answer-short spare o audit = go (audit_bytes o.book)
   where
-    go : (x : Outcome Bool) → length (answerBytes (audit_answer x)) ≤ 3
+    go : (x : Outcome Bool) → length (answer_bytes (audit_answer x)) ≤ 3
     go (refused k) = omega arith
     go (accepted d) = omega arith
 
@@ -108,14 +108,14 @@ restore-most b pool v k first many room =
 
 -- ---- what a list asks for
 
-pub reply-short : (spare : ℕ) (o : Ours) (a : Asked) → length (replyBytes (reply_to spare o a)) ≤ longestReply a
+pub reply-short : (spare : ℕ) (o : Ours) (a : Asked) → length (reply_bytes (reply_to spare o a)) ≤ longest_reply a
 unfolding reply_to restore_reply
 reply-short spare o (listed c) = answer-short spare o c
 reply-short spare o (restore v k first many) =
     go (restore_bytes o.book o.pool v k first many (many * block_size))
     (restore-most o.book o.pool v k first many (many * block_size))
   where
-    go : (x : Outcome (List ℕ)) → length_or x ≤ many * block_size → length (replyBytes (restore_reply many x)) ≤ 3 + many * block_size
+    go : (x : Outcome (List ℕ)) → length_or x ≤ many * block_size → length (reply_bytes (restore_reply many x)) ≤ 3 + many * block_size
     go (refused j) h = omega arith
     go (accepted d) h = omega arith
 
@@ -124,20 +124,20 @@ answers-short spare o [] = omega arith
 answers-short spare o (a ∷ xs) =
     let ih = answers-short spare (next_after spare o a) xs in
     let s = reply-short spare o a in
-    omega (arith, length-append (replyBytes (reply_to spare o a)) (answered spare (next_after spare o a) xs))
+    omega (arith, length-append (reply_bytes (reply_to spare o a)) (answered spare (next_after spare o a) xs))
 
 -- by the kind in a head
-longest_kind : (kind a b c d : ℕ) (list : List ℕ) → longestReply (call_of kind a b c d list) ≡ longestOf kind d
-unfolding call_of longestOf
+longest_kind : (kind a b c d : ℕ) (list : List ℕ) → longest_reply (call_of kind a b c d list) ≡ longest_of kind d
+unfolding call_of longest_of
 longest_kind kind a b c d list =
     go (eqb kind 0) (eqb kind 1) (eqb kind 2) (eqb kind 3) (eqb kind 5) (eqb kind 6) refl refl refl refl refl refl
   where
-    at : (i : ℕ) → eqb kind i ≡ true → longestReply (call_of i a b c d list) ≡ longestOf i d
-        → longestReply (call_of kind a b c d list) ≡ longestOf kind d
-    at i e = subst (λ j. longestReply (call_of j a b c d list) ≡ longestOf j d) (sym (eqb-true kind i e))
+    at : (i : ℕ) → eqb kind i ≡ true → longest_reply (call_of i a b c d list) ≡ longest_of i d
+        → longest_reply (call_of kind a b c d list) ≡ longest_of kind d
+    at i e = subst (λ j. longest_reply (call_of j a b c d list) ≡ longest_of j d) (sym (eqb-true kind i e))
 
     go : (s t u w x y : Bool) → eqb kind 0 ≡ s → eqb kind 1 ≡ t → eqb kind 2 ≡ u → eqb kind 3 ≡ w → eqb kind 5 ≡ x → eqb kind 6 ≡ y
-        → longestReply (call_of kind a b c d list) ≡ longestOf kind d
+        → longest_reply (call_of kind a b c d list) ≡ longest_of kind d
     go true t u w x y e f g h i j = at 0 e refl
     go false true u w x y e f g h i j = at 1 f refl
     go false false true w x y e f g h i j = at 2 g refl
@@ -146,7 +146,7 @@ longest_kind kind a b c d list =
     go false false false false false true e f g h i j = at 6 j refl
     go false false false false false false e f g h i j = rw (e, f, g, h, i, j)
 
-pub longest_at : (b : List ℕ) (at : ℕ) → longestReply (call_at b at) ≡ longestOf (get_or b at 0) (num b (at + 8))
+pub longest_at : (b : List ℕ) (at : ℕ) → longest_reply (call_at b at) ≡ longest_of (get_or b at 0) (num b (at + 8))
 unfolding call_at
 longest_at b at =
     longest_kind (get_or b at 0) (num b (at + 2)) (num b (at + 4)) (num b (at + 6)) (num b (at + 8)) (part b (at + 14) (data_size b at))

@@ -16,7 +16,7 @@ use Rattle.model.specs.Plain.{Plain, start, marked}
 use Rattle.model.specs.Pool.{pool_size}
 use Rattle.model.specs.Sides.{answers_of, end_of, Ours, ours, plain, ours_shown, plain_shown}
 use Rattle.calls.specs.Asked.{Asked, listed, restore, Reply, answer, run, restore_reply}
-use Rattle.calls.specs.Answers.{replyBytes}
+use Rattle.calls.specs.Answers.{reply_bytes}
 use Rattle.calls.specs.Promises.{at, room_of, playable}
 
 -- what the plain store of these sizes answers, and where it stands after the list
@@ -42,7 +42,7 @@ owed z cs (restore v k first many ∷ xs) =
     ∷ owed z cs xs
 
 abbrev pub owed_bytes : Sizes → List Asked → List ℕ
-owed_bytes z xs = flat replyBytes (owed z [] xs)
+owed_bytes z xs = flat reply_bytes (owed z [] xs)
 
 abbrev pub damage_reply : Reply → Bool
 damage_reply (answer a) = says_damage a

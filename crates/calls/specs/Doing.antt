@@ -3,13 +3,13 @@ use Rattle.std.specs.Prelude.{ℕ, ◌≡◌, List, ◌++◌, length, drop}
 use Rattle.words.specs.Laying.{Stored}
 use Rattle.words.specs.Lent.{Lent}
 use Rattle.calls.specs.Asked.{Asked, reply_to, next_after, left_by}
-use Rattle.calls.specs.Answers.{replyBytes}
+use Rattle.calls.specs.Answers.{reply_bytes}
 use Rattle.calls.specs.Promises.{at, answered}
 
 -- one call on book b and pool; its answer is stored at `to` in out, and r is the offset past it
 pub record Did (spare : ℕ) (b pool : List ℕ) (a : Asked) (out : List ℕ) (to : ℕ) (b' pool' out' : List ℕ) (r : ℕ) : Type 0 where
   pub next : at b' pool' ≡ next_after spare (at b pool) a
-  pub answer : Stored out to (replyBytes (reply_to spare (at b pool) a)) out' r
+  pub answer : Stored out to (reply_bytes (reply_to spare (at b pool) a)) out' r
 
 -- a list of calls; its answers are stored at the front of out, and r is their length
 pub record DidAll (spare : ℕ) (b pool : List ℕ) (xs : List Asked) (out b' pool' out' : List ℕ) (r : ℕ) : Type 0 where

@@ -7,14 +7,14 @@ use Rattle.model.specs.OnBytes.{number_of, after}
 use Rattle.model.specs.Sides.{Ours}
 use Rattle.calls.specs.Asked.{Asked, replies_of, left_by}
 use Rattle.calls.specs.Coding.{calls_of}
-use Rattle.calls.specs.Answers.{replyBytes, most_of}
+use Rattle.calls.specs.Answers.{reply_bytes, most_of}
 
 abbrev pub at : List ℕ → List ℕ → Ours
 at b pool = record { book = b; pool = pool }
 
 -- the answers to a list, in bytes
 abbrev pub answered : ℕ → Ours → List Asked → List ℕ
-answered spare o xs = flat replyBytes (replies_of spare o xs)
+answered spare o xs = flat reply_bytes (replies_of spare o xs)
 
 -- ---- what refuses a list: 19, the bytes are none; 20, the answers are shorter than the longest that these calls can give
 

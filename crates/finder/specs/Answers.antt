@@ -4,6 +4,6 @@ use Rattle.std.proofs.Math.Option.{Option, none, some}
 use Rattle.finder.specs.declared.finding.Found.{Found}
 use Rattle.finder.specs.declared.finding.Found.TheVariants.{At, Nothing}
 
-abbrev pub foundOf : Option ℕ → Found
-foundOf none = Nothing
-foundOf (some p) = At (record { 0 = p })
+abbrev pub found_of : Option ℕ → Found
+found_of none = Nothing
+found_of (some p) = At (record { 0 = p })

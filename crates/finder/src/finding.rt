@@ -3,7 +3,7 @@ ghost use Rattle.std.specs.Prelude.{◌≡◌, length};
 ghost use Rattle.words.specs.Blocks.{print_size};
 ghost use Rattle.book.specs.Layout.{told, Holds};
 ghost use Rattle.model.specs.Backup.{find_held};
-ghost use Rattle.finder.specs.Answers.{foundOf};
+ghost use Rattle.finder.specs.Answers.{found_of};
 ghost use Rattle.finder.specs.First.{first_from};
 ghost use Rattle.finder.specs.Bucket.{bucket_of, has_print};
 ghost use Rattle.finder.specs.Finding.{Chain};
@@ -47,7 +47,7 @@ pub fn find(book: &[u8], heads: &Table, nexts: &Table, print: &[u8]) -> Found
     requires holds { Holds book.now }
     requires indexed { Indexed (told book).entries heads.now nexts.now }
     requires print_len { length print.now ≡ print_size }
-    ensures { result ≡ foundOf (find_held (told book.entry).entries print.now) }
+    ensures { result ≡ found_of (find_held (told book.entry).entries print.now) }
 {
     let q = search(book, nexts, heads[bucket_of(print)], print);
     if q < header::blocks(book) {

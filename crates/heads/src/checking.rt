@@ -1,7 +1,7 @@
 // What refuses a list of calls, before anything is played.
 ghost use Rattle.std.specs.Prelude.{◌≡◌, ◌≤◌};
 ghost use Rattle.model.specs.OnBytes.{number_of};
-ghost use Rattle.calls.specs.Answers.{longestOf};
+ghost use Rattle.calls.specs.Answers.{longest_of};
 ghost use Rattle.calls.specs.Bound.{most_answer, added_to};
 ghost use Rattle.calls.specs.Promises.{room_of, playable};
 
@@ -22,7 +22,7 @@ pub fn room_of(n: usize) -> usize
 
 // The bytes of the longest answer that a call of this kind can have, whose last argument is d.
 fn longest(kind: u8, d: u16) -> usize
-    ensures { (result ≡ longestOf kind d) × (result ≤ most_answer) }
+    ensures { (result ≡ longest_of kind d) × (result ≤ most_answer) }
 {
     if kind == BACKUP {
         return 7;

@@ -9,7 +9,7 @@ use borrow.Author.Tests.{eqb-true, eq-eqb, ne_eqb}
 use Rattle.words.specs.Choice.{if◌then◌else◌}
 use Rattle.runs.specs.Changes.{pair_count, pairs, change_count, list_size, pairs_fit, list_number}
 use Rattle.runs.proofs.Number.{Accepted, ladder, number_ladder, accepted-number, number-accepted}
-use Rattle.pairs.specs.Answers.{shape_of, checkedOf}
+use Rattle.pairs.specs.Answers.{shape_of, checked_of}
 use Rattle.pairs.specs.declared.Shape.{Shape}
 use Rattle.pairs.specs.declared.Checked.{Checked}
 use Rattle.pairs.specs.declared.Checked.TheVariants.{Good, Refused}
@@ -25,17 +25,17 @@ module _ (L : ℕ) (b : List ℕ) where
   answer t = if t then Good (shape_of b) else Refused
 
   pub accepted-good : (e n : ℕ) → Accepted L b → e ≡ pair_count b → n ≡ change_count b
-      → checkedOf L b ≡ Good (record { pairs = e; changes = n })
-  unfolding checkedOf shape_of
+      → checked_of L b ≡ Good (record { pairs = e; changes = n })
+  unfolding checked_of shape_of
   accepted-good e n a p q =
       rw (p, q) (ap answer (eq-eqb (list_number L b) 0 (accepted-number L b a)))
 
-  pub unaccepted_refused : (Accepted L b → ⊥) → checkedOf L b ≡ Refused
-  unfolding checkedOf
+  pub unaccepted_refused : (Accepted L b → ⊥) → checked_of L b ≡ Refused
+  unfolding checked_of
   unaccepted_refused h = ap answer (ne_eqb (list_number L b) 0 (λ e. h (number-accepted L b e)))
 
-  pub good-accepted : (s : Shape) → checkedOf L b ≡ Good s → Accepted L b × (s ≡ shape_of b)
-  unfolding checkedOf
+  pub good-accepted : (s : Shape) → checked_of L b ≡ Good s → Accepted L b × (s ≡ shape_of b)
+  unfolding checked_of
   good-accepted s e =
       let g = go (eqb (list_number L b) 0) e in
       (number-accepted L b (eqb-true (list_number L b) 0 g.0), g.1)
@@ -44,8 +44,8 @@ module _ (L : ℕ) (b : List ℕ) where
       go true q = (refl, cc)
       go false q = (cc, cc)
 
-  pub number-of-checked : checked_number (checkedOf L b) ≡ list_number L b
-  unfolding checkedOf
+  pub number-of-checked : checked_number (checked_of L b) ≡ list_number L b
+  unfolding checked_of
   number-of-checked =
       ap (λ (n : ℕ). checked_number (answer (eqb n 0))) (number_ladder L b)
       ∙ go (ltb (length b) 2) (pairs_fit L 0 (pairs b)) (eqb (length b) (list_size b))

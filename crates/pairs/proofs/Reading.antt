@@ -10,7 +10,7 @@ use lib.Seq.{drop-cons}
 use Rattle.words.specs.Choice.{if◌then◌else◌}
 use Rattle.words.specs.Lists.{sum}
 use Rattle.runs.specs.Changes.{Pair, pair_count, pair_at, pairs, lengths, change_count, pair_fits, pairs_fit}
-use Rattle.pairs.specs.Answers.{countedOf}
+use Rattle.pairs.specs.Answers.{counted_of}
 use Rattle.runs.proofs.Pairs.{length_pairs, get_or-pairs, fit-sum}
 use Rattle.pairs.specs.declared.Counted.TheVariants.{Fit, Unfit}
 
@@ -42,28 +42,28 @@ module _ (b : List ℕ) (i first many : ℕ) (h : i < pair_count b) (p : first �
 
 -- what the pairs come to
 module _ (L : ℕ) (b : List ℕ) where
-  pub counted-fit : pairs_fit L 0 (pairs b) ≡ true → countedOf L b ≡ Fit (change_count b)
-  unfolding countedOf
+  pub counted-fit : pairs_fit L 0 (pairs b) ≡ true → counted_of L b ≡ Fit (change_count b)
+  unfolding counted_of
   counted-fit e = ap (λ (t : Bool). if t then Fit (change_count b) else Unfit) e
 
-  pub counted_unfit : pairs_fit L 0 (pairs b) ≡ false → countedOf L b ≡ Unfit
-  unfolding countedOf
+  pub counted_unfit : pairs_fit L 0 (pairs b) ≡ false → counted_of L b ≡ Unfit
+  unfolding counted_of
   counted_unfit e = ap (λ (t : Bool). if t then Fit (change_count b) else Unfit) e
 
-  pub fit-counted : (n : ℕ) → countedOf L b ≡ Fit n → (pairs_fit L 0 (pairs b) ≡ true) × (n ≡ change_count b)
-  unfolding countedOf
+  pub fit-counted : (n : ℕ) → counted_of L b ≡ Fit n → (pairs_fit L 0 (pairs b) ≡ true) × (n ≡ change_count b)
+  unfolding counted_of
   fit-counted n e = go (pairs_fit L 0 (pairs b)) e
     where
       go : (t : Bool) → (if t then Fit (change_count b) else Unfit) ≡ Fit n → (t ≡ true) × (n ≡ change_count b)
       go true q = (refl, cc)
       go false q = (cc, cc)
 
-  pub counted-within : (n : ℕ) → countedOf L b ≡ Fit n → n ≤ L
+  pub counted-within : (n : ℕ) → counted_of L b ≡ Fit n → n ≤ L
   unfolding change_count
   counted-within n e = let f = fit-counted n e in omega (arith, fit-sum L 0 (pairs b) zero-le f.0)
 
-  pub unfit_counted : countedOf L b ≡ Unfit → pairs_fit L 0 (pairs b) ≡ false
-  unfolding countedOf
+  pub unfit_counted : counted_of L b ≡ Unfit → pairs_fit L 0 (pairs b) ≡ false
+  unfolding counted_of
   unfit_counted e = go (pairs_fit L 0 (pairs b)) e
     where
       go : (t : Bool) → (if t then Fit (change_count b) else Unfit) ≡ Unfit → t ≡ false

@@ -13,8 +13,8 @@ unfoldable pub shape_of : List ℕ → Shape
 shape_of b = record { pairs = pair_count b; changes = change_count b }
 
 -- what the pairs of a list come to
-unfoldable pub countedOf : ℕ → List ℕ → Counted
-countedOf L b = if pairs_fit L 0 (pairs b) then Fit (change_count b) else Unfit
+unfoldable pub counted_of : ℕ → List ℕ → Counted
+counted_of L b = if pairs_fit L 0 (pairs b) then Fit (change_count b) else Unfit
 
-unfoldable pub checkedOf : ℕ → List ℕ → Checked
-checkedOf L b = if eqb (list_number L b) 0 then Good (shape_of b) else Refused
+unfoldable pub checked_of : ℕ → List ℕ → Checked
+checked_of L b = if eqb (list_number L b) 0 then Good (shape_of b) else Refused

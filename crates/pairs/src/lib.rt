@@ -4,7 +4,7 @@
 
 ghost use Rattle.std.specs.Prelude.{◌≡◌, ◌+◌, ◌*◌, ◌≤◌, length};
 ghost use Rattle.runs.specs.Changes.{pair_count, pair_fits, pair_size};
-ghost use Rattle.pairs.specs.Answers.{countedOf, checkedOf};
+ghost use Rattle.pairs.specs.Answers.{counted_of, checked_of};
 
 use words::limits::MAX_RUN;
 use words::{BLOCK_SIZE, PRINT_SIZE, u16_at};
@@ -52,7 +52,7 @@ fn pair_fits(end: usize, first: usize, many: usize, l: usize) -> bool
 // The number of changed blocks, from pairs that lie within the bytes.
 fn count_changes(list: &[u8], pairs: usize, l: usize) -> Counted
     requires { (pairs ≡ pair_count list.now) × (2 + pairs * pair_size ≤ length list.now) × (l ≤ 65535) }
-    ensures { result ≡ countedOf l list.now }
+    ensures { result ≡ counted_of l list.now }
 {
     let mut i = 0;
     let mut end = 0;
@@ -72,7 +72,7 @@ fn count_changes(list: &[u8], pairs: usize, l: usize) -> Counted
 
 // Whether the bytes are a change list for volumes of l blocks.
 pub fn check(list: &[u8], l: u16) -> Checked
-    ensures { result ≡ checkedOf l list.now }
+    ensures { result ≡ checked_of l list.now }
 {
     if list.len() < 2 {
         return Checked::Refused;

@@ -14,7 +14,7 @@ use Rattle.words.specs.Lists.{or_else, same, place_from}
 use Rattle.words.specs.declared.PBN.{PBN}
 use Rattle.book.specs.Book.{Entry, free_entry, entry_at, is_free}
 use Rattle.model.specs.Backup.{find_held, find_free}
-use Rattle.finder.specs.Answers.{foundOf}
+use Rattle.finder.specs.Answers.{found_of}
 use Rattle.finder.specs.declared.finding.Found.TheVariants.{At, Nothing}
 use Rattle.placer.specs.Search.{place_in}
 use Rattle.placer.proofs.SearchLaws.{place_up, place-below}
@@ -25,20 +25,20 @@ module _ (es : List Entry) (c : ℕ) where
   unfolding find_free
   free_search = rw (place_up is_free es c, place-below is_free es c)
 
-  pub free_up : (p : PBN) → foundOf (place_in is_free es c (length es)) ≡ At p → At p ≡ foundOf (find_free es c)
+  pub free_up : (p : PBN) → found_of (place_in is_free es c (length es)) ≡ At p → At p ≡ found_of (find_free es c)
   free_up p e = go (place_in is_free es c (length es)) refl e
     where
-      go : (o : Option ℕ) → place_in is_free es c (length es) ≡ o → foundOf o ≡ At p → At p ≡ foundOf (find_free es c)
-      go (some q) h k = sym k ∙ sym (ap foundOf (free_search ∙ ap (λ (u : Option ℕ). or_else u (place_in is_free es 0 c)) h))
+      go : (o : Option ℕ) → place_in is_free es c (length es) ≡ o → found_of o ≡ At p → At p ≡ found_of (find_free es c)
+      go (some q) h k = sym k ∙ sym (ap found_of (free_search ∙ ap (λ (u : Option ℕ). or_else u (place_in is_free es 0 c)) h))
       go none h k = cc
 
-  pub free-round : foundOf (place_in is_free es c (length es)) ≡ Nothing → foundOf (place_in is_free es 0 c) ≡ foundOf (find_free es c)
+  pub free-round : found_of (place_in is_free es c (length es)) ≡ Nothing → found_of (place_in is_free es 0 c) ≡ found_of (find_free es c)
   free-round e = go (place_in is_free es c (length es)) refl e
     where
-      go : (o : Option ℕ) → place_in is_free es c (length es) ≡ o → foundOf o ≡ Nothing
-          → foundOf (place_in is_free es 0 c) ≡ foundOf (find_free es c)
+      go : (o : Option ℕ) → place_in is_free es c (length es) ≡ o → found_of o ≡ Nothing
+          → found_of (place_in is_free es 0 c) ≡ found_of (find_free es c)
       go (some q) h k = cc
-      go none h k = sym (ap foundOf (free_search ∙ ap (λ (u : Option ℕ). or_else u (place_in is_free es 0 c)) h))
+      go none h k = sym (ap found_of (free_search ∙ ap (λ (u : Option ℕ). or_else u (place_in is_free es 0 c)) h))
 
 -- ---- what is found
 

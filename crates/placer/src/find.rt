@@ -5,7 +5,7 @@ ghost use Rattle.words.specs.Sections.{part};
 ghost use Rattle.book.specs.Book.{is_free};
 ghost use Rattle.book.specs.Layout.{told, Holds};
 ghost use Rattle.model.specs.Backup.{find_held, find_free};
-ghost use Rattle.finder.specs.Answers.{foundOf};
+ghost use Rattle.finder.specs.Answers.{found_of};
 ghost use Rattle.finder.specs.Indexed.{Indexed};
 ghost use Rattle.placer.specs.Search.{place_in};
 
@@ -20,7 +20,7 @@ pub fn find_held(book: &[u8], heads: &Table, nexts: &Table, prints: &[u8], i: us
     requires holds { Holds book.now }
     requires indexed { Indexed (told book).entries heads.now nexts.now }
     requires print_size_in_bounds { i * print_size + print_size ≤ length prints.now }
-    ensures { result ≡ foundOf
+    ensures { result ≡ found_of
         (find_held (told book.entry).entries (part prints.now (i * print_size) print_size)) }
 {
     let from = i * PRINT_SIZE;
@@ -32,7 +32,7 @@ pub fn find_held(book: &[u8], heads: &Table, nexts: &Table, prints: &[u8], i: us
 fn first_free(book: &[u8], from: u16, to: u16) -> Found
     requires holds { Holds book.now }
     requires from_le_to { (from ≤ to) × (to ≤ (told book).sizes.n) }
-    ensures { result ≡ foundOf (place_in is_free (told book.entry).entries from to) }
+    ensures { result ≡ found_of (place_in is_free (told book.entry).entries from to) }
 {
     let mut p = from;
     while p < to {
@@ -48,7 +48,7 @@ fn first_free(book: &[u8], from: u16, to: u16) -> Found
 pub fn find_free(book: &[u8]) -> Found
     requires holds { Holds book.now }
     requires book_bound { (told book).cursor < (told book).sizes.n }
-    ensures { result ≡ foundOf (find_free (told book.entry).entries (told book.entry).cursor) }
+    ensures { result ≡ found_of (find_free (told book.entry).entries (told book.entry).cursor) }
 {
     let cursor = header::cursor(book);
     let n = header::blocks(book);

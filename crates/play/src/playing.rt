@@ -1,7 +1,7 @@
 // A list of calls, played one call after the other.
 ghost use Rattle.std.specs.Prelude.{◌≡◌, true, ◌+◌, ◌≤◌, length};
 ghost use Rattle.calls.specs.Coding.{is_call, call_at};
-ghost use Rattle.calls.specs.Answers.{longestReply, most_of};
+ghost use Rattle.calls.specs.Answers.{longest_reply, most_of};
 ghost use Rattle.calls.specs.Lending.{PlayedLent};
 ghost use Rattle.calls.specs.Doing.{DidLent, DidAllLent};
 ghost use Rattle.calls.specs.Reading.{rest_of, Good, backup_call};
@@ -54,7 +54,7 @@ fn play_call(
     answers: &mut [u8],
     to: usize,
 ) -> usize
-    requires { (is_call calls.now at ≡ true) × (to + longestReply (call_at calls.now at) ≤ length answers.old) }
+    requires { (is_call calls.now at ≡ true) × (to + longest_reply (call_at calls.now at) ≤ length answers.old) }
     ensures { DidLent (lent book) (lent pool) (lent spare) (call_at calls.now at) (lent answers) to result }
 {
     let kind = calls[at];

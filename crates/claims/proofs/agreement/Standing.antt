@@ -81,12 +81,12 @@ module _ (z : Sizes) where
 
   -- a call that only its number k refuses: what it makes of the book is w, which goes to bytes and then to our side, and of the store u
   numbered : {W B U : Type 0} (k k' : ℕ) → k ≡ k' → is_damage k ≡ false
-      → (w : W) (to_bytes : W → B) (toOurs : B → Outcome (Changed Ours)) (u : U) (toPlain : U → Outcome (Changed Plain))
-      → (k ≡ 0 → BothChanged (toOurs (to_bytes w)) (toPlain u))
-      → BothChanged (and_then (and_then (unless k (accepted w)) (λ x. accepted (to_bytes x))) toOurs)
-      (and_then (unless k' (accepted u)) toPlain)
-  numbered zero k' e n w to_bytes toOurs u toPlain both = rw (sym e) (both refl)
-  numbered (suc k) k' e n w to_bytes toOurs u toPlain both = rw (sym e) (stopped (suc k) n)
+      → (w : W) (to_bytes : W → B) (to_ours : B → Outcome (Changed Ours)) (u : U) (to_plain : U → Outcome (Changed Plain))
+      → (k ≡ 0 → BothChanged (to_ours (to_bytes w)) (to_plain u))
+      → BothChanged (and_then (and_then (unless k (accepted w)) (λ x. accepted (to_bytes x))) to_ours)
+      (and_then (unless k' (accepted u)) to_plain)
+  numbered zero k' e n w to_bytes to_ours u to_plain both = rw (sym e) (both refl)
+  numbered (suc k) k' e n w to_bytes to_ours u to_plain both = rw (sym e) (stopped (suc k) n)
 
 -- ---- bytes of a fit book
 

@@ -5,7 +5,7 @@ use native.Mathlib.Omega.{arith}
 use borrow.Author.Rules.{rules}
 use Rattle.words.proofs.ChoiceLaws.{not_both}
 use Rattle.runs.specs.Changes.{pair_count, pairs, list_size, pairs_fit}
-use Rattle.pairs.specs.Answers.{countedOf}
+use Rattle.pairs.specs.Answers.{counted_of}
 use Rattle.pairs.specs.declared.Counted.TheVariants.{Fit}
 use Rattle.pairs.proofs.Reading.{fit-counted, counted-within, unfit_counted}
 use Rattle.pairs.proofs.Checks.{accepted-good, unaccepted_refused}
@@ -46,7 +46,7 @@ returns-3 c =
     sym (unaccepted_refused l b (λ a. not_both (pairs_fit l 0 (pairs b)) a.fit u))
 
 counted : (c : tie.After-known-told)
-    → (let s = start (counting c) in countedOf s.args.l s.args.list.now ≡ Fit (many c))
+    → (let s = start (counting c) in counted_of s.args.l s.args.list.now ≡ Fit (many c))
 counted c = sym (counting c).count-changes.ensures ∙ c.before.counted.given.1
 
 within : (c : tie.After-known-told) → many c ≤ 65535

@@ -3,7 +3,7 @@ use mathlib.Core.Path.{◌≡◌, sym, ap, ◌∙◌}
 use native.Mathlib.Omega.{arith}
 use borrow.Author.Rules.{rules}
 use Rattle.book.specs.Layout.{book_of}
-use Rattle.finder.specs.Answers.{foundOf}
+use Rattle.finder.specs.Answers.{found_of}
 use Rattle.finder.specs.First.{first_from}
 use Rattle.finder.specs.Bucket.{has_print}
 use Rattle.finder.proofs.FindingLaws.{chain-start, search_start, found_at, found_nowhere}
@@ -36,13 +36,13 @@ returns : tie.Need-returns
 returns c =
     let b = c.before in
     let z = (start (bucket b.before)).requires.0.sized.entries in
-    sym (ap foundOf (found_at _ _ _ (lowest b.before) (omega (arith, b.blocks2.ensures, c.if1.true))))
+    sym (ap found_of (found_at _ _ _ (lowest b.before) (omega (arith, b.blocks2.ensures, c.if1.true))))
 
 returns-2 : tie.Need-returns-2
 returns-2 c =
     let b = c.before in
     let z = (start (bucket b.before)).requires.0.sized.entries in
-    sym (ap foundOf (found_nowhere _ _ _ (lowest b.before) (omega (arith, b.blocks2.ensures, c.if1.false))))
+    sym (ap found_of (found_nowhere _ _ _ (lowest b.before) (omega (arith, b.blocks2.ensures, c.if1.false))))
 
 pub find_spec : {M : Type 1} → statement M
 find_spec =

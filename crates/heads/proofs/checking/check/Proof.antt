@@ -7,7 +7,7 @@ use borrow.Author.Rules.{rules}
 use Rattle.words.proofs.ChoiceLaws.{failed, passed}
 use Rattle.model.specs.OnBytes.{number_of}
 use Rattle.calls.specs.Coding.{call_at}
-use Rattle.calls.specs.Answers.{longestReply, longestOf}
+use Rattle.calls.specs.Answers.{longest_reply, longest_of}
 use Rattle.calls.specs.Bound.{added_to}
 use Rattle.calls.proofs.BoundLaws.{number_from, number-begin, number_broken, number_more, number-end}
 use Rattle.calls.proofs.BoundLaws.{room-passed, room_enough}
@@ -71,12 +71,12 @@ loop-again c =
     let a = top.before.before.args in
     let l = top.loop in
     let is = passed is_call.is_call.ensures if1.if1.false in
-    let most : long.longest.result ≡ longestReply (call_at a.calls.now l.at) =
+    let most : long.longest.result ≡ longest_reply (call_at a.calls.now l.at) =
     long.longest.ensures.0
-    ∙ ap (λ (d : ℕ). longestOf (get_or a.calls.now l.at 0) d) last.u16-at.ensures
+    ∙ ap (λ (d : ℕ). longest_of (get_or a.calls.now l.at 0) d) last.u16-at.ensures
     ∙ sym (longest_at a.calls.now l.at)
     in
-    let sum : added.added.result ≡ added_to a.room l.most (longestReply (call_at a.calls.now l.at)) =
+    let sum : added.added.result ≡ added_to a.room l.most (longest_reply (call_at a.calls.now l.at)) =
     added.added.ensures ∙ ap (λ (k : ℕ). added_to a.room l.most k) most
     in (
       c.call-end.ensures.2,

@@ -4,7 +4,7 @@ use mathlib.Core.Path.{◌≡◌, sym, ap, ◌∙◌}
 use mathlib.Core.Bool.{false}
 use native.Mathlib.Numerals.{add-one}
 use native.Mathlib.Omega.{arith}
-use Rattle.pairs.specs.Answers.{checkedOf}
+use Rattle.pairs.specs.Answers.{checked_of}
 use Rattle.pairs.proofs.AnswerLaws.{good-number, refused-number}
 use Rattle.list.proofs.ReaderLaws.{good-whole}
 use Rattle.book.specs.Book.{retention_of}
@@ -76,10 +76,10 @@ day c = sym c.before.bad-day.ensures ∙ c.if5.false
 -- what the list's check answered
 checks : (c : tie.After-check) →
     let a = (start (opened c)).args in
-    checkedOf (book_of a.book.now).sizes.l a.list.now ≡ c.check.result
+    checked_of (book_of a.book.now).sizes.l a.list.now ≡ c.check.result
 checks c =
     let list = (start (opened c)).args.list.now in
-    sym (c.check.ensures ∙ ap (λ (l : ℕ). checkedOf l list) c.before.cells.ensures)
+    sym (c.check.ensures ∙ ap (λ (l : ℕ). checked_of l list) c.before.cells.ensures)
 
 -- numbers 5 to 10 are what `room` says
 number : (c : tie.After-room) →

@@ -4,7 +4,7 @@ use Prim.Native.Nat.{ℕ}
 use lib.ListN.{length}
 use Rattle.book.specs.Book.{is_free}
 use Rattle.book.specs.Layout.{book_of}
-use Rattle.finder.specs.Answers.{foundOf}
+use Rattle.finder.specs.Answers.{found_of}
 use Rattle.placer.specs.Search.{place_in}
 use Rattle.placer.proofs.Finding.{free_up, free-round}
 use borrow.Author.Rules.{rules}
@@ -17,11 +17,11 @@ start c = c.before.before.before.before
 -- what the search from the cursor up found
 up : (c : tie.After-first-free) →
     let x = book_of (start c).args.book.now in
-    foundOf (place_in is_free x.entries x.cursor (length x.entries)) ≡ c.first-free.result
+    found_of (place_in is_free x.entries x.cursor (length x.entries)) ≡ c.first-free.result
 up c =
     let es = (book_of (start c).args.book.now).entries in
     let n = c.before.blocks2.ensures ∙ sym (start c).requires.0.sized.entries in
-    ap₂ (λ (i n : ℕ). foundOf (place_in is_free es i n)) (sym c.before.before.cursor.ensures) (sym n)
+    ap₂ (λ (i n : ℕ). found_of (place_in is_free es i n)) (sym c.before.before.cursor.ensures) (sym n)
     ∙ sym c.first-free.ensures
 
 returns : tie.Need-returns

@@ -8,7 +8,7 @@ use Rattle.words.proofs.Lending.{lent}
 use Rattle.words.proofs.Parts.{length_part}
 use Rattle.book.specs.Layout.{book_of}
 use Rattle.model.specs.Backup.{find_held}
-use Rattle.finder.specs.Answers.{foundOf}
+use Rattle.finder.specs.Answers.{found_of}
 use borrow.Author.Rules.{rules}
 use Rattle.placer.proofs.find.find_held.Statement.{statement}
 use Rattle.placer.proofs.find.find_held.Tie as tie
@@ -25,7 +25,7 @@ returns : tie.Need-returns
 returns c =
     let a = c.before.before.before.before.args in
     c.find.ensures
-    ∙ ap (λ (f : List ℕ). foundOf (find_held (book_of a.book.now).entries f))
+    ∙ ap (λ (f : List ℕ). found_of (find_held (book_of a.book.now).entries f))
     (lent a.prints.now (a.i * print_size) print_size)
 
 pub find-held-spec : {M : Type 1} → statement M

@@ -6,7 +6,7 @@ use native.Mathlib.Omega.{arith}
 use Rattle.words.proofs.ChoiceLaws.{failed, passed}
 use Rattle.book.specs.Book.{free_entry, is_free}
 use Rattle.book.specs.Layout.{book_of}
-use Rattle.finder.specs.Answers.{foundOf}
+use Rattle.finder.specs.Answers.{found_of}
 use Rattle.placer.specs.Search.{place_in}
 use Rattle.placer.proofs.SearchLaws.{place-stop, place-more, place_end}
 use Rattle.placer.proofs.find.first_free.Statement.{statement}
@@ -29,7 +29,7 @@ returns c =
     let l = c.before.before.before.loop in
     let free = c.if1.true in
     let e = g.0.sized.entries in
-    sym (ap foundOf (l.invariant.2 ∙ place-stop is_free (book_of a.book.now).entries free_entry l.p a.to
+    sym (ap found_of (l.invariant.2 ∙ place-stop is_free (book_of a.book.now).entries free_entry l.p a.to
     c.before.before.loop-test.true (omega arith) (rw (failed c.before.is_held.ensures free))))
 
 loop-again : tie.Need-loop-preserved invariant-loop decreases-loop
@@ -49,7 +49,7 @@ returns-2 : tie.Need-returns-2 invariant-loop decreases-loop
 returns-2 c =
     let a = c.before.before.before.args in
     let l = c.before.loop in
-    sym (ap foundOf (l.invariant.2
+    sym (ap found_of (l.invariant.2
     ∙ place_end is_free (book_of a.book.now).entries free_entry l.p a.to c.loop-test.false))
 
 pub first-free-spec : {M : Type 1} → statement M

@@ -12,7 +12,7 @@ use Rattle.runs.proofs.Laws.{print-part, changes-within}
 use Rattle.book.specs.Book.{Sizes}
 use Rattle.book.specs.Layout.{book_of}
 use Rattle.model.specs.Backup.{find_held}
-use Rattle.finder.specs.Answers.{foundOf}
+use Rattle.finder.specs.Answers.{found_of}
 use Rattle.finder.proofs.AnswerLaws.{found_some, found_none}
 use Rattle.placer.proofs.Finding.{found-held, found-free}
 use Rattle.placer.proofs.PlaceLaws.{prints-size, twelve_by, eleven_by, found-by, taken-by}
@@ -49,12 +49,12 @@ free c = c.before.before.before.before.before
 -- what step 1 found
 looked : (c : tie.After-find-held) →
     let a = (start c.before).args in
-    foundOf (find_held (book_of a.work.now).entries (change_at a.list.now a.i).print) ≡ c.find-held.result
+    found_of (find_held (book_of a.work.now).entries (change_at a.list.now a.i).print) ≡ c.find-held.result
 looked c =
     let s = start c.before in
     let a = s.args in
     sym (c.find-held.ensures
-    ∙ ap (λ (f : List ℕ). foundOf (find_held (book_of a.work.now).entries f))
+    ∙ ap (λ (f : List ℕ). found_of (find_held (book_of a.work.now).entries f))
     (ap (λ (f : List ℕ). part f (a.i * print_size) print_size) c.before.prints.ensures
     ∙ print-part a.list.now a.shape.changes a.i s.pre.1.0.1))
 

@@ -7,7 +7,7 @@ use borrow.Author.Rules.{rules}
 use Rattle.words.specs.Numbers.{num}
 use Rattle.model.specs.Calls.{retire, read, audit}
 use Rattle.calls.specs.Asked.{listed, restore}
-use Rattle.calls.specs.Answers.{longestReply}
+use Rattle.calls.specs.Answers.{longest_reply}
 use Rattle.calls.specs.Coding.{data_size, call_at}
 use Rattle.calls.proofs.ReadingLaws.{call-inside, call-enrol, call-backup, call-collect, call-read, call-restore}
 use Rattle.calls.proofs.ReadingLaws.{call-retire, call-audit}
@@ -53,7 +53,7 @@ answer-enrol-requires : tie.Need-answer-enrol-requires
 answer-enrol-requires c κs =
     let if1 = c.before.before in
     let s = entry if1.before in
-    let e = ap longestReply (call-enrol s.args.calls.now s.args.at if1.if1.true) in
+    let e = ap longest_reply (call-enrol s.args.calls.now s.args.at if1.if1.true) in
     omega (arith, s.pre.1)
 
 returns : tie.Need-returns
@@ -71,7 +71,7 @@ play-backup-requires c κs =
     let if2 = c.before.before.before.before in
     let if1 = if2.before in
     let s = entry if1.before in
-    let e = ap longestReply (call-backup s.args.calls.now s.args.at if1.if1.false if2.if2.true) in
+    let e = ap longest_reply (call-backup s.args.calls.now s.args.at if1.if1.false if2.if2.true) in
     (s.pre.0, omega (arith, s.pre.1))
 
 returns-2 : tie.Need-returns-2
@@ -90,7 +90,7 @@ answer-collect-requires c κs =
     let if1 = if2.before in
     let s = entry if1.before in
     let a = s.args in
-    let e = ap longestReply (call-collect a.calls.now a.at if1.if1.false if2.if2.false if3.if3.true) in
+    let e = ap longest_reply (call-collect a.calls.now a.at if1.if1.false if2.if2.false if3.if3.true) in
     omega (arith, s.pre.1)
 
 returns-3 : tie.Need-returns-3
@@ -156,7 +156,7 @@ answer-read-requires : tie.Need-answer-read-requires
 answer-read-requires c κs =
     let if4 = c.before.before.before in
     let s = entry if4.before.before.before.before in
-    let e = ap longestReply (is_read if4) in
+    let e = ap longest_reply (is_read if4) in
     omega (arith, s.pre.1)
 
 returns-4 : tie.Need-returns-4
@@ -182,7 +182,7 @@ answer-restore-requires c κs =
     let u16-at4 = c.before.before.before in
     let if5 = u16-at4.before in
     let s = other if5.before in
-    let e = ap longestReply (is-restore if5) in
+    let e = ap longest_reply (is-restore if5) in
     omega (arith, s.pre.1, u16-at4.u16-at4.ensures)
 
 returns-5 : tie.Need-returns-5
@@ -208,7 +208,7 @@ answer-retire-requires : tie.Need-answer-retire-requires
 answer-retire-requires c κs =
     let if6 = c.before.before.before in
     let s = other if6.before.before in
-    let e = ap longestReply (is-retire if6) in
+    let e = ap longest_reply (is-retire if6) in
     omega (arith, s.pre.1)
 
 returns-6 : tie.Need-returns-6
@@ -228,7 +228,7 @@ answer-audit-requires : tie.Need-answer-audit-requires
 answer-audit-requires c κs =
     let if6 = c.before.before in
     let s = other if6.before.before in
-    let e = ap longestReply (is-audit if6) in
+    let e = ap longest_reply (is-audit if6) in
     omega (arith, s.pre.1)
 
 returns-7 : tie.Need-returns-7
