@@ -2,12 +2,8 @@
 use Prim.Native.Nat.{zero-le}
 use mathlib.Core.Path.{refl}
 use Rattle.list.specs.Readers.{index_of}
-use Rattle.list.proofs.start.Statement.{statement}
-use Rattle.list.proofs.start.Tie as tie
+use Rattle.list.proofs.start.Goals as goal
 
-returns : tie.Need-returns
+pub returns : goal.returns
 unfolding index_of
 returns c = (record { pair = zero-le; inside = λ h. c.requires.some 0 h; end = λ e. refl }, refl)
-
-pub start_spec : {M : Type 1} → statement M
-start_spec = tie.close (tie.spec returns)
