@@ -3,7 +3,7 @@ use super::lists::{LONGEST, write_list};
 use engine::backup::aspen_backup;
 
 // The number of refusal, or 0 and what the backup answers.
-#[derive(Drop)]
+#[derive(Clone, Copy)]
 pub struct Answer {
     pub refusal: u16,
     pub number: u16,

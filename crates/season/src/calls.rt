@@ -9,7 +9,7 @@ use engine::format::aspen_format;
 use samples::Answer;
 
 // A volume's turn on a day.
-#[derive(Drop)]
+#[derive(Clone, Copy)]
 pub struct Turn {
     pub volume: u16,
     pub day: u16,
