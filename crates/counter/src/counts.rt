@@ -8,7 +8,7 @@ use fields::header;
 use words::PBN;
 
 // How many blocks are held, free, and held with count 0, and the sum of the counts.
-#[derive(Drop)]
+#[derive(Clone, Copy)]
 pub struct Counts {
     pub held: u32,
     pub free: u32,

@@ -17,7 +17,7 @@ use words::limits::Table;
 use words::{PBN, PRINT_SIZE};
 
 // A block of the pool, where there is one.
-#[derive(Drop)]
+#[derive(Clone, Copy)]
 pub enum Found {
     At(PBN),
     Nothing,

@@ -11,7 +11,7 @@ use fields::offsets::record_offset;
 use words::{LBN, PBN, put_three, put_u16, u16_at};
 
 // A change: at this LBN of its backup's volume the map named before, and then after.
-#[derive(Drop)]
+#[derive(Clone, Copy)]
 pub struct Record {
     pub lbn: LBN,
     pub before: PBN,

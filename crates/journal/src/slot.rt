@@ -12,7 +12,7 @@ use fields::offsets::slot_offset;
 use words::{put_three, put_u16, u16_at, wide};
 
 // A used slot: a backup of a volume on a day, or the day on which the volume was retired, and its records.
-#[derive(Drop)]
+#[derive(Clone, Copy)]
 pub struct Slot {
     pub volume: u16,
     pub retire: bool,

@@ -16,7 +16,7 @@ use words::refusals;
 // A volume's slots after its k-th. Slot `at` is the first of them; where there is none, `at` is past the used slots. The
 // volume lacks `missing` slots to have a k-th; where it has one, `taken` is that slot's day, and `retire` whether it
 // retires the volume.
-#[derive(Drop)]
+#[derive(Clone, Copy)]
 pub struct After {
     pub missing: u16,
     pub taken: u16,
@@ -26,7 +26,7 @@ pub struct After {
 
 // A backup that is there and kept: its volume's later backups are in the slots from this one on. Else the number of the
 // refusal.
-#[derive(Drop)]
+#[derive(Clone, Copy)]
 pub enum Kept {
     Before(u16),
     Refused(u16),

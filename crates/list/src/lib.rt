@@ -13,7 +13,7 @@ use pairs::{PAIR_SIZE, Shape};
 use words::{BLOCK_SIZE, LBN, PRINT_SIZE, u16_at};
 
 // Between two changes: the pair that the next change is in, and how many of that pair's blocks were passed.
-#[derive(Drop)]
+#[derive(Clone, Copy)]
 pub struct Cursor {
     pub pair: u16,
     pub within: u16,

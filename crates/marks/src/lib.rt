@@ -11,7 +11,7 @@ ghost use Rattle.marks.specs.Passes.{pair_of, pairs_of, counted, Counted, Passed
 use words::limits::MAX_RUN;
 
 // What a pass over the marks counts: runs that ended, marked blocks, and the blocks of the open run.
-#[derive(Drop)]
+#[derive(Clone, Copy)]
 pub struct Tally {
     pub runs: u16,
     pub changes: u16,
@@ -19,7 +19,7 @@ pub struct Tally {
 }
 
 // Where a pass that writes the pairs stands: the next byte, and the blocks of the open run.
-#[derive(Drop)]
+#[derive(Clone, Copy)]
 struct Progress {
     at: usize,
     row: u16,

@@ -7,7 +7,6 @@ use lib.ListN.{replicate}
 use Rattle.words.specs.Blocks.{unmapped}
 use Rattle.book.specs.Book.{Sizes}
 use Rattle.model.specs.Days.{kept, bad_day, not_after}
-use Rattle.model.specs.Plain
 use Rattle.model.specs.Plain.{free, image, retirement, Plain, at_day, with_taken, current_of, read_number}
 use Rattle.model.specs.PlainBackup.{backup_number}
 use Rattle.model.specs.PlainRetire.{retire_number, retired, retire}

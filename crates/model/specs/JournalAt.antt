@@ -33,8 +33,8 @@ unfoldable pub own_from : Book → ℕ → ℕ → List Backup
 own_from x v q = slots_in v (drop q (journal x))
 
 -- of these, the one in slot q, where it is the volume's
-abbrev pub field_own : Book → ℕ → ℕ → List Backup
-field_own x v q = slots_in v (backup_at x q ∷ [])
+abbrev pub own_at : Book → ℕ → ℕ → List Backup
+own_at x v q = slots_in v (backup_at x q ∷ [])
 
 -- the before of the first record of l, else p
 abbrev pub first_before : ℕ → List Rec → ℕ → ℕ

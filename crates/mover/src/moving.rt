@@ -18,7 +18,7 @@ use words::limits::MAX_COUNT;
 use words::{LBN, PBN, UNMAPPED, refusals};
 
 // What a change answers: what is counted after it, or the number of its refusal.
-#[derive(Drop)]
+#[derive(Clone, Copy)]
 pub enum Step {
     Next(Tally),
     Stop(u16),

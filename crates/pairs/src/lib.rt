@@ -12,21 +12,21 @@ use words::{BLOCK_SIZE, PRINT_SIZE, u16_at};
 pub const PAIR_SIZE: usize = 4;
 
 // The numbers of a list that is well formed: E and n.
-#[derive(Drop)]
+#[derive(Clone, Copy)]
 pub struct Shape {
     pub pairs: u16,
     pub changes: u16,
 }
 
 // What the check of a list answers.
-#[derive(Drop)]
+#[derive(Clone, Copy)]
 pub enum Checked {
     Good(Shape),
     Refused,
 }
 
 // What the pairs of a list say: how many blocks changed, unless one of them doesn't fit.
-#[derive(Drop)]
+#[derive(Clone, Copy)]
 enum Counted {
     Fit(usize),
     Unfit,

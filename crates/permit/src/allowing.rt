@@ -13,14 +13,14 @@ use words::refusals;
 
 // What a backup goes by once it is allowed: its list's numbers, the day until which it keeps what it replaces, and its
 // own number.
-#[derive(Drop)]
+#[derive(Clone, Copy)]
 pub struct Plan {
     pub shape: Shape,
     pub until: u16,
     pub number: u16,
 }
 
-#[derive(Drop)]
+#[derive(Clone, Copy)]
 pub enum Allowed {
     Go(Plan),
     Refused(u16),

@@ -7,7 +7,7 @@ use journal::slot;
 
 // How many slots a volume has, the day of the last one, 0 where there is none, and whether one retires the volume. The
 // others are its backups.
-#[derive(Drop)]
+#[derive(Clone, Copy)]
 pub struct Backups {
     pub count: u16,
     pub last: u16,

@@ -21,14 +21,14 @@ use words::limits::Table;
 use words::{BLOCK_SIZE, PBN, refusals, same_bytes};
 
 // What a backup counts: blocks taken, and entries touched.
-#[derive(Drop)]
+#[derive(Clone, Copy)]
 pub struct Tally {
     pub taken: u16,
     pub touched: u16,
 }
 
 // What the lookup and allocation of a change answer.
-#[derive(Drop)]
+#[derive(Clone, Copy)]
 pub enum Placement {
     At(PBN, Tally),
     Refused(u16),

@@ -27,7 +27,7 @@ use words::{PBN, UNMAPPED};
 
 // What the records of a backup are taken with: the last day that keeps what they replace, whether that day is past, and
 // the backup's stamp.
-#[derive(Drop)]
+#[derive(Clone, Copy)]
 pub struct Taking {
     pub volume: u16,
     pub until: u16,

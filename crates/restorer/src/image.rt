@@ -12,7 +12,7 @@ use journal::{record, slot};
 use words::{LBN, PBN};
 
 // The before of an LBN's first record among some records, where there is one.
-#[derive(Drop)]
+#[derive(Clone, Copy)]
 pub enum Before {
     At(PBN),
     Nothing,

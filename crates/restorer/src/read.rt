@@ -16,7 +16,7 @@ use keeping::{Kept, kept_backup};
 use words::{BLOCK_SIZE, LBN, PBN, UNMAPPED, refusals};
 
 // The block that a read gives, or the number of the refusal.
-#[derive(Drop)]
+#[derive(Clone, Copy)]
 enum Sought {
     At(PBN),
     Refused(u16),

@@ -12,13 +12,13 @@ use words::refusals;
 
 // What a retirement goes by once it is allowed: the day until which the blocks of its cells are kept, and how many cells
 // are mapped.
-#[derive(Drop)]
+#[derive(Clone, Copy)]
 pub struct Plan {
     pub until: u16,
     pub cells: u16,
 }
 
-#[derive(Drop)]
+#[derive(Clone, Copy)]
 pub enum Allowed {
     Go(Plan),
     Refused(u16),

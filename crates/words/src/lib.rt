@@ -12,11 +12,11 @@ pub mod limits;
 pub mod refusals;
 
 // A block of an aid's volume. Never taken for a PBN.
-#[derive(Drop)]
+#[derive(Clone, Copy)]
 pub struct LBN(pub u16);
 
 // A block of the pool, or unmapped. Never taken for an LBN.
-#[derive(Drop)]
+#[derive(Clone, Copy)]
 pub struct PBN(pub u16);
 
 pub const UNMAPPED: u16 = 65535;

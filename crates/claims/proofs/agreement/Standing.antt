@@ -224,15 +224,16 @@ module _ (z : Sizes) (spare : ℕ) (enough : book_size z ≤ spare) where
 
   pub list-answers : {o : Ours} {q : Plain} → Stand z o q → (cs : List Call) → answers_of (ours spare) o cs ≡ answers_of plain q cs
   list-answers s [] = refl
-  list-answers s (c ∷ cs) =
+  list-answers {o = o} {q = q} s (c ∷ cs) =
       let a = call-alike s c in
-      ap₂ (λ (x : Answer) (xs : List Answer). x ∷ xs) a.answer (list-answers a.next cs)
+      ap₂ (λ (x : Answer) (xs : List Answer). x ∷ xs) a.answer (list-answers {o = (ours spare o c).next} a.next cs)
 
   pub list-stands : {o : Ours} {q : Plain} → Stand z o q → (cs : List Call) → Stand z (end_of (ours spare) o cs) (end_of plain q cs)
   list-stands s [] = s
-  list-stands s (c ∷ cs) = list-stands (call-alike s c).next cs
+  list-stands {o = o} {q = q} s (c ∷ cs) = list-stands {o = (ours spare o c).next} (call-alike s c).next cs
 
   pub list-undamaged : {o : Ours} {q : Plain} → Stand z o q → (cs : List Call)
       → all (λ a. not (says_damage a)) (answers_of (ours spare) o cs) ≡ true
   list-undamaged s [] = refl
-  list-undamaged s (c ∷ cs) = let a = call-alike s c in rw a.undamaged (list-undamaged a.next cs)
+  list-undamaged {o = o} {q = q} s (c ∷ cs) =
+      let a = call-alike s c in rw a.undamaged (list-undamaged {o = (ours spare o c).next} a.next cs)

@@ -175,4 +175,5 @@ module _ {l d : ℕ} {q : Plain} {h : ℕ → History} (a : AllRecall l d q h) w
 pub list_recalls : {l d : ℕ} {q : Plain} {h : ℕ → History} → AllRecall l d q h → (cs : List Call)
     → AllRecall l (day_from d cs (answers_of plain q cs)) (end_of plain q cs) (λ v. history_from v (h v) cs (answers_of plain q cs))
 list_recalls a [] = a
-list_recalls a (c ∷ cs) = list_recalls (call_recalls a c) cs
+list_recalls {l = l} {d = d} {q = q} {h = h} a (c ∷ cs) =
+    list_recalls {d = day_noted d c (plain q c).answer} (call_recalls a c) cs

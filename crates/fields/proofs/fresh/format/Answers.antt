@@ -1,0 +1,16 @@
+-- `fields::fresh::format`: what the two steps left, by `is-fresh`.
+use Rattle.book.proofs.FreshBook.{is-fresh}
+use Rattle.book.specs.Layout.{entry_size}
+use Rattle.book.specs.Next.{new_sizes}
+use borrow.Author.Rules.{rules}
+use Rattle.fields.proofs.fresh.format.Goals as goal
+
+pub blank-requires : goal.blank-requires
+unfolding entry_size
+blank-requires c = search rules
+
+pub returns : goal.returns
+unfolding entry_size
+returns c =
+    let a = c.args in
+    is-fresh (new_sizes a.n a.l a.s a.j) c.requires.bounds c.blank.ensures c.put_sizes.ensures

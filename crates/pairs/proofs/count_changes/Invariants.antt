@@ -1,0 +1,24 @@
+-- `pairs::count_changes`: the pairs that are left decide as all do, and what was passed ends at `end`.
+use Prim.Native.Nat.{◌+◌, ◌-◌, ◌≤◌}
+use mathlib.Core.Path.{◌≡◌, refl, sym, ap, ◌∙◌}
+use native.Mathlib.Omega.{arith}
+use lib.ListN.{drop}
+use Rattle.words.proofs.ChoiceLaws.{failed, passed}
+use Rattle.words.specs.Lists.{sum}
+use Rattle.runs.specs.Changes.{pair_at, pairs, lengths, change_count, pairs_fit}
+use Rattle.pairs.specs.declared.Counted.TheVariants.{Fit}
+use Rattle.runs.proofs.Pairs.{pair_fits_lem}
+use Rattle.pairs.proofs.Reading.{fit-more, fit-stop, count-more, pairs_end, counted-fit, counted_unfit}
+use Rattle.pairs.proofs.count_changes.Given as goal
+
+abbrev pub invariant-loop-i : goal.invariant-loop-i
+invariant-loop-i l =
+    (l.i ≤ l.pairs)
+    × (l.changes ≤ l.end)
+    × (l.end ≤ l.l)
+    × (pairs_fit l.l 0 (pairs l.list) ≡ pairs_fit l.l l.end (drop l.i (pairs l.list)))
+    × (change_count l.list ≡ l.changes + sum (lengths (drop l.i (pairs l.list))))
+
+abbrev pub decreases-loop-i : goal.decreases-loop-i
+decreases-loop-i l =
+    l.pairs - l.i

@@ -1,0 +1,16 @@
+-- `sections::blocks::maps_ok` meets its contract: `good` is the test of the cells passed.
+use Prim.Native.Nat.{◌≤◌, ◌-◌}
+use mathlib.Core.Path.{◌≡◌, sym, ap, ◌∙◌}
+use native.Mathlib.Omega.{arith}
+use Rattle.words.proofs.Each.{each_none, each-grow}
+use Rattle.book.specs.Form.{pbn_ok}
+use Rattle.sections.specs.Checks.{maps_ok}
+use Rattle.sections.proofs.blocks.maps_ok.Given as goal
+
+abbrev pub invariant-loop-c : goal.invariant-loop-c
+invariant-loop-c l =
+    (l.c ≤ l.cells) × (l.good ≡ maps_ok l.b l.from l.c l.n)
+
+abbrev pub decreases-loop-c : goal.decreases-loop-c
+decreases-loop-c l =
+    l.cells - l.c

@@ -1,0 +1,92 @@
+use Prim.Native.Nat.{ℕ, ◌+◌, ◌-◌, ◌*◌, ◌≤◌, ◌<◌}
+use mathlib.Core.Path.{◌≡◌, refl, sym, ap, ◌∙◌}
+use mathlib.Core.Bool.{not, Bool, true, false}
+use native.Mathlib.Omega.{arith}
+use lib.Dec.{eqb}
+use lib.ListN.{get_or}
+use Rattle.words.proofs.ChoiceLaws.{failed, passed}
+use Rattle.words.specs.Numbers.{num}
+use Rattle.book.specs.Layout.{day_offset}
+use Rattle.slots.specs.Days.{no_lasts, none_gone}
+use Rattle.slots.specs.Slots.{slot_here, slots_left}
+use Rattle.slots.proofs.SlotLaws.{slots-more, slots-stop, slots_end, slot-bounds}
+use Rattle.slots.proofs.journal.used_slots_ok.Goals as goal
+
+pub loop-q-init : goal.loop-q-init
+loop-q-init c = (omega arith, omega arith, refl)
+
+pub slot_ok-requires : goal.slot_ok-requires
+slot_ok-requires c =
+    let p = c.requires in
+    record { entries_from_in_bounds = (omega arith, omega arith); layout_value = (p.kind, p.day) }
+
+pub returns-then-not-slot_ok : goal.returns-then-not-slot_ok
+returns-then-not-slot_ok c =
+    let tested : Bool =
+        let a = c.args in
+    slot_here a.b.now (a.from + c.loop-q.q * 8) c.loop-q.lasts c.loop-q.gone c.loop-q.prev c.loop-q.next
+    in
+    let there : tested ≡ false = failed c.slot_ok.ensures (ap not c.if-not-slot_ok.true) in
+    let l = c.loop-q in
+    let at = ap (λ (f : ℕ). f + l.q * 8) c.requires.start in
+    let no = slots-stop c.args.b.now l.q l.lasts l.gone l.prev l.next (omega arith) at there in
+    sym (l.invariant.2 ∙ no)
+
+pub overflow_add-lasts : goal.overflow_add-lasts
+overflow_add-lasts c =
+    let tested : Bool =
+        let a = c.args in
+    slot_here a.b.now (a.from + c.loop-q.q * 8) c.loop-q.lasts c.loop-q.gone c.loop-q.prev c.loop-q.next
+    in
+    let here : tested ≡ true = passed c.slot_ok.ensures (ap not c.if-not-slot_ok.false) in
+    let bounds : (let b = c.args.b.now in
+    let at = c.args.from + c.loop-q.q * 8 in
+    (get_or b at 0 < 8) × (num b (at + 2) ≤ num b day_offset)) = slot-bounds _ _ _ _ _ _ here in
+    record { fits = omega (arith, bounds) }
+
+pub bounds-lasts-v : goal.bounds-lasts-v
+bounds-lasts-v c =
+    let tested : Bool =
+        let a = c.args in
+    slot_here a.b.now (a.from + c.loop-q.q * 8) c.loop-q.lasts c.loop-q.gone c.loop-q.prev c.loop-q.next
+    in
+    let here : tested ≡ true = passed c.slot_ok.ensures (ap not c.if-not-slot_ok.false) in
+    let bounds : (let b = c.args.b.now in
+    let at = c.args.from + c.loop-q.q * 8 in
+    (get_or b at 0 < 8) × (num b (at + 2) ≤ num b day_offset)) = slot-bounds _ _ _ _ _ _ here in
+    omega (arith, bounds)
+
+pub bounds-gone-v : goal.bounds-gone-v
+bounds-gone-v c =
+    let tested : Bool =
+        let a = c.args in
+    slot_here a.b.now (a.from + c.loop-q.q * 8) c.loop-q.lasts c.loop-q.gone c.loop-q.prev c.loop-q.next
+    in
+    let here : tested ≡ true = passed c.slot_ok.ensures (ap not c.if-not-slot_ok.false) in
+    let bounds : (let b = c.args.b.now in
+    let at = c.args.from + c.loop-q.q * 8 in
+    (get_or b at 0 < 8) × (num b (at + 2) ≤ num b day_offset)) = slot-bounds _ _ _ _ _ _ here in
+    omega (arith, bounds)
+
+pub loop-q-preserved : goal.loop-q-preserved
+loop-q-preserved c =
+    let tested : Bool =
+        let a = c.args in
+    slot_here a.b.now (a.from + c.loop-q.q * 8) c.loop-q.lasts c.loop-q.gone c.loop-q.prev c.loop-q.next
+    in
+    let here : tested ≡ true = passed c.slot_ok.ensures (ap not c.if-not-slot_ok.false) in
+    let l = c.loop-q in
+    let at = ap (λ (f : ℕ). f + l.q * 8) c.requires.start in
+    let more = slots-more c.args.b.now l.q l.lasts l.gone l.prev l.next (omega arith) at here
+    c.wide-v.ensures.0 refl c.u16_at-prev.ensures c.u16_at.ensures
+    in
+    (omega arith, omega arith, l.invariant.2 ∙ more)
+
+pub returns : goal.returns
+returns c =
+    let l = c.loop-q in
+    let e = slots_end c.args.b.now l.q l.lasts l.gone l.prev l.next (omega arith) in
+    ap (eqb l.next) c.requires.records ∙ sym (l.invariant.2 ∙ e)
+
+pub wide-v-requires : goal.wide-v-requires
+wide-v-requires c = tt
