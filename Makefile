@@ -52,4 +52,4 @@ uninstall:
 	@$(into) scripts/install remove
 
 clean:
-	rm -rf target tests/target
+	rm -rf target tests/target crates/*/out

@@ -5,6 +5,7 @@ use engine::enrol::aspen_enrol;
 use engine::format::aspen_format;
 use engine::read::read_number;
 use samples::{Answer, UNCHANGED, letter, number, word};
+use std::io;
 use words::LBN;
 
 // N, L, S and J of the cases.
@@ -23,65 +24,71 @@ pub const POOL_SIZE: usize = 2048;
 // Blocks and fingerprints of one letter throughout.
 const SLOPE: u8 = 0;
 
-fn enrol(book: &mut [u8; BOOK_SIZE], volume: u16, days: u16) {
-    number(b"enrol volume ", volume);
-    number(b" for ", days);
-    number(b" days: ", aspen_enrol(book, volume, days));
-    word(b"\n");
+fn enrol(rt: &impl Print, book: &mut [u8; BOOK_SIZE], volume: u16, days: u16) -> io::Result<()> {
+    number(rt, b"enrol volume ", volume)?;
+    number(rt, b" for ", days)?;
+    number(rt, b" days: ", aspen_enrol(book, volume, days))?;
+    word(rt, b"\n")
 }
 
 // A fresh book with both volumes.
-pub fn start(book: &mut [u8; BOOK_SIZE]) {
-    number(
-        b"format: ",
-        aspen_format(book, BLOCKS, CELLS, SLOTS, RECORDS),
-    );
-    word(b"\n");
-    enrol(book, 0, 10);
-    enrol(book, 1, 3);
+pub fn start(rt: &impl Print, book: &mut [u8; BOOK_SIZE]) -> io::Result<()> {
+    let made = aspen_format(book, BLOCKS, CELLS, SLOTS, RECORDS);
+    number(rt, b"format: ", made)?;
+    word(rt, b"\n")?;
+    enrol(rt, book, 0, 10)?;
+    enrol(rt, book, 1, 3)
 }
 
-fn change(lbn: u16, print: u8, block: u8) {
+fn change(rt: &impl Print, lbn: u16, print: u8, block: u8) -> io::Result<()> {
     if block == UNCHANGED {
-        return;
+        return Ok(());
     }
-    number(b", LBN ", lbn);
-    word(b" = ");
-    letter(block);
+    number(rt, b", LBN ", lbn)?;
+    word(rt, b" = ")?;
+    letter(rt, block)?;
     if print != block {
-        word(b" with the fingerprint of ");
-        letter(print);
+        word(rt, b" with the fingerprint of ")?;
+        letter(rt, print)?;
     }
+    Ok(())
 }
 
 // What the list changes: each LBN with the letter of its block, and of its fingerprint where that is another.
-fn changes(prints: &[u8; 4], blocks: &[u8; 4]) {
-    change(0, prints[0], blocks[0]);
-    change(1, prints[1], blocks[1]);
-    change(2, prints[2], blocks[2]);
-    change(3, prints[3], blocks[3]);
+fn changes(rt: &impl Print, prints: &[u8; 4], blocks: &[u8; 4]) -> io::Result<()> {
+    change(rt, 0, prints[0], blocks[0])?;
+    change(rt, 1, prints[1], blocks[1])?;
+    change(rt, 2, prints[2], blocks[2])?;
+    change(rt, 3, prints[3], blocks[3])
 }
 
-fn answers(answer: Answer) {
+fn answers(rt: &impl Print, answer: Answer) -> io::Result<()> {
     if answer.refusal != 0 {
-        number(b": refused ", answer.refusal);
-        return;
+        return number(rt, b": refused ", answer.refusal);
     }
-    number(b": backup ", answer.number);
-    number(b", taken ", answer.taken);
-    number(b", touched ", answer.touched);
+    number(rt, b": backup ", answer.number)?;
+    number(rt, b", taken ", answer.taken)?;
+    number(rt, b", touched ", answer.touched)
 }
 
 // The first words of a backup's line.
-fn sending(case: u8, volume: u16, day: u16, prints: &[u8; 4], blocks: &[u8; 4]) {
-    letter(case);
-    number(b". day ", day);
-    number(b", volume ", volume);
-    changes(prints, blocks);
+fn sending(
+    rt: &impl Print,
+    case: u8,
+    volume: u16,
+    day: u16,
+    prints: &[u8; 4],
+    blocks: &[u8; 4],
+) -> io::Result<()> {
+    letter(rt, case)?;
+    number(rt, b". day ", day)?;
+    number(rt, b", volume ", volume)?;
+    changes(rt, prints, blocks)
 }
 
 // A backup of blocks under fingerprints that may be of other letters.
 pub fn forged(
+    rt: &impl Print,
     case: u8,
     book: &mut [u8; BOOK_SIZE],
     pool: &mut [u8; POOL_SIZE],
@@ -89,77 +96,80 @@ pub fn forged(
     day: u16,
     prints: &[u8; 4],
     blocks: &[u8; 4],
-) {
+) -> io::Result<()> {
     let mut spare = [0u8; BOOK_SIZE];
-    sending(case, volume, day, prints, blocks);
-    answers(samples::backup(book, pool, &mut spare, volume, day, prints, blocks, SLOPE));
-    facts::cells(book, volume, blocks);
-    facts::state(book);
+    sending(rt, case, volume, day, prints, blocks)?;
+    let answer = samples::backup(book, pool, &mut spare, volume, day, prints, blocks, SLOPE);
+    answers(rt, answer)?;
+    facts::cells(rt, book, volume, blocks)?;
+    facts::state(rt, book)
 }
 
 pub fn backup(
+    rt: &impl Print,
     case: u8,
     book: &mut [u8; BOOK_SIZE],
     pool: &mut [u8; POOL_SIZE],
     volume: u16,
     day: u16,
     letters: &[u8; 4],
-) {
-    forged(case, book, pool, volume, day, letters, letters);
+) -> io::Result<()> {
+    forged(rt, case, book, pool, volume, day, letters, letters)
 }
 
 // A collection; the line goes on with a read.
-pub fn collect(case: u8, book: &mut [u8; BOOK_SIZE], day: u16) {
+pub fn collect(rt: &impl Print, case: u8, book: &mut [u8; BOOK_SIZE], day: u16) -> io::Result<()> {
     let mut freed = 0u16;
     let refusal = aspen_collect(book, day, &mut freed);
-    letter(case);
-    number(b". collect on ", day);
+    letter(rt, case)?;
+    number(rt, b". collect on ", day)?;
     if refusal != 0 {
-        number(b": refused ", refusal);
-        return;
+        return number(rt, b": refused ", refusal);
     }
-    number(b": freed ", freed);
-    word(b",");
+    number(rt, b": freed ", freed)?;
+    word(rt, b",")
 }
 
-fn compare(block: &[u8], letter: u8) {
+fn compare(rt: &impl Print, block: &[u8], letter: u8) -> io::Result<()> {
     if samples::is_block(block, letter, SLOPE) {
-        word(b": the bytes of ");
+        word(rt, b": the bytes of ")
     } else {
-        word(b": other bytes than those of ");
+        word(rt, b": other bytes than those of ")
     }
 }
 
 // What the read gives, and whether it is the block of the letter.
 fn found(
+    rt: &impl Print,
     book: &[u8; BOOK_SIZE],
     pool: &[u8; POOL_SIZE],
     volume: u16,
     k: u16,
     lbn: u16,
     wanted: u8,
-) {
+) -> io::Result<()> {
     let refusal = read_number(book, pool, volume, k, LBN(lbn));
     if refusal != 0 {
-        number(b": refused ", refusal);
-        return;
+        return number(rt, b": refused ", refusal);
     }
-    compare(engine::read::read(book, pool, volume, k, LBN(lbn)), wanted);
-    letter(wanted);
+    let block = engine::read::read(book, pool, volume, k, LBN(lbn));
+    compare(rt, block, wanted)?;
+    letter(rt, wanted)
 }
 
 // A read, to the end of its line.
 pub fn read(
+    rt: &impl Print,
     book: &[u8; BOOK_SIZE],
     pool: &[u8; POOL_SIZE],
     volume: u16,
     k: u16,
     lbn: u16,
     wanted: u8,
-) {
-    number(b" read volume ", volume);
-    number(b", number ", k);
-    number(b", LBN ", lbn);
-    found(book, pool, volume, k, lbn, wanted);
-    facts::state(book);
+) -> io::Result<()> {
+    number(rt, b" read volume ", volume)?;
+    number(rt, b", number ", k)?;
+    number(rt, b", LBN ", lbn)?;
+    found(rt, book, pool, volume, k, lbn, wanted)?;
+    facts::state(rt, book)
 }

@@ -1,92 +1,92 @@
 // What the book has: blocks, counts, expiries, the cursor, and whether it is sound.
-ghost use Rattle.std.specs.Prelude.{◌≡◌, false};
+ghost use Rattle.std.specs.Prelude.{◌≡◌, IfOk, false};
 ghost use Rattle.book.specs.Layout.{Holds};
 
 use engine::audit::aspen_audit;
 use entries::entry;
 use fields::{header, map};
 use samples::{UNCHANGED, number, word};
+use std::io;
 use words::limits::LAST_VOLUME;
 use words::{LBN, PBN, UNMAPPED};
 
 // The readers are asked only of a book in form.
-fn out_of_form(book: &[u8]) -> bool
-    ensures { result ≡ false → Holds book.now }
+fn out_of_form(rt: &impl Print, book: &[u8]) -> io::Result<bool>
+    ensures { IfOk result (λ out. out ≡ false → Holds book.now) }
 {
     if form::form_number(book) == 0 {
-        return false;
+        return Ok(false);
     }
-    word(b"; out of form");
-    true
+    word(rt, b"; out of form")?;
+    Ok(true)
 }
 
 // The block of an LBN that the list changes.
-fn cell(book: &[u8], volume: u16, lbn: u16, tag: u8) {
+fn cell(rt: &impl Print, book: &[u8], volume: u16, lbn: u16, tag: u8) -> io::Result<()> {
     if tag == UNCHANGED {
-        return;
+        return Ok(());
     }
-    if out_of_form(book) {
-        return;
+    if out_of_form(rt, book)? {
+        return Ok(());
     }
     if volume > LAST_VOLUME {
-        return;
+        return Ok(());
     }
     if lbn >= header::cells(book) {
-        return;
+        return Ok(());
     }
     let p = map::cell(book, volume, LBN(lbn));
-    number(b"; LBN ", lbn);
+    number(rt, b"; LBN ", lbn)?;
     if p.0 == UNMAPPED {
-        word(b" unmapped");
-        return;
+        return word(rt, b" unmapped");
     }
-    number(b" in block ", p.0);
+    number(rt, b" in block ", p.0)
 }
 
-pub fn cells(book: &[u8], volume: u16, tags: &[u8; 4]) {
-    cell(book, volume, 0, tags[0]);
-    cell(book, volume, 1, tags[1]);
-    cell(book, volume, 2, tags[2]);
-    cell(book, volume, 3, tags[3]);
+pub fn cells(rt: &impl Print, book: &[u8], volume: u16, tags: &[u8; 4]) -> io::Result<()> {
+    cell(rt, book, volume, 0, tags[0])?;
+    cell(rt, book, volume, 1, tags[1])?;
+    cell(rt, book, volume, 2, tags[2])?;
+    cell(rt, book, volume, 3, tags[3])
 }
 
-fn block(book: &[u8], p: u16) {
-    if out_of_form(book) {
-        return;
+fn block(rt: &impl Print, book: &[u8], p: u16) -> io::Result<()> {
+    if out_of_form(rt, book)? {
+        return Ok(());
     }
     if p >= header::blocks(book) {
-        return;
+        return Ok(());
     }
     let count = entry::count(book, PBN(p));
     let expiry = entry::expiry(book, PBN(p));
-    number(b"; block ", p);
-    number(b" has count ", count);
-    number(b", expiry ", expiry);
+    number(rt, b"; block ", p)?;
+    number(rt, b" has count ", count)?;
+    number(rt, b", expiry ", expiry)
 }
 
-fn cursor(book: &[u8]) {
-    if out_of_form(book) {
-        return;
+fn cursor(rt: &impl Print, book: &[u8]) -> io::Result<()> {
+    if out_of_form(rt, book)? {
+        return Ok(());
     }
-    number(b"; cursor ", header::cursor(book));
+    number(rt, b"; cursor ", header::cursor(book))
 }
 
-fn audit(book: &[u8]) {
+fn audit(rt: &impl Print, book: &[u8]) -> io::Result<()> {
     let mut sound = 0u16;
     let refusal = aspen_audit(book, &mut sound);
     if refusal != 0 {
-        number(b"; audit refused ", refusal);
+        number(rt, b"; audit refused ", refusal)
     } else if sound == 1 {
-        word(b"; audit yes");
+        word(rt, b"; audit yes")
     } else {
-        word(b"; audit no");
+        word(rt, b"; audit no")
     }
 }
 
 // The end of a line. Block 0 is the one that the cases follow.
-pub fn state(book: &[u8]) {
-    block(book, 0);
-    cursor(book);
-    audit(book);
-    word(b"\n");
+pub fn state(rt: &impl Print, book: &[u8]) -> io::Result<()> {
+    block(rt, book, 0)?;
+    cursor(rt, book)?;
+    audit(rt, book)?;
+    word(rt, b"\n")
 }

@@ -9,35 +9,44 @@ mod facts;
 
 use calls::{BOOK_SIZE, POOL_SIZE, backup, collect, forged, read};
 use samples::word;
+use std::io;
 
-fn a_to_d(book: &mut [u8; BOOK_SIZE], pool: &mut [u8; POOL_SIZE]) {
-    backup(b'a', book, pool, 0, 5, b"AB--");
-    backup(b'b', book, pool, 1, 6, b"---A");
-    backup(b'c', book, pool, 0, 8, b"C---");
-    backup(b'd', book, pool, 1, 9, b"---B");
-    samples::page(book);
+fn a_to_d(
+    rt: &impl Print,
+    book: &mut [u8; BOOK_SIZE],
+    pool: &mut [u8; POOL_SIZE],
+) -> io::Result<()> {
+    backup(rt, b'a', book, pool, 0, 5, b"AB--")?;
+    backup(rt, b'b', book, pool, 1, 6, b"---A")?;
+    backup(rt, b'c', book, pool, 0, 8, b"C---")?;
+    backup(rt, b'd', book, pool, 1, 9, b"---B")?;
+    samples::page(rt, book)
 }
 
-fn e_to_g(book: &mut [u8; BOOK_SIZE], pool: &[u8; POOL_SIZE]) {
-    collect(b'e', book, 18);
-    read(book, pool, 0, 1, 0, b'A');
-    word(b"f.");
-    read(book, pool, 1, 1, 3, b'A');
-    collect(b'g', book, 19);
-    read(book, pool, 0, 1, 0, b'A');
+fn e_to_g(rt: &impl Print, book: &mut [u8; BOOK_SIZE], pool: &[u8; POOL_SIZE]) -> io::Result<()> {
+    collect(rt, b'e', book, 18)?;
+    read(rt, book, pool, 0, 1, 0, b'A')?;
+    word(rt, b"f.")?;
+    read(rt, book, pool, 1, 1, 3, b'A')?;
+    collect(rt, b'g', book, 19)?;
+    read(rt, book, pool, 0, 1, 0, b'A')
 }
 
-fn h_to_j(book: &mut [u8; BOOK_SIZE], pool: &mut [u8; POOL_SIZE]) {
-    backup(b'h', book, pool, 0, 20, b"--DE");
-    backup(b'i', book, pool, 1, 21, b"F---");
-    forged(b'j', book, pool, 1, 21, b"B---", b"F---");
+fn h_to_j(
+    rt: &impl Print,
+    book: &mut [u8; BOOK_SIZE],
+    pool: &mut [u8; POOL_SIZE],
+) -> io::Result<()> {
+    backup(rt, b'h', book, pool, 0, 20, b"--DE")?;
+    backup(rt, b'i', book, pool, 1, 21, b"F---")?;
+    forged(rt, b'j', book, pool, 1, 21, b"B---", b"F---")
 }
 
-fn main() {
+fn main(rt: HostRuntime) -> io::Result<()> {
     let mut book = [0u8; BOOK_SIZE];
     let mut pool = [0u8; POOL_SIZE];
-    calls::start(&mut book);
-    a_to_d(&mut book, &mut pool);
-    e_to_g(&mut book, &pool);
-    h_to_j(&mut book, &mut pool);
+    calls::start(&rt, &mut book)?;
+    a_to_d(&rt, &mut book, &mut pool)?;
+    e_to_g(&rt, &mut book, &pool)?;
+    h_to_j(&rt, &mut book, &mut pool)
 }

@@ -4,8 +4,7 @@ ghost use Rattle.words.specs.Lent.{lent};
 
 use auditor::audit::answer;
 
-#[unsafe(no_mangle)]
-pub extern "C" fn aspen_audit(book: &[u8], sound: &mut u16) -> u16
+pub fn aspen_audit(book: &[u8], sound: &mut u16) -> u16
     ensures { Audited book (lent sound) result }
 {
     answer(book, sound)

@@ -2,8 +2,7 @@
 ghost use Rattle.intake.specs.Promises.{BackedUp};
 ghost use Rattle.words.specs.Lent.{lent};
 
-#[unsafe(no_mangle)]
-pub extern "C" fn aspen_backup(
+pub fn aspen_backup(
     book: &mut [u8],
     pool: &mut [u8],
     spare: &mut [u8],

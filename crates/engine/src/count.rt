@@ -4,8 +4,7 @@ ghost use Rattle.words.specs.Lent.{lent};
 
 use counter::count::count;
 
-#[unsafe(no_mangle)]
-pub extern "C" fn aspen_count(
+pub fn aspen_count(
     book: &[u8],
     blocks: &mut u16,
     held: &mut u16,

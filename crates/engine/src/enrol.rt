@@ -2,8 +2,7 @@
 ghost use Rattle.setup.specs.Promises.{Enrolled};
 ghost use Rattle.words.specs.Lent.{lent};
 
-#[unsafe(no_mangle)]
-pub extern "C" fn aspen_enrol(book: &mut [u8], volume: u16, retention: u16) -> u16
+pub fn aspen_enrol(book: &mut [u8], volume: u16, retention: u16) -> u16
     ensures { Enrolled (lent book) volume retention result }
 {
     setup::enrol::enrol(book, volume, retention)

@@ -4,8 +4,7 @@ ghost use Rattle.book.specs.Form.{form_number};
 
 use form::form_number;
 
-#[unsafe(no_mangle)]
-pub extern "C" fn aspen_form(book: &[u8]) -> u16
+pub fn aspen_form(book: &[u8]) -> u16
     ensures { result ≡ form_number book.now }
 {
     form_number(book)

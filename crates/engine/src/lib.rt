@@ -1,4 +1,4 @@
-// The calls of the box (document 01, "The calls"), proved to do what `model` defines, and exported for C.
+// The calls of the box (document 01, "The calls"), proved to do what `model` defines. `engine_c` exports them for C.
 
 #![tactic(auto)]
 

@@ -6,8 +6,7 @@ pub use restorer::read::{read, read_number};
 use words::LBN;
 
 // The block of an accepted read is 512 bytes of the pool from `at` on.
-#[unsafe(no_mangle)]
-pub extern "C" fn aspen_read(
+pub fn aspen_read(
     book: &[u8],
     pool: &[u8],
     volume: u16,

@@ -2,8 +2,7 @@
 ghost use Rattle.recover.specs.Promises.{Restored};
 ghost use Rattle.words.specs.Lent.{lent};
 
-#[unsafe(no_mangle)]
-pub extern "C" fn aspen_restore(
+pub fn aspen_restore(
     book: &[u8],
     pool: &[u8],
     volume: u16,

@@ -2,8 +2,7 @@
 ghost use Rattle.retirer.specs.Promises.{RetiredBy};
 ghost use Rattle.words.specs.Lent.{lent};
 
-#[unsafe(no_mangle)]
-pub extern "C" fn aspen_retire(
+pub fn aspen_retire(
     book: &mut [u8],
     spare: &mut [u8],
     volume: u16,

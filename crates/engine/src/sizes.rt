@@ -2,8 +2,7 @@
 ghost use Rattle.figures.specs.Promises.{SizesTold, UsedTold, VolumeTold};
 ghost use Rattle.words.specs.Lent.{lent};
 
-#[unsafe(no_mangle)]
-pub extern "C" fn aspen_sizes(
+pub fn aspen_sizes(
     book: &[u8],
     blocks: &mut u16,
     cells: &mut u16,
@@ -15,15 +14,13 @@ pub extern "C" fn aspen_sizes(
     figures::header::sizes(book, blocks, cells, slots, records)
 }
 
-#[unsafe(no_mangle)]
-pub extern "C" fn aspen_used(book: &[u8], slots: &mut u16, records: &mut u16, day: &mut u16) -> u16
+pub fn aspen_used(book: &[u8], slots: &mut u16, records: &mut u16, day: &mut u16) -> u16
     ensures { UsedTold book (lent slots) (lent records) (lent day) result }
 {
     figures::header::used(book, slots, records, day)
 }
 
-#[unsafe(no_mangle)]
-pub extern "C" fn aspen_volume(
+pub fn aspen_volume(
     book: &[u8],
     volume: u16,
     retention: &mut u16,

@@ -104,8 +104,7 @@ fn play_list(
 }
 
 // A list of calls on book, pool and spare; its answers go to the front of `answers`, and `written` is their length.
-#[unsafe(no_mangle)]
-pub extern "C" fn aspen_play(
+pub fn aspen_play(
     book: &mut [u8],
     pool: &mut [u8],
     spare: &mut [u8],

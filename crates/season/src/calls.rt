@@ -25,11 +25,9 @@ pub fn retention(v: u16) -> u16 {
 pub fn start(book: &mut [u8; BOOK_SIZE], counts: &mut [u32; COUNTS]) {
     let made = aspen_format(book, BLOCKS, CELLS, SLOTS, RECORDS);
     counts::call(counts, counts::FORMAT, made);
-    let mut v = 0u16;
-    while v < 8 {
+    for v in 0..8 {
         let refusal = aspen_enrol(book, v, retention(v));
         counts::call(counts, counts::ENROL, refusal);
-        v += 1;
     }
 }
 

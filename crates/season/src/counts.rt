@@ -1,5 +1,6 @@
 // How many calls of each kind were accepted, or refused by which number, and what came of them.
 use samples::{number, total, word};
+use std::io;
 use std::num::wrapping_add_u32;
 
 pub const COUNTS: usize = 200;
@@ -49,45 +50,43 @@ pub fn expect(counts: &mut [u32; COUNTS], answer: u16, expected: u16) {
     }
 }
 
-fn refused(k: u16, times: u32) {
+fn refused(rt: &impl Print, k: u16, times: u32) -> io::Result<()> {
     if times == 0 {
-        return;
+        return Ok(());
     }
-    number(b", refused by ", k);
-    total(b": ", times);
+    number(rt, b", refused by ", k)?;
+    total(rt, b": ", times)
 }
 
-fn line(name: &[u8], counts: &[u32; COUNTS], kind: u16) {
+fn line(rt: &impl Print, name: &[u8], counts: &[u32; COUNTS], kind: u16) -> io::Result<()> {
     let from = kind % 6 * 32;
-    total(name, counts[(from + ALL) as usize]);
-    total(b", accepted ", counts[from as usize]);
-    let mut k = 1u16;
-    while k < ALL {
-        refused(k, counts[(from + k) as usize]);
-        k += 1;
+    total(rt, name, counts[(from + ALL) as usize])?;
+    total(rt, b", accepted ", counts[from as usize])?;
+    for k in 1..ALL {
+        refused(rt, k, counts[(from + k) as usize])?;
     }
-    word(b"\n");
+    word(rt, b"\n")
 }
 
-fn sum(name: &[u8], counts: &[u32; COUNTS], what: u16) {
-    total(name, counts[what as usize % COUNTS]);
-    word(b"\n");
+fn sum(rt: &impl Print, name: &[u8], counts: &[u32; COUNTS], what: u16) -> io::Result<()> {
+    total(rt, name, counts[what as usize % COUNTS])?;
+    word(rt, b"\n")
 }
 
-fn sums(counts: &[u32; COUNTS]) {
-    sum(b"blocks taken ", counts, TAKEN);
-    sum(b"blocks freed ", counts, FREED);
-    sum(b"blocks read that equal what was sent ", counts, EQUAL);
-    sum(b"audits that say yes ", counts, SOUND);
-    sum(b"answers other than expected ", counts, WRONG);
+fn sums(rt: &impl Print, counts: &[u32; COUNTS]) -> io::Result<()> {
+    sum(rt, b"blocks taken ", counts, TAKEN)?;
+    sum(rt, b"blocks freed ", counts, FREED)?;
+    sum(rt, b"blocks read that equal what was sent ", counts, EQUAL)?;
+    sum(rt, b"audits that say yes ", counts, SOUND)?;
+    sum(rt, b"answers other than expected ", counts, WRONG)
 }
 
-pub fn summary(counts: &[u32; COUNTS]) {
-    line(b"format calls ", counts, FORMAT);
-    line(b"enrol calls ", counts, ENROL);
-    line(b"backup calls ", counts, BACKUP);
-    line(b"collect calls ", counts, COLLECT);
-    line(b"read calls ", counts, READ);
-    line(b"audit calls ", counts, AUDIT);
-    sums(counts);
+pub fn summary(rt: &impl Print, counts: &[u32; COUNTS]) -> io::Result<()> {
+    line(rt, b"format calls ", counts, FORMAT)?;
+    line(rt, b"enrol calls ", counts, ENROL)?;
+    line(rt, b"backup calls ", counts, BACKUP)?;
+    line(rt, b"collect calls ", counts, COLLECT)?;
+    line(rt, b"read calls ", counts, READ)?;
+    line(rt, b"audit calls ", counts, AUDIT)?;
+    sums(rt, counts)
 }

@@ -17,13 +17,11 @@ pub fn changes(tags: &mut [u8; LBNS], day: u16, seed: u32) -> u32 {
     let first = step(seed);
     let n = first / 65536 % 6;
     let mut next = first;
-    let mut i = 0;
-    while i < n {
+    for _ in 0..n {
         let drawn = step(next);
         let lbn = (drawn / 65536) as usize % LBNS;
         next = step(drawn);
         tags[lbn] = word_of(next, day);
-        i += 1;
     }
     next
 }

@@ -17,6 +17,7 @@ use counts::COUNTS;
 use sending::send;
 use sent::SENT;
 use sizes::{BOOK_SIZE, DAYS, POOL_SIZE};
+use std::io;
 
 // The end of a day: an audit, and once a week a collection and a reading of all backups before it.
 fn end_of_day(
@@ -43,36 +44,33 @@ fn day_of(
     seed: u32,
 ) -> u32 {
     let mut next = seed;
-    let mut volume = 0u16;
-    while volume < 8 {
+    for volume in 0..8 {
         next = send(book, pool, sent, counts, Turn { volume, day }, next);
-        volume += 1;
     }
     end_of_day(book, pool, sent, counts, day);
     next
 }
 
 fn season(
+    rt: &impl Print,
     book: &mut [u8; BOOK_SIZE],
     pool: &mut [u8; POOL_SIZE],
     sent: &mut [u16; SENT],
     counts: &mut [u32; COUNTS],
-) {
+) -> io::Result<()> {
     let mut seed = 2026u32;
-    let mut day = 1u16;
-    while day <= DAYS {
+    for day in 1..=DAYS {
         seed = day_of(book, pool, sent, counts, day, seed);
-        day += 1;
     }
-    samples::page(book);
+    samples::page(rt, book)
 }
 
-fn main() {
+fn main(rt: HostRuntime) -> io::Result<()> {
     let mut book = [0u8; BOOK_SIZE];
     let mut pool = [0u8; POOL_SIZE];
     let mut sent = [0u16; SENT];
     let mut counts = [0u32; COUNTS];
     calls::start(&mut book, &mut counts);
-    season(&mut book, &mut pool, &mut sent, &mut counts);
-    counts::summary(&counts);
+    season(&rt, &mut book, &mut pool, &mut sent, &mut counts)?;
+    counts::summary(&rt, &counts)
 }

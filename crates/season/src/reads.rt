@@ -57,8 +57,7 @@ fn backup(
     k: u16,
     kept: bool,
 ) {
-    let mut lbn = 0u16;
-    while lbn < CELLS {
+    for lbn in 0..CELLS {
         one(
             book,
             pool,
@@ -69,7 +68,6 @@ fn backup(
             kept,
             sent::tag(sent, v, k, lbn),
         );
-        lbn += 1;
     }
 }
 
@@ -81,13 +79,11 @@ pub fn all(
     counts: &mut [u32; COUNTS],
     today: u16,
 ) {
-    let mut row = 0u16;
-    while row < ALL_ROWS {
+    for row in 0..ALL_ROWS {
         let v = row / ROWS;
         let k = row % ROWS;
         if sent::day(sent, v, k) != 0 {
             backup(book, pool, sent, counts, v, k, is_kept(sent, v, k, today));
         }
-        row += 1;
     }
 }

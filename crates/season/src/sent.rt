@@ -52,11 +52,9 @@ fn changed(before: u8, change: u8) -> u8 {
 pub fn note(sent: &mut [u16; SENT], turn: Turn, k: u16, changes: &[u8; LBNS]) {
     let v = turn.volume;
     set(sent, v, k, 0, turn.day);
-    let mut lbn = 0u16;
-    while lbn < CELLS {
+    for lbn in 0..CELLS {
         let now = changed(tag(sent, v, 0, lbn), changes[lbn as usize]) as u16;
         set(sent, v, 0, 1 + lbn, now);
         set(sent, v, k, 1 + lbn, now);
-        lbn += 1;
     }
 }

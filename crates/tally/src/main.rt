@@ -2,13 +2,14 @@
 
 #![tactic(auto)]
 
-use libc::{STDIN_FILENO, STDOUT_FILENO};
+use input::read_full;
+use std::io;
 
-fn main() {
+fn main(rt: HostRuntime) -> io::Result<()> {
     // One byte more than the longest book, so that longer input is seen.
     let mut input = [0u8; 65537];
     let mut page = [0u8; pages::PAGE_ROOM];
-    let n = io::read_full(STDIN_FILENO, &mut input);
+    let n = read_full(&mut rt.reader(), &mut input)?;
     let len = pages::tally(&input[..n], &mut page);
-    io::write_all(STDOUT_FILENO, &page[..len]);
+    rt.write_all(&page[..len])
 }

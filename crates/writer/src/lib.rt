@@ -100,8 +100,7 @@ fn put_list(list: &mut [u8], runs: u16, marks: &[u8], prints: &[u8], image: &[u8
 }
 
 // Writes the list of the marked blocks and answers its length in bytes.
-#[unsafe(no_mangle)]
-pub extern "C" fn aspen_write_list(
+pub fn aspen_write_list(
     l: u16,
     marks: &[u8],
     prints: &[u8],

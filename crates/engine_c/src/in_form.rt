@@ -1,0 +1,10 @@
+// Form: whether the book is in form, and if not, by which number it is refused.
+ghost use Rattle.std.specs.Prelude.{◌≡◌};
+ghost use Rattle.book.specs.Form.{form_number};
+
+#[unsafe(no_mangle)]
+pub extern "C" fn aspen_form(book: &[u8]) -> u16
+    ensures { result ≡ form_number book.now }
+{
+    engine::in_form::aspen_form(book)
+}
