@@ -2,7 +2,6 @@
 use Prim.Native.Nat.{ℕ, ◌≤◌}
 use mathlib.Core.Path.{◌≡◌, sym, ◌∙◌}
 use native.Mathlib.Omega.{arith}
-use borrow.Author.Rules.{rules}
 use Rattle.words.proofs.ChoiceLaws.{not_both}
 use Rattle.runs.specs.Changes.{pair_count, pairs, list_size, pairs_fit}
 use Rattle.pairs.specs.Answers.{counted_of}

@@ -1,11 +1,8 @@
 use mathlib.Core.Bool.{not}
-use Prim.Native.Nat.{◌+◌, ◌-◌, ◌≤◌}
 use mathlib.Core.Path.{◌≡◌, refl, sym, ap, ◌∙◌}
 use native.Mathlib.Omega.{arith}
-use lib.ListN.{drop}
 use Rattle.words.proofs.ChoiceLaws.{failed, passed}
-use Rattle.words.specs.Lists.{sum}
-use Rattle.runs.specs.Changes.{pair_at, pairs, lengths, change_count, pairs_fit}
+use Rattle.runs.specs.Changes.{pair_at, change_count}
 use Rattle.pairs.specs.declared.Counted.TheVariants.{Fit}
 use Rattle.runs.proofs.Pairs.{pair_fits_lem}
 use Rattle.pairs.proofs.Reading.{fit-more, fit-stop, count-more, pairs_end, counted-fit, counted_unfit}

@@ -1,14 +1,9 @@
 -- `pairs::count_changes`: the pairs that are left decide as all do, and what was passed ends at `end`.
 use Prim.Native.Nat.{◌+◌, ◌-◌, ◌≤◌}
-use mathlib.Core.Path.{◌≡◌, refl, sym, ap, ◌∙◌}
-use native.Mathlib.Omega.{arith}
+use mathlib.Core.Path.{◌≡◌}
 use lib.ListN.{drop}
-use Rattle.words.proofs.ChoiceLaws.{failed, passed}
 use Rattle.words.specs.Lists.{sum}
-use Rattle.runs.specs.Changes.{pair_at, pairs, lengths, change_count, pairs_fit}
-use Rattle.pairs.specs.declared.Counted.TheVariants.{Fit}
-use Rattle.runs.proofs.Pairs.{pair_fits_lem}
-use Rattle.pairs.proofs.Reading.{fit-more, fit-stop, count-more, pairs_end, counted-fit, counted_unfit}
+use Rattle.runs.specs.Changes.{pairs, lengths, change_count, pairs_fit}
 use Rattle.pairs.proofs.count_changes.Given as goal
 
 abbrev pub invariant-loop-i : goal.invariant-loop-i

@@ -1,6 +1,5 @@
 -- `pairs::pair_fits`: the tests of the branches are those of `pair_fits`.
 use native.Mathlib.Omega.{arith}
-use borrow.Author.Rules.{rules}
 use borrow.Author.Tests.{le-leb, lt-leb, eq-eqb, ne_eqb}
 use Rattle.runs.specs.Changes.{max_run}
 use Rattle.pairs.proofs.pair_fits.Goals as goal

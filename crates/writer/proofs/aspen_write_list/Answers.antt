@@ -3,7 +3,6 @@ use mathlib.Core.Path.{ap, ◌≡◌, refl}
 use mathlib.Core.Bool.{not, true}
 use lib.ListN.{length}
 use native.Mathlib.Omega.{arith}
-use borrow.Author.Rules.{rules}
 use Rattle.words.proofs.ChoiceLaws.{failed, passed}
 use Rattle.runs.specs.Writer.{input_ok, marked_list}
 use Rattle.writer.proofs.Lengths.{length-list}
@@ -25,7 +24,7 @@ returns-then-list-size c =
     let fit : (let a = c.args in Fit a.marks.now a.prints.now a.image.now) = input_fits _ _ _ _ accepted in
     let long : (let a = c.args in
     c.list_len-size.result ≡ length (marked_list a.marks.now a.prints.now a.image.now)) =
-        let a = c.args in
+    let a = c.args in
     let f = fit in
     let n = c.count_marks-t.ensures in
     let e = length-list a.prints.now a.image.now a.marks.now f.prints f.image in
@@ -40,7 +39,7 @@ put_list-requires c =
     let fit : (let a = c.args in Fit a.marks.now a.prints.now a.image.now) = input_fits _ _ _ _ accepted in
     let long : (let a = c.args in
     c.list_len-size.result ≡ length (marked_list a.marks.now a.prints.now a.image.now)) =
-        let a = c.args in
+    let a = c.args in
     let f = fit in
     let n = c.count_marks-t.ensures in
     let e = length-list a.prints.now a.image.now a.marks.now f.prints f.image in
@@ -61,7 +60,7 @@ returns c =
     let fit : (let a = c.args in Fit a.marks.now a.prints.now a.image.now) = input_fits _ _ _ _ accepted in
     let long : (let a = c.args in
     c.list_len-size.result ≡ length (marked_list a.marks.now a.prints.now a.image.now)) =
-        let a = c.args in
+    let a = c.args in
     let f = fit in
     let n = c.count_marks-t.ensures in
     let e = length-list a.prints.now a.image.now a.marks.now f.prints f.image in

@@ -1,5 +1,4 @@
 -- `input_ok`: the tests of `input_ok` in their order.
-use borrow.Author.Rules.{rules}
 use borrow.Author.Tests.{le-leb, lt-leb, eq-eqb, ne_eqb}
 use Rattle.runs.specs.Writer.{input_ok}
 use Rattle.writer.proofs.input_ok.Goals as goal

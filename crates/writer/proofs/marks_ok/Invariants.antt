@@ -1,22 +1,18 @@
 -- `marks_ok`: the marks that are left decide as all of them do.
 use Prim.Native.Nat.{ℕ, ◌≤◌, ◌-◌}
-use mathlib.Core.Path.{◌≡◌, refl, sym, ◌∙◌}
+use mathlib.Core.Path.{◌≡◌}
 use mathlib.Core.Bool.{Bool}
 use lib.Dec.{leb}
-use lib.ListN.{length, get_or, drop}
-use native.Mathlib.Omega.{arith}
-use borrow.Author.Rules.{rules}
-use borrow.Author.Tests.{le-leb, lt-leb}
+use lib.ListN.{length, drop}
 use Rattle.words.specs.Lists.{all}
-use Rattle.words.proofs.Turns.{all_more, all-stop, all_end}
 use Rattle.writer.proofs.marks_ok.Given as goal
 
-abbrev isMark : ℕ → Bool
-isMark m = leb m 1
+abbrev is_mark : ℕ → Bool
+is_mark m = leb m 1
 
 abbrev pub invariant-loop-i : goal.invariant-loop-i
 invariant-loop-i l =
-    (l.i ≤ length l.marks) × (all isMark l.marks ≡ all isMark (drop l.i l.marks))
+    (l.i ≤ length l.marks) × (all is_mark l.marks ≡ all is_mark (drop l.i l.marks))
 
 abbrev pub decreases-loop-i : goal.decreases-loop-i
 decreases-loop-i l =

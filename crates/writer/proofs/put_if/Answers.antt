@@ -1,7 +1,6 @@
 -- `put_if`: the two cases of a mark.
 use mathlib.Core.Path.{refl, sym}
 use native.Mathlib.Nat.{add-zero}
-use borrow.Author.Rules.{rules}
 use Rattle.writer.proofs.Writing.{marked-bytes, other-bytes}
 use Rattle.writer.proofs.put_if.Goals as goal
 

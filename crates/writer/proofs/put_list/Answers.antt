@@ -1,6 +1,5 @@
 -- `put_list`: after each call, the sections that follow are left to store.
 use native.Mathlib.Omega.{arith}
-use borrow.Author.Rules.{rules}
 use Rattle.words.proofs.LayingLaws.{left-last}
 use Rattle.writer.proofs.Whole.{AfterNumber, AfterPairs, AfterPrints}
 use Rattle.writer.proofs.Whole.{number-room, number-stored, pairs-room, pairs-stored, prints-room, prints-stored}

@@ -1,12 +1,10 @@
-use Prim.Native.Nat.{◌+◌, ◌*◌, ◌≤◌, ◌-◌}
-use mathlib.Core.Path.{◌≡◌, sym, ap, ◌∙◌}
-use lib.ListN.{length, drop}
+use Prim.Native.Nat.{◌+◌, ◌≤◌}
+use mathlib.Core.Path.{sym, ap, ◌∙◌}
+use lib.ListN.{length}
 use lib.Seq.{length-sets}
 use native.Mathlib.Nat.{zero-mul}
 use native.Mathlib.Omega.{arith}
-use borrow.Author.Rules.{rules}
-use Rattle.words.proofs.LayingLaws.{Left, left-all}
-use Rattle.writer.specs.Elements.{marked_elements}
+use Rattle.words.proofs.LayingLaws.{left-all}
 use Rattle.writer.proofs.Writing.{element-room, element-next, part_room, part-stored, all-stored}
 use Rattle.writer.proofs.put_marked.Goals as goal
 
@@ -16,7 +14,7 @@ loop-i-init c = (omega arith, sym (zero-mul _), left-all c.requires.marks_in_bou
 pub overflow_add-to : goal.overflow_add-to
 overflow_add-to c =
     let end : (let a = c.args in c.loop-i.from + a.size ≤ length a.elements.now) =
-        let a = c.args in
+    let a = c.args in
     let l = c.loop-i in
     element-room a.size a.elements.now a.marks.now l.from l.i c.requires.elements_len c.loop-i-test.true
     l.invariant.1
@@ -26,7 +24,7 @@ overflow_add-to c =
 pub slice_bounds-put_if-start : goal.slice_bounds-put_if-start
 slice_bounds-put_if-start c =
     let end : (let a = c.args in c.loop-i.from + a.size ≤ length a.elements.now) =
-        let a = c.args in
+    let a = c.args in
     let l = c.loop-i in
     element-room a.size a.elements.now a.marks.now l.from l.i c.requires.elements_len c.loop-i-test.true
     l.invariant.1
@@ -36,7 +34,7 @@ slice_bounds-put_if-start c =
 pub slice_bounds-put_if-end : goal.slice_bounds-put_if-end
 slice_bounds-put_if-end c =
     let end : (let a = c.args in c.loop-i.from + a.size ≤ length a.elements.now) =
-        let a = c.args in
+    let a = c.args in
     let l = c.loop-i in
     element-room a.size a.elements.now a.marks.now l.from l.i c.requires.elements_len c.loop-i-test.true
     l.invariant.1

@@ -1,14 +1,9 @@
 -- `put_marked`: the elements that are written and those that are left make the section whole.
-use Prim.Native.Nat.{◌+◌, ◌*◌, ◌≤◌, ◌-◌}
-use mathlib.Core.Path.{◌≡◌, sym, ap, ◌∙◌}
+use Prim.Native.Nat.{◌*◌, ◌≤◌, ◌-◌}
+use mathlib.Core.Path.{◌≡◌}
 use lib.ListN.{length, drop}
-use lib.Seq.{length-sets}
-use native.Mathlib.Nat.{zero-mul}
-use native.Mathlib.Omega.{arith}
-use borrow.Author.Rules.{rules}
-use Rattle.words.proofs.LayingLaws.{Left, left-all}
+use Rattle.words.proofs.LayingLaws.{Left}
 use Rattle.writer.specs.Elements.{marked_elements}
-use Rattle.writer.proofs.Writing.{element-room, element-next, part_room, part-stored, all-stored}
 use Rattle.writer.proofs.put_marked.Given as goal
 
 abbrev pub invariant-loop-i : goal.invariant-loop-i

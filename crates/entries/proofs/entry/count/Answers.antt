@@ -1,7 +1,6 @@
 -- `entries::entry::count`: the number at its offset, by `count_at`.
 use mathlib.Core.Path.{◌∙◌}
 use Rattle.book.proofs.Read.{count_at}
-use borrow.Author.Rules.{rules}
 use Rattle.entries.proofs.entry.count.Goals as goal
 
 pub returns : goal.returns

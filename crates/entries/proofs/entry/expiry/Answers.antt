@@ -1,7 +1,6 @@
 -- `entries::entry::expiry`: the number at its offset, by `expiry-at`.
 use mathlib.Core.Path.{◌∙◌}
 use Rattle.book.proofs.Read.{expiry-at}
-use borrow.Author.Rules.{rules}
 use Rattle.entries.proofs.entry.expiry.Goals as goal
 
 pub returns : goal.returns

@@ -4,7 +4,6 @@ use lib.ListN.{length, length-set}
 use lib.Seq.{length-sets}
 use native.Mathlib.Omega.{arith}
 use Rattle.book.proofs.Write.{is-freed}
-use borrow.Author.Rules.{rules}
 use Rattle.entries.proofs.entry.free.Goals as goal
 
 pub fill-requires : goal.fill-requires

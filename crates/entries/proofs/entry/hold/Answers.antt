@@ -4,7 +4,6 @@ use lib.ListN.{length, length-set}
 use lib.Seq.{length-sets}
 use native.Mathlib.Omega.{arith}
 use Rattle.book.proofs.Write.{is_held}
-use borrow.Author.Rules.{rules}
 use Rattle.entries.proofs.entry.hold.Goals as goal
 
 pub put_bytes-requires : goal.put_bytes-requires

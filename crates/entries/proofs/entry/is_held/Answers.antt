@@ -1,6 +1,5 @@
 -- `entries::entry::is_held`: the byte at its offset, by `held_at`.
 use Rattle.book.proofs.Read.{held_at}
-use borrow.Author.Rules.{rules}
 use Rattle.entries.proofs.entry.is_held.Goals as goal
 
 pub returns : goal.returns

@@ -5,7 +5,6 @@ use lib.ListN.{take, drop}
 use native.Mathlib.Nat.{add-sub_cancel_left}
 use Rattle.words.specs.Blocks.{print_size}
 use Rattle.book.proofs.Read.{print-at}
-use borrow.Author.Rules.{rules}
 use Rattle.entries.proofs.entry.print_of.Goals as goal
 
 pub returns : goal.returns

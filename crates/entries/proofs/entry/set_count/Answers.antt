@@ -2,7 +2,6 @@
 use native.Mathlib.Omega.{arith}
 use Rattle.words.proofs.Filling.{put_as}
 use Rattle.book.proofs.Write.{is-count}
-use borrow.Author.Rules.{rules}
 use Rattle.entries.proofs.entry.set_count.Goals as goal
 
 pub returns : goal.returns

@@ -1,6 +1,5 @@
 -- `entries::entry::set_expiry`: what the store left, by `is-expiry`.
 use Rattle.book.proofs.Write.{is-expiry}
-use borrow.Author.Rules.{rules}
 use Rattle.entries.proofs.entry.set_expiry.Goals as goal
 
 pub returns : goal.returns

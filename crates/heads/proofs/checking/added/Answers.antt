@@ -1,6 +1,5 @@
 -- `heads::checking::added`: both branches.
 use borrow.Author.Tests.{le-leb, lt-leb}
-use borrow.Author.Rules.{rules}
 use Rattle.calls.specs.Bound.{added_to}
 use Rattle.heads.proofs.checking.added.Goals as goal
 

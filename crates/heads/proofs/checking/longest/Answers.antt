@@ -1,7 +1,6 @@
 -- `heads::checking::longest`: a case for each length.
 use native.Mathlib.Omega.{arith}
 use borrow.Author.Tests.{eq-eqb, ne_eqb}
-use borrow.Author.Rules.{rules}
 use Rattle.calls.specs.Answers.{longest_of}
 use Rattle.heads.proofs.checking.longest.Goals as goal
 

@@ -2,7 +2,6 @@
 use mathlib.Core.Path.{ap, sym}
 use mathlib.Core.Bool.{not}
 use native.Mathlib.Omega.{arith}
-use borrow.Author.Rules.{rules}
 use Rattle.words.proofs.ChoiceLaws.{failed, passed}
 use Rattle.calls.proofs.ReadingLaws.{call-short, call-second, call_unused, call_ends}
 use Rattle.heads.proofs.head.is_call.Goals as goal

@@ -1,6 +1,5 @@
 -- `heads::head::unused_zero_at`: the test on what the head has.
 use mathlib.Core.Path.{◌∙◌}
-use borrow.Author.Rules.{rules}
 use Rattle.calls.specs.Coding.{unused_zero_at}
 use Rattle.heads.proofs.head.unused_zero_at.Goals as goal
 

@@ -4,7 +4,6 @@ use mathlib.Core.Path.{◌∙◌, ap}
 use native.Mathlib.Omega.{arith}
 use Rattle.book.specs.Layout.{rec_offset, book_of}
 use Rattle.book.proofs.Write.{is-record}
-use borrow.Author.Rules.{rules}
 use Rattle.journal.proofs.record.append_record.Goals as goal
 
 pub returns : goal.returns

@@ -2,7 +2,6 @@
 use mathlib.Core.Path.{◌∙◌, ap}
 use Rattle.book.specs.Book.{Rec}
 use Rattle.book.proofs.Read.{rec-at}
-use borrow.Author.Rules.{rules}
 use Rattle.journal.proofs.record.record_at.Goals as goal
 
 pub returns : goal.returns

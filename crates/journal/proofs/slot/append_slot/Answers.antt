@@ -4,7 +4,6 @@ use mathlib.Core.Path.{◌∙◌, ap}
 use native.Mathlib.Omega.{arith}
 use Rattle.book.specs.Layout.{slot_offset, book_of}
 use Rattle.book.proofs.Write.{is-slot}
-use borrow.Author.Rules.{rules}
 use Rattle.journal.proofs.slot.append_slot.Goals as goal
 
 pub returns : goal.returns

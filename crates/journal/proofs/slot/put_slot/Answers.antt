@@ -6,7 +6,6 @@ use lib.ListN.{length, length-set}
 use lib.Seq.{length-sets}
 use native.Mathlib.Numerals.{towards_suc}
 use native.Mathlib.Omega.{arith}
-use borrow.Author.Rules.{rules}
 use Rattle.book.specs.Layout.{state_byte}
 use Rattle.journal.proofs.slot.put_slot.Goals as goal
 

@@ -2,7 +2,6 @@
 use mathlib.Core.Path.{◌∙◌, ap}
 use Rattle.book.specs.Book.{Slot}
 use Rattle.book.proofs.Read.{slot-at}
-use borrow.Author.Rules.{rules}
 use Rattle.journal.proofs.slot.slot_at.Goals as goal
 
 pub returns : goal.returns

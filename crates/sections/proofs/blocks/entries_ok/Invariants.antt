@@ -1,18 +1,11 @@
 -- `sections::blocks::entries_ok` meets its contract: what is left to test decides as the whole does.
-use Prim.Native.Nat.{ℕ, ◌≤◌, ◌-◌}
-use mathlib.Core.Path.{◌≡◌, refl, sym, ◌∙◌}
+use Prim.Native.Nat.{◌≤◌, ◌-◌}
+use mathlib.Core.Path.{◌≡◌}
 use mathlib.Core.Bool.{◌&&◌}
-use mathlib.Core.List.{List}
-use native.Mathlib.Omega.{arith}
-use borrow.Author.Rules.{rules}
-use Rattle.words.proofs.ChoiceLaws.{failed, passed}
 use Rattle.words.specs.Lists.{each}
-use Rattle.words.proofs.Each.{each_none, each_more, each-stop}
-use Rattle.book.specs.Layout.{current, entry_offset, current_offset, entry_in}
+use Rattle.book.specs.Layout.{current, entry_offset, entry_in}
 use Rattle.book.specs.Form.{state_ok, entry_ok}
-use Rattle.book.proofs.Widths.{offset-now}
 use Rattle.sections.specs.Checks.{entries_ok}
-use Rattle.sections.proofs.CheckLaws.{entry_tests}
 use Rattle.sections.proofs.blocks.entries_ok.Given as goal
 
 abbrev pub invariant-loop-p : goal.invariant-loop-p

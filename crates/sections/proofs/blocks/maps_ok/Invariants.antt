@@ -1,9 +1,6 @@
 -- `sections::blocks::maps_ok` meets its contract: `good` is the test of the cells passed.
 use Prim.Native.Nat.{◌≤◌, ◌-◌}
-use mathlib.Core.Path.{◌≡◌, sym, ap, ◌∙◌}
-use native.Mathlib.Omega.{arith}
-use Rattle.words.proofs.Each.{each_none, each-grow}
-use Rattle.book.specs.Form.{pbn_ok}
+use mathlib.Core.Path.{◌≡◌}
 use Rattle.sections.specs.Checks.{maps_ok}
 use Rattle.sections.proofs.blocks.maps_ok.Given as goal
 

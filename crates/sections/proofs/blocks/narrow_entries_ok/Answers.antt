@@ -1,11 +1,9 @@
-use Prim.Native.Nat.{ℕ, ◌+◌, ◌*◌, ◌≤◌, ◌-◌}
+use Prim.Native.Nat.{ℕ, ◌+◌, ◌*◌}
 use mathlib.Core.Path.{ap, ◌≡◌, refl, sym, ◌∙◌}
 use mathlib.Core.Bool.{not, ◌&&◌}
 use mathlib.Core.List.{List}
 use native.Mathlib.Omega.{arith}
-use borrow.Author.Rules.{rules}
 use Rattle.words.proofs.ChoiceLaws.{failed, passed}
-use Rattle.words.specs.Lists.{each}
 use Rattle.words.proofs.Each.{each_none, each_more, each-stop}
 use Rattle.book.specs.Layout.{entries_from, entry_offset, entry_in}
 use Rattle.book.specs.Form.{state_ok, entry_ok}
@@ -23,7 +21,7 @@ returns-then-not-rest_ok c =
     let book : List ℕ = c.args.b.now in
     let tested : c.rest_ok.result ≡ (state_ok 1 book c.loop-p.p
     && entry_ok (entry_in 1 book (entry_offset 1 c.loop-p.p))) =
-        let p = c.loop-p.p in
+    let p = c.loop-p.p in
     entry_tests 1 book p (entries_from + p * 20) (narrow-offset p) c.rest_ok.ensures c.wide.ensures.0 (omega arith)
     in
     let l = c.loop-p in
@@ -34,7 +32,7 @@ loop-p-preserved c =
     let book : List ℕ = c.args.b.now in
     let tested : c.rest_ok.result ≡ (state_ok 1 book c.loop-p.p
     && entry_ok (entry_in 1 book (entry_offset 1 c.loop-p.p))) =
-        let p = c.loop-p.p in
+    let p = c.loop-p.p in
     entry_tests 1 book p (entries_from + p * 20) (narrow-offset p) c.rest_ok.ensures c.wide.ensures.0 (omega arith)
     in
     let l = c.loop-p in

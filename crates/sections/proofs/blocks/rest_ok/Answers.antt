@@ -1,7 +1,6 @@
 -- `sections::blocks::rest_ok` meets its contract: each way out is one of the ways that an entry goes.
 use mathlib.Core.Path.{◌∙◌}
 use native.Mathlib.Omega.{arith}
-use borrow.Author.Rules.{rules}
 use Rattle.sections.proofs.CheckLaws.{bad_state, late-expiry, held-entry, counted-free, free-entry}
 use Rattle.sections.proofs.blocks.rest_ok.Goals as goal
 

@@ -1,11 +1,8 @@
-use Prim.Native.Nat.{ℕ, ◌≤◌, ◌-◌}
+use Prim.Native.Nat.{ℕ}
 use mathlib.Core.Path.{◌≡◌, sym, ap}
 use native.Mathlib.Omega.{arith}
 use lib.Dec.{leb}
-use Rattle.words.specs.Lists.{each}
 use Rattle.words.proofs.Each.{each_none, each-grow}
-use Rattle.words.specs.Numbers.{num}
-use Rattle.book.specs.Layout.{retention_offset}
 use Rattle.book.specs.Form.{retention_ok}
 use Rattle.sections.specs.Checks.{retentions_ok}
 use Rattle.sections.proofs.blocks.retentions_ok.Goals as goal

@@ -1,8 +1,6 @@
-use Prim.Native.Nat.{◌≤◌, ◌-◌}
 use mathlib.Core.Path.{◌≡◌, refl, sym}
 use native.Mathlib.Omega.{arith}
 use Rattle.words.proofs.Each.{each_none, each-grow}
-use Rattle.sections.specs.Checks.{zeros_in}
 use Rattle.sections.proofs.zeros.zeros.Goals as goal
 
 pub loop-i-init : goal.loop-i-init

@@ -1,8 +1,6 @@
 -- `sections::zeros::zeros` meets its contract: `clear` is the test of the bytes passed.
 use Prim.Native.Nat.{◌≤◌, ◌-◌}
-use mathlib.Core.Path.{◌≡◌, refl, sym}
-use native.Mathlib.Omega.{arith}
-use Rattle.words.proofs.Each.{each_none, each-grow}
+use mathlib.Core.Path.{◌≡◌}
 use Rattle.sections.specs.Checks.{zeros_in}
 use Rattle.sections.proofs.zeros.zeros.Given as goal
 

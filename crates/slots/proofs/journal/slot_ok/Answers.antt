@@ -1,7 +1,6 @@
 -- `slots::journal::slot_ok` meets its contract: a volume above 7 fails, any other goes by `slot_tests`.
 use mathlib.Core.Path.{sym}
 use native.Mathlib.Omega.{arith}
-use borrow.Author.Rules.{rules}
 use Rattle.slots.proofs.SlotLaws.{slot-above, slot_tests}
 use Rattle.slots.proofs.journal.slot_ok.Goals as goal
 

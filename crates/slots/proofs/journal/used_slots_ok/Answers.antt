@@ -1,4 +1,4 @@
-use Prim.Native.Nat.{ℕ, ◌+◌, ◌-◌, ◌*◌, ◌≤◌, ◌<◌}
+use Prim.Native.Nat.{ℕ, ◌+◌, ◌*◌, ◌≤◌, ◌<◌}
 use mathlib.Core.Path.{◌≡◌, refl, sym, ap, ◌∙◌}
 use mathlib.Core.Bool.{not, Bool, true, false}
 use native.Mathlib.Omega.{arith}
@@ -7,8 +7,7 @@ use lib.ListN.{get_or}
 use Rattle.words.proofs.ChoiceLaws.{failed, passed}
 use Rattle.words.specs.Numbers.{num}
 use Rattle.book.specs.Layout.{day_offset}
-use Rattle.slots.specs.Days.{no_lasts, none_gone}
-use Rattle.slots.specs.Slots.{slot_here, slots_left}
+use Rattle.slots.specs.Slots.{slot_here}
 use Rattle.slots.proofs.SlotLaws.{slots-more, slots-stop, slots_end, slot-bounds}
 use Rattle.slots.proofs.journal.used_slots_ok.Goals as goal
 
@@ -23,7 +22,7 @@ slot_ok-requires c =
 pub returns-then-not-slot_ok : goal.returns-then-not-slot_ok
 returns-then-not-slot_ok c =
     let tested : Bool =
-        let a = c.args in
+    let a = c.args in
     slot_here a.b.now (a.from + c.loop-q.q * 8) c.loop-q.lasts c.loop-q.gone c.loop-q.prev c.loop-q.next
     in
     let there : tested ≡ false = failed c.slot_ok.ensures (ap not c.if-not-slot_ok.true) in
@@ -35,7 +34,7 @@ returns-then-not-slot_ok c =
 pub overflow_add-lasts : goal.overflow_add-lasts
 overflow_add-lasts c =
     let tested : Bool =
-        let a = c.args in
+    let a = c.args in
     slot_here a.b.now (a.from + c.loop-q.q * 8) c.loop-q.lasts c.loop-q.gone c.loop-q.prev c.loop-q.next
     in
     let here : tested ≡ true = passed c.slot_ok.ensures (ap not c.if-not-slot_ok.false) in
@@ -47,7 +46,7 @@ overflow_add-lasts c =
 pub bounds-lasts-v : goal.bounds-lasts-v
 bounds-lasts-v c =
     let tested : Bool =
-        let a = c.args in
+    let a = c.args in
     slot_here a.b.now (a.from + c.loop-q.q * 8) c.loop-q.lasts c.loop-q.gone c.loop-q.prev c.loop-q.next
     in
     let here : tested ≡ true = passed c.slot_ok.ensures (ap not c.if-not-slot_ok.false) in
@@ -59,7 +58,7 @@ bounds-lasts-v c =
 pub bounds-gone-v : goal.bounds-gone-v
 bounds-gone-v c =
     let tested : Bool =
-        let a = c.args in
+    let a = c.args in
     slot_here a.b.now (a.from + c.loop-q.q * 8) c.loop-q.lasts c.loop-q.gone c.loop-q.prev c.loop-q.next
     in
     let here : tested ≡ true = passed c.slot_ok.ensures (ap not c.if-not-slot_ok.false) in
@@ -71,7 +70,7 @@ bounds-gone-v c =
 pub loop-q-preserved : goal.loop-q-preserved
 loop-q-preserved c =
     let tested : Bool =
-        let a = c.args in
+    let a = c.args in
     slot_here a.b.now (a.from + c.loop-q.q * 8) c.loop-q.lasts c.loop-q.gone c.loop-q.prev c.loop-q.next
     in
     let here : tested ≡ true = passed c.slot_ok.ensures (ap not c.if-not-slot_ok.false) in

@@ -1,16 +1,8 @@
 -- `slots::journal::used_slots_ok` meets its contract: what is left of the pass decides as the whole does.
-use Prim.Native.Nat.{ℕ, ◌+◌, ◌-◌, ◌*◌, ◌≤◌, ◌<◌}
-use mathlib.Core.Path.{◌≡◌, refl, sym, ap, ◌∙◌}
-use mathlib.Core.Bool.{Bool, true, false}
-use native.Mathlib.Omega.{arith}
-use lib.Dec.{eqb}
-use lib.ListN.{get_or}
-use Rattle.words.proofs.ChoiceLaws.{failed, passed}
-use Rattle.words.specs.Numbers.{num}
-use Rattle.book.specs.Layout.{day_offset}
+use Prim.Native.Nat.{◌-◌, ◌*◌, ◌≤◌}
+use mathlib.Core.Path.{◌≡◌}
 use Rattle.slots.specs.Days.{no_lasts, none_gone}
-use Rattle.slots.specs.Slots.{slot_here, slots_left}
-use Rattle.slots.proofs.SlotLaws.{slots-more, slots-stop, slots_end, slot-bounds}
+use Rattle.slots.specs.Slots.{slots_left}
 use Rattle.slots.proofs.journal.used_slots_ok.Given as goal
 
 abbrev pub invariant-loop-q : goal.invariant-loop-q

@@ -1,6 +1,5 @@
 -- `slots::records::rec_ok` meets its contract: the code computes the definition, on the numbers read.
 use native.Mathlib.Omega.{arith}
-use borrow.Author.Rules.{rules}
 use Rattle.slots.proofs.RecordLaws.{rec_tests}
 use Rattle.slots.proofs.records.rec_ok.Goals as goal
 

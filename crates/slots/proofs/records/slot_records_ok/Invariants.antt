@@ -1,8 +1,6 @@
 -- `slots::records::slot_records_ok` meets its contract: `good` is the test of the records passed.
 use Prim.Native.Nat.{◌≤◌, ◌-◌}
-use mathlib.Core.Path.{◌≡◌, sym}
-use native.Mathlib.Omega.{arith}
-use Rattle.words.proofs.Each.{each_none, each-grow}
+use mathlib.Core.Path.{◌≡◌}
 use Rattle.slots.specs.Records.{records_at}
 use Rattle.slots.proofs.records.slot_records_ok.Given as goal
 

@@ -1,13 +1,9 @@
-use Prim.Native.Nat.{ℕ, ◌+◌, ◌*◌, ◌-◌, ◌≤◌}
+use Prim.Native.Nat.{ℕ, ◌+◌, ◌*◌, ◌≤◌}
 use mathlib.Core.Path.{◌≡◌, refl, sym, ap, ◌∙◌}
-use mathlib.Core.Bool.{true, ◌&&◌}
 use native.Mathlib.Omega.{arith}
-use lib.ListN.{drop}
 use Rattle.words.proofs.ChoiceLaws.{and_yes}
 use Rattle.words.specs.Numbers.{num}
-use Rattle.book.specs.Layout.{u_offset, slot_offset, sizes_of, book_of}
-use Rattle.book.specs.Form.{pairs_ok}
-use Rattle.slots.specs.Records.{records_left}
+use Rattle.book.specs.Layout.{u_offset, slot_offset, sizes_of}
 use Rattle.slots.proofs.RecordLaws.{records-end, pairs_next, records-more, records-none}
 use Rattle.slots.proofs.records.used_records_ok.Goals as goal
 
@@ -19,7 +15,7 @@ overflow_mul-next c =
     let offset : (let a = c.args in
     a.slots + c.loop-q.q * 8 ≡ slot_offset (sizes_of a.b.now) c.loop-q.q) = ap (λ (f : ℕ). f + c.loop-q.q * 8) c.requires.start in
     let bound : c.loop-q.next + c.u16_at-number.result ≤ num c.args.b.now u_offset =
-        let l = c.loop-q in
+    let l = c.loop-q in
     records-end c.args.b.now l.q l.next (omega arith) l.invariant.1 offset c.u16_at-number.ensures
     in
     record { fits = omega (arith, bound) }
@@ -29,7 +25,7 @@ overflow_add-from c =
     let offset : (let a = c.args in
     a.slots + c.loop-q.q * 8 ≡ slot_offset (sizes_of a.b.now) c.loop-q.q) = ap (λ (f : ℕ). f + c.loop-q.q * 8) c.requires.start in
     let bound : c.loop-q.next + c.u16_at-number.result ≤ num c.args.b.now u_offset =
-        let l = c.loop-q in
+    let l = c.loop-q in
     records-end c.args.b.now l.q l.next (omega arith) l.invariant.1 offset c.u16_at-number.ensures
     in
     record { fits = omega (arith, bound) }
@@ -39,7 +35,7 @@ slot_records_ok-good-requires c =
     let offset : (let a = c.args in
     a.slots + c.loop-q.q * 8 ≡ slot_offset (sizes_of a.b.now) c.loop-q.q) = ap (λ (f : ℕ). f + c.loop-q.q * 8) c.requires.start in
     let bound : c.loop-q.next + c.u16_at-number.result ≤ num c.args.b.now u_offset =
-        let l = c.loop-q in
+    let l = c.loop-q in
     records-end c.args.b.now l.q l.next (omega arith) l.invariant.1 offset c.u16_at-number.ensures
     in
     let p = c.requires in
@@ -50,7 +46,7 @@ overflow_add-next c =
     let offset : (let a = c.args in
     a.slots + c.loop-q.q * 8 ≡ slot_offset (sizes_of a.b.now) c.loop-q.q) = ap (λ (f : ℕ). f + c.loop-q.q * 8) c.requires.start in
     let bound : c.loop-q.next + c.u16_at-number.result ≤ num c.args.b.now u_offset =
-        let l = c.loop-q in
+    let l = c.loop-q in
     records-end c.args.b.now l.q l.next (omega arith) l.invariant.1 offset c.u16_at-number.ensures
     in
     record { fits = omega (arith, bound) }

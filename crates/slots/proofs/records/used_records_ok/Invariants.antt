@@ -1,15 +1,12 @@
 -- `slots::records::used_records_ok` meets its contract: what is gathered and what is left decide as the whole does.
-use Prim.Native.Nat.{ℕ, ◌+◌, ◌*◌, ◌-◌, ◌≤◌}
-use mathlib.Core.Path.{◌≡◌, refl, sym, ap, ◌∙◌}
+use Prim.Native.Nat.{◌-◌, ◌≤◌}
+use mathlib.Core.Path.{◌≡◌}
 use mathlib.Core.Bool.{true, ◌&&◌}
-use native.Mathlib.Omega.{arith}
 use lib.ListN.{drop}
-use Rattle.words.proofs.ChoiceLaws.{and_yes}
 use Rattle.words.specs.Numbers.{num}
-use Rattle.book.specs.Layout.{u_offset, slot_offset, sizes_of, book_of}
+use Rattle.book.specs.Layout.{u_offset, book_of}
 use Rattle.book.specs.Form.{pairs_ok}
 use Rattle.slots.specs.Records.{records_left}
-use Rattle.slots.proofs.RecordLaws.{records-end, pairs_next, records-more, records-none}
 use Rattle.slots.proofs.records.used_records_ok.Given as goal
 
 abbrev pub invariant-loop-q : goal.invariant-loop-q

@@ -1,0 +1,31 @@
+use Prim.Native.Nat.{◌<◌}
+use native.Mathlib.Omega.{arith}
+use lib.ListN.{length}
+use Rattle.book.specs.Layout.{told}
+use Rattle.figures.proofs.Passed.{passed_none, passed-own, passed-other, passed-all}
+use Rattle.figures.proofs.volume.count_backups.Goals as goal
+use Rattle.figures.proofs.volume.count_backups.Goals.{then-slot-v, else-slot-v}
+
+pub used_slots-used-requires : goal.used_slots-used-requires
+used_slots-used-requires c = c.requires
+
+pub loop-q-init : goal.loop-q-init
+loop-q-init c = (omega arith, passed_none _ _)
+
+pub slot_at-slot-requires : goal.slot_at-slot-requires
+slot_at-slot-requires c =
+    record { holds = c.requires; q_in_bounds = omega arith }
+
+pub loop-q-preserved : goal.loop-q-preserved
+loop-q-preserved c =
+    let l = c.loop-q in
+    let h : l.q < length (told c.args.book).slots = omega arith in
+    let t = c.slot_at-slot.result in
+    let s = c.slot_at-slot.ensures in
+    elim c.if-slot-v.branch [
+      | then-slot-v w ↦ (omega arith, rw w.count-is (passed-own _ _ l.q t s h l.count l.invariant.1 w.if-slot-v.true))
+      | else-slot-v w ↦ (omega arith, rw w.count-is (passed-other _ _ l.q t s h l.count l.invariant.1 w.if-slot-v.false))
+    ]
+
+pub returns : goal.returns
+returns c = let l = c.loop-q in passed-all _ _ l.q l.count l.invariant.1 (omega arith)

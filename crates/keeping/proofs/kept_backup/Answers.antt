@@ -1,0 +1,45 @@
+-- `keeping::kept_backup` meets its contract: each way out gives its number, the last one the slots after it.
+use mathlib.Core.Bool.{not}
+use mathlib.Core.Path.{ap}
+use native.Mathlib.Omega.{arith}
+use Rattle.words.proofs.ChoiceLaws.{failed, passed}
+use Rattle.book.specs.FormFacts.{FormFacts}
+use Rattle.keeping.proofs.KeptLaws.{backup-above, backup_unenrolled, backup-zero, backup-missing}
+use Rattle.keeping.proofs.KeptLaws.{backup-retired, backup_lapsed, backup-kept}
+use Rattle.keeping.proofs.kept_backup.Goals as goal
+
+pub returns-then-v-gt-LAST_VOLUME : goal.returns-then-v-gt-LAST_VOLUME
+returns-then-v-gt-LAST_VOLUME c = backup-above _ _ _ (omega arith)
+
+pub returns-then-days-eq0 : goal.returns-then-days-eq0
+returns-then-days-eq0 c = backup_unenrolled _ _ _ (omega arith)
+
+pub returns-then-k-eq0 : goal.returns-then-k-eq0
+returns-then-k-eq0 c =
+    backup-zero _ _ _ c.retention-days.result c.retention-days.ensures (omega arith) (λ e. omega arith) (omega arith)
+
+pub returns-then-after-ne0 : goal.returns-then-after-ne0
+returns-then-after-ne0 c =
+    backup-missing _ _ _ c.retention-days.result c.retention-days.ensures (omega arith) (λ e. omega arith)
+    c.backups_after-after.result c.backups_after-after.ensures (λ e. omega arith) (λ e. omega arith)
+
+pub returns-then-after : goal.returns-then-after
+returns-then-after c =
+    let formed : FormFacts c.args.book.now = c.requires in
+    backup-retired _ _ _ c.retention-days.result c.retention-days.ensures (omega arith) (λ e. omega arith)
+    c.backups_after-after.result c.backups_after-after.ensures (λ e. omega arith) (omega arith) formed.parts.days
+    c.if-after.true
+
+pub returns-then-not-is_kept : goal.returns-then-not-is_kept
+returns-then-not-is_kept c =
+    let formed : FormFacts c.args.book.now = c.requires in
+    backup_lapsed _ _ _ c.retention-days.result c.retention-days.ensures (omega arith) (λ e. omega arith)
+    c.backups_after-after.result c.backups_after-after.ensures (λ e. omega arith) (omega arith) formed.parts.days
+    c.if-after.false (failed c.is_kept.ensures (ap not c.if-not-is_kept.true))
+
+pub returns : goal.returns
+returns c =
+    let formed : FormFacts c.args.book.now = c.requires in
+    backup-kept _ _ _ c.retention-days.result c.retention-days.ensures (omega arith) (λ e. omega arith)
+    c.backups_after-after.result c.backups_after-after.ensures (λ e. omega arith) (omega arith) formed.parts.days
+    c.if-after.false (passed c.is_kept.ensures (ap not c.if-not-is_kept.false))
