@@ -9,10 +9,8 @@ fn byte_at(tag: u8, slope: u8, offset: usize) -> u8 {
 }
 
 pub fn paint(bytes: &mut [u8], tag: u8, slope: u8) {
-    let mut i = 0;
-    while i < bytes.len() {
+    for i in 0..bytes.len() {
         bytes[i] = byte_at(tag, slope, i);
-        i += 1;
     }
 }
 

@@ -26,25 +26,21 @@ fn mark_of(tags: &[u8], lbn: usize) -> u8 {
 }
 
 fn mark(marks: &mut [u8], tags: &[u8]) {
-    let mut i = 0;
-    while i < marks.len() {
+    for i in 0..marks.len() {
         marks[i] = mark_of(tags, i);
-        i += 1;
     }
 }
 
 // The elements of `size` bytes, one for each tag, as far as there is room.
 fn paint_each(bytes: &mut [u8], size: usize, tags: &[u8], slope: u8) {
     let mut from = 0;
-    let mut i = 0;
-    while i < tags.len() {
+    for tag in tags {
         if bytes.len() - from < size {
             return;
         }
         let to = from + size;
-        paint(&mut bytes[from..to], tags[i], slope);
+        paint(&mut bytes[from..to], *tag, slope);
         from = to;
-        i += 1;
     }
 }
 
