@@ -151,7 +151,7 @@ module _ (v until lbn p : ℕ) (x : Book) (pool : List ℕ) (t : Tally) where
 pub name-lowered : (v lbn p : ℕ) (es : List Entry) (x : Book)
     → name_block v lbn p (with_entries es x).entries (with_entries es x) ≡ name_block v lbn p es x
 unfolding name_block with_entries
-name-lowered v lbn p es x = refl
+name-lowered v lbn p _ x = refl
 
 -- a cell of maps in form names a block or nothing
 pub cell-ok : (ms : List (List ℕ)) (n v l : ℕ) → all (all (pbn_ok n)) ms ≡ true → (cell_at ms v l < n) ⊎ (cell_at ms v l ≡ unmapped)
