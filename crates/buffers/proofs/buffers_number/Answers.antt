@@ -17,7 +17,7 @@ returns-then-number-ne0 c =
 pub blocks-requires : goal.blocks-requires
 blocks-requires c =
     let in_form : form_number c.args.book.now ≡ 0 = sym c.form_number-number.ensures ∙ c.if-number-ne0.false in
-    holds-form _ (λ i. (c.shared_slice_known-1.given i).fits) in_form
+    holds-form _ (λ i. (c.type_inv.book i).fits) in_form
 
 pub returns-then-pool-blocks : goal.returns-then-pool-blocks
 returns-then-pool-blocks c =

@@ -32,7 +32,7 @@ pub rewrite-requires : goal.rewrite-requires
 unfolding book_of
 rewrite-requires c =
     let in_form : form_as 1 c.args.book.now ≡ 0 = sym c.form_as-refusal.ensures ∙ c.if-refusal-ne0.false in
-    let facts : FormFactsAs 1 c.args.book.now = facts_as 1 _ (λ i. (c.shared_slice_known-1.given i).fits) in_form in
+    let facts : FormFactsAs 1 c.args.book.now = facts_as 1 _ (λ i. (c.type_inv.book i).fits) in_form in
     let room : (book_size (sizes_in 2 (sizes_of c.args.book.now)) ≤ length c.args.out.now) = omega (arith, c.size_in.ensures) in
     record { form_facts_as = facts; book_value = (λ e. absurd (omega arith)); book_in_bounds = room }
 

@@ -42,14 +42,14 @@ returns-then-not-all_narrow c =
 pub all_narrow-requires : goal.all_narrow-requires
 all_narrow-requires c =
     let in_form : form_as 2 c.args.book.now ≡ 0 = sym c.form_as-refusal.ensures ∙ c.if-refusal-ne0.false in
-    let facts : FormFactsAs 2 c.args.book.now = facts_as 2 _ (λ i. (c.shared_slice_known-1.given i).fits) in_form in
+    let facts : FormFactsAs 2 c.args.book.now = facts_as 2 _ (λ i. (c.type_inv.book i).fits) in_form in
     facts.holds
 
 pub rewrite-requires : goal.rewrite-requires
 unfolding book_of
 rewrite-requires c =
     let in_form : form_as 2 c.args.book.now ≡ 0 = sym c.form_as-refusal.ensures ∙ c.if-refusal-ne0.false in
-    let facts : FormFactsAs 2 c.args.book.now = facts_as 2 _ (λ i. (c.shared_slice_known-1.given i).fits) in_form in
+    let facts : FormFactsAs 2 c.args.book.now = facts_as 2 _ (λ i. (c.type_inv.book i).fits) in_form in
     let room : (book_size (sizes_in 1 (sizes_of c.args.book.now)) ≤ length c.args.out.now) = omega (arith, c.size_in.ensures) in
     let narrow : all is_narrow (book_of c.args.book.now).entries ≡ true = passed c.all_narrow.ensures (ap not c.if-not-all_narrow.false) in
     record { form_facts_as = facts; book_value = (λ e. narrow); book_in_bounds = room }

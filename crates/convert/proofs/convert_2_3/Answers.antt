@@ -34,7 +34,7 @@ pub rewrite-requires : goal.rewrite-requires
 unfolding book_of
 rewrite-requires c =
     let in_form : form_as 2 c.args.book.now ≡ 0 = sym c.form_as-in_form.ensures ∙ c.if-in_form-ne0.false in
-    let facts : FormFactsAs 2 c.args.book.now = facts_as 2 _ (λ i. (c.shared_slice_known-1.given i).fits) in_form in
+    let facts : FormFactsAs 2 c.args.book.now = facts_as 2 _ (λ i. (c.type_inv.book i).fits) in_form in
     let room : c.size_in-len.result ≤ length c.args.out.now = omega arith in
     record { form_facts_as = facts; book_value = (λ e. absurd (omega arith)); book_in_bounds = omega (arith, room, c.size_in-len.ensures) }
 
@@ -46,7 +46,7 @@ slice_bounds-refresh-end-2 c =
 pub refresh-requires : goal.refresh-requires
 refresh-requires c =
     let in_form : form_as 2 c.args.book.now ≡ 0 = sym c.form_as-in_form.ensures ∙ c.if-in_form-ne0.false in
-    let facts : FormFactsAs 2 c.args.book.now = facts_as 2 _ (λ i. (c.shared_slice_known-1.given i).fits) in_form in
+    let facts : FormFactsAs 2 c.args.book.now = facts_as 2 _ (λ i. (c.type_inv.book i).fits) in_form in
     let room : c.size_in-len.result ≤ length c.args.out.now = omega arith in
     let f = facts in
     let el = c.size_in-len.ensures in
@@ -56,7 +56,7 @@ pub returns : goal.returns
 unfolding refreshed to_three with_entries
 returns c =
     let in_form : form_as 2 c.args.book.now ≡ 0 = sym c.form_as-in_form.ensures ∙ c.if-in_form-ne0.false in
-    let facts : FormFactsAs 2 c.args.book.now = facts_as 2 _ (λ i. (c.shared_slice_known-1.given i).fits) in_form in
+    let facts : FormFactsAs 2 c.args.book.now = facts_as 2 _ (λ i. (c.type_inv.book i).fits) in_form in
     let room : c.size_in-len.result ≤ length c.args.out.now = omega arith in
     let el = c.size_in-len.ensures in
     done 2 3 (λ x. 0) refreshed _ _ in_form (omega (arith, room, el)) refl refl

@@ -28,7 +28,7 @@ returns-then-number-ne0 c =
 pub blocks-n-requires : goal.blocks-n-requires
 blocks-n-requires c =
     let holds : Holds c.args.input.now =
-    let bytes = c.shared_slice_known-1.given in
+    let bytes = c.type_inv.input in
     accepted-holds _ (λ i. (bytes i).fits) (sym c.refusal-number.ensures ∙ c.if-number-ne0.false)
     in
     holds
@@ -36,7 +36,7 @@ blocks-n-requires c =
 pub count_entries-requires : goal.count_entries-requires
 count_entries-requires c =
     let holds : Holds c.args.input.now =
-    let bytes = c.shared_slice_known-1.given in
+    let bytes = c.type_inv.input in
     accepted-holds _ (λ i. (bytes i).fits) (sym c.refusal-number.ensures ∙ c.if-number-ne0.false)
     in
     holds
@@ -44,7 +44,7 @@ count_entries-requires c =
 pub put_counts-requires : goal.put_counts-requires
 put_counts-requires c =
     let holds : Holds c.args.input.now =
-    let bytes = c.shared_slice_known-1.given in
+    let bytes = c.type_inv.input in
     accepted-holds _ (λ i. (bytes i).fits) (sym c.refusal-number.ensures ∙ c.if-number-ne0.false)
     in
     let fits : length (counts_page c.blocks-n.result c.count_entries.result) ≤ page_room = counts-fit _ _ (omega (arith, c.blocks-n.ensures, holds.n)) c.count_entries.ensures.1 in
@@ -53,7 +53,7 @@ put_counts-requires c =
 pub returns : goal.returns
 returns c =
     let holds : Holds c.args.input.now =
-    let bytes = c.shared_slice_known-1.given in
+    let bytes = c.type_inv.input in
     accepted-holds _ (λ i. (bytes i).fits) (sym c.refusal-number.ensures ∙ c.if-number-ne0.false)
     in
     let fits : length (counts_page c.blocks-n.result c.count_entries.result) ≤ page_room = counts-fit _ _ (omega (arith, c.blocks-n.ensures, holds.n)) c.count_entries.ensures.1 in

@@ -12,13 +12,13 @@ returns-then-refusal-ne0 c = counted-refused _ _ _ _ _ refl refl refl refl c.for
 pub count_entries-t-requires : goal.count_entries-t-requires
 count_entries-t-requires c =
     let in_form : form_number c.args.book.now ≡ 0 = sym c.form_number-refusal.ensures ∙ c.if-refusal-ne0.false in
-    let holds : Holds c.args.book.now = holds-form _ (λ i. (c.shared_slice_known-1.given i).fits) in_form in
+    let holds : Holds c.args.book.now = holds-form _ (λ i. (c.type_inv.book i).fits) in_form in
     holds
 
 pub blocks-requires : goal.blocks-requires
 blocks-requires c =
     let in_form : form_number c.args.book.now ≡ 0 = sym c.form_number-refusal.ensures ∙ c.if-refusal-ne0.false in
-    let holds : Holds c.args.book.now = holds-form _ (λ i. (c.shared_slice_known-1.given i).fits) in_form in
+    let holds : Holds c.args.book.now = holds-form _ (λ i. (c.type_inv.book i).fits) in_form in
     holds
 
 pub returns : goal.returns

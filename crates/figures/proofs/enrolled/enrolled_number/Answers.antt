@@ -17,7 +17,7 @@ returns-then-volume-gt-LAST_VOLUME c =
 pub retention-requires : goal.retention-requires
 retention-requires c =
     let in_form : form_number c.args.book.now ≡ 0 = sym c.form_number-refusal.ensures ∙ c.if-refusal-ne0.false in
-    record { holds = holds-form _ (λ i. (c.shared_slice_known-1.given i).fits) in_form; v_lt_volumes = omega arith }
+    record { holds = holds-form _ (λ i. (c.type_inv.book i).fits) in_form; v_lt_volumes = omega arith }
 
 pub returns-then-retention-eq0 : goal.returns-then-retention-eq0
 returns-then-retention-eq0 c =

@@ -12,25 +12,25 @@ returns-then-refusal-ne0 c = sizes-refused _ _ _ _ _ refl refl refl refl c.form_
 pub blocks-requires : goal.blocks-requires
 blocks-requires c =
     let in_form : form_number c.args.book.now ≡ 0 = sym c.form_number-refusal.ensures ∙ c.if-refusal-ne0.false in
-    let holds : Holds c.args.book.now = holds-form _ (λ i. (c.shared_slice_known-1.given i).fits) in_form in
+    let holds : Holds c.args.book.now = holds-form _ (λ i. (c.type_inv.book i).fits) in_form in
     holds
 
 pub cells-requires : goal.cells-requires
 cells-requires c =
     let in_form : form_number c.args.book.now ≡ 0 = sym c.form_number-refusal.ensures ∙ c.if-refusal-ne0.false in
-    let holds : Holds c.args.book.now = holds-form _ (λ i. (c.shared_slice_known-1.given i).fits) in_form in
+    let holds : Holds c.args.book.now = holds-form _ (λ i. (c.type_inv.book i).fits) in_form in
     holds
 
 pub slots-requires : goal.slots-requires
 slots-requires c =
     let in_form : form_number c.args.book.now ≡ 0 = sym c.form_number-refusal.ensures ∙ c.if-refusal-ne0.false in
-    let holds : Holds c.args.book.now = holds-form _ (λ i. (c.shared_slice_known-1.given i).fits) in_form in
+    let holds : Holds c.args.book.now = holds-form _ (λ i. (c.type_inv.book i).fits) in_form in
     holds
 
 pub journal-requires : goal.journal-requires
 journal-requires c =
     let in_form : form_number c.args.book.now ≡ 0 = sym c.form_number-refusal.ensures ∙ c.if-refusal-ne0.false in
-    let holds : Holds c.args.book.now = holds-form _ (λ i. (c.shared_slice_known-1.given i).fits) in_form in
+    let holds : Holds c.args.book.now = holds-form _ (λ i. (c.type_inv.book i).fits) in_form in
     holds
 
 pub returns : goal.returns

@@ -12,19 +12,19 @@ returns-then-refusal-ne0 c = used-refused _ _ _ _ refl refl refl c.form_number-r
 pub used_slots-requires : goal.used_slots-requires
 used_slots-requires c =
     let in_form : form_number c.args.book.now ≡ 0 = sym c.form_number-refusal.ensures ∙ c.if-refusal-ne0.false in
-    let holds : Holds c.args.book.now = holds-form _ (λ i. (c.shared_slice_known-1.given i).fits) in_form in
+    let holds : Holds c.args.book.now = holds-form _ (λ i. (c.type_inv.book i).fits) in_form in
     holds
 
 pub used_records-requires : goal.used_records-requires
 used_records-requires c =
     let in_form : form_number c.args.book.now ≡ 0 = sym c.form_number-refusal.ensures ∙ c.if-refusal-ne0.false in
-    let holds : Holds c.args.book.now = holds-form _ (λ i. (c.shared_slice_known-1.given i).fits) in_form in
+    let holds : Holds c.args.book.now = holds-form _ (λ i. (c.type_inv.book i).fits) in_form in
     holds
 
 pub day-requires : goal.day-requires
 day-requires c =
     let in_form : form_number c.args.book.now ≡ 0 = sym c.form_number-refusal.ensures ∙ c.if-refusal-ne0.false in
-    let holds : Holds c.args.book.now = holds-form _ (λ i. (c.shared_slice_known-1.given i).fits) in_form in
+    let holds : Holds c.args.book.now = holds-form _ (λ i. (c.type_inv.book i).fits) in_form in
     holds
 
 pub returns : goal.returns

@@ -13,19 +13,19 @@ returns-then-refusal-ne0 c = volume-refused _ _ _ _ _ refl refl refl c.enrolled_
 pub retention-requires : goal.retention-requires
 retention-requires c =
     let passed : (let s = c.args in enrolled_number s.book.now s.volume ≡ 0) = sym c.enrolled_number-refusal.ensures ∙ c.if-refusal-ne0.false in
-    let holds : Holds c.args.book.now = holds-form _ (λ i. (c.shared_slice_known-1.given i).fits) (passed-enrolled _ _ passed).form in
+    let holds : Holds c.args.book.now = holds-form _ (λ i. (c.type_inv.book i).fits) (passed-enrolled _ _ passed).form in
     record { holds = holds; v_lt_volumes = (passed-enrolled _ _ passed).inside }
 
 pub count_backups-requires : goal.count_backups-requires
 count_backups-requires c =
     let passed : (let s = c.args in enrolled_number s.book.now s.volume ≡ 0) = sym c.enrolled_number-refusal.ensures ∙ c.if-refusal-ne0.false in
-    let holds : Holds c.args.book.now = holds-form _ (λ i. (c.shared_slice_known-1.given i).fits) (passed-enrolled _ _ passed).form in
+    let holds : Holds c.args.book.now = holds-form _ (λ i. (c.type_inv.book i).fits) (passed-enrolled _ _ passed).form in
     holds
 
 pub retired_on-requires : goal.retired_on-requires
 retired_on-requires c =
     let passed : (let s = c.args in enrolled_number s.book.now s.volume ≡ 0) = sym c.enrolled_number-refusal.ensures ∙ c.if-refusal-ne0.false in
-    let holds : Holds c.args.book.now = holds-form _ (λ i. (c.shared_slice_known-1.given i).fits) (passed-enrolled _ _ passed).form in
+    let holds : Holds c.args.book.now = holds-form _ (λ i. (c.type_inv.book i).fits) (passed-enrolled _ _ passed).form in
     holds
 
 pub returns : goal.returns

@@ -19,14 +19,14 @@ pub blocks-requires : goal.blocks-requires
 blocks-requires c =
     let given : List ℕ = c.args.book.now in
     let in_form : form_number given ≡ 0 = sym c.form_number-refusal.ensures ∙ c.if-refusal-ne0.false in
-    let holds : Holds given = holds-form _ (λ i. (c.shared_slice_known-1.given i).fits) in_form in
+    let holds : Holds given = holds-form _ (λ i. (c.type_inv.book i).fits) in_form in
     holds
 
 pub returns-then-out-blocks : goal.returns-then-out-blocks
 returns-then-out-blocks c =
     let given : List ℕ = c.args.book.now in
     let in_form : form_number given ≡ 0 = sym c.form_number-refusal.ensures ∙ c.if-refusal-ne0.false in
-    let holds : Holds given = holds-form _ (λ i. (c.shared_slice_known-1.given i).fits) in_form in
+    let holds : Holds given = holds-form _ (λ i. (c.type_inv.book i).fits) in_form in
     let rows-length : length (blocks_of (book_of given)) ≡ c.blocks-2.result * 22 = omega (arith, blocks-length _ holds.sized, c.blocks-2.ensures) in
     blocks-short _ _ in_form (omega (arith, rows-length))
 
@@ -35,7 +35,7 @@ put_blocks-requires c =
     let given : List ℕ = c.args.book.now in
     let output : List ℕ = c.args.out.now in
     let in_form : form_number given ≡ 0 = sym c.form_number-refusal.ensures ∙ c.if-refusal-ne0.false in
-    let holds : Holds given = holds-form _ (λ i. (c.shared_slice_known-1.given i).fits) in_form in
+    let holds : Holds given = holds-form _ (λ i. (c.type_inv.book i).fits) in_form in
     let rows-length : length (blocks_of (book_of given)) ≡ c.blocks-2.result * 22 = omega (arith, blocks-length _ holds.sized, c.blocks-2.ensures) in
     let room : length (blocks_of (book_of given)) ≤ length output = omega (arith, rows-length) in
     record { holds = holds; book_in_bounds = room }
@@ -45,7 +45,7 @@ returns c =
     let given : List ℕ = c.args.book.now in
     let output : List ℕ = c.args.out.now in
     let in_form : form_number given ≡ 0 = sym c.form_number-refusal.ensures ∙ c.if-refusal-ne0.false in
-    let holds : Holds given = holds-form _ (λ i. (c.shared_slice_known-1.given i).fits) in_form in
+    let holds : Holds given = holds-form _ (λ i. (c.type_inv.book i).fits) in_form in
     let rows-length : length (blocks_of (book_of given)) ≡ c.blocks-2.result * 22 = omega (arith, blocks-length _ holds.sized, c.blocks-2.ensures) in
     let room : length (blocks_of (book_of given)) ≤ length output = omega (arith, rows-length) in
     blocks-done _ _ in_form room c.put_blocks.ensures

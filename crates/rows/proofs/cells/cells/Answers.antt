@@ -16,7 +16,7 @@ row-row-requires c =
     let passed : enrolled_number c.args.book.now c.args.volume ≡ 0 = sym c.enrolled_number-refusal.ensures ∙ c.if-refusal-ne0.false in
     let holds : Holds c.args.book.now =
     let p = passed-enrolled _ _ passed in
-    holds-form _ (λ i. (c.shared_slice_known-1.given i).fits) p.form
+    holds-form _ (λ i. (c.type_inv.book i).fits) p.form
     in
     record { holds = holds; v_lt_volumes = omega (arith, (passed-enrolled _ _ passed).inside) }
 
