@@ -5,7 +5,8 @@ usage: tools/respell.py [ROOT]      after port.py, once and never twice, at the 
 
 respell.tsv, beside this script, has each name and what it becomes. Names of src/, exported C names and strings stay. A lemma that would have
 its definition's name, or one that the same file uses, ends in _lem (IN_PART, by the crates whose proofs say it). specs/Contracts.antt becomes
-specs/Promises.antt, since Rattle makes a module `contracts` of its own.
+specs/Promises.antt, since Rattle makes a module `contracts` of its own. The choice by a test, if◌then◌else◌, becomes when◌then◌else◌: the library
+has an operator of that name, which binds otherwise, and a crate may define none under it.
 """
 import os
 import re
@@ -42,6 +43,17 @@ def respell(text, names, part):
     return TOKEN.sub(one, text)
 
 
+def choice(text, is_code):
+    """The choice by a test in antt: in a .rt file it stands in clauses alone, where a `then` follows."""
+    out = []
+    for line in text.split("\n"):
+        code, dashes, said = line.partition("//" if is_code else "--")
+        if not is_code or " then " in code or "if◌then◌else◌" in code:
+            code = re.sub(r"(?<![^\s(){}.,;\[\]])if(?=\s|◌then◌else◌)", "when", code)
+        out.append(code + dashes + said)
+    return "\n".join(out)
+
+
 def outside_strings(text, turn):
     out, at = [], 0
     for m in STRING.finditer(text):
@@ -74,6 +86,8 @@ def main(root):
             new = new.replace("Contracts.antt", "Promises.antt")
         if path.endswith("specs/Lib.antt"):
             new = re.sub(r"\bmod Contracts\b", "mod Promises", new)
+        if not path.endswith(".md"):
+            new = choice(new, path.endswith(".rt"))
         if new != old:
             changed += 1
             with open(path, "w", encoding="utf-8") as f:

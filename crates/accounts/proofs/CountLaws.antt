@@ -12,7 +12,7 @@ use lib.Seq.{take-suc, take_all}
 use borrow.Author.Tests.{eqb-true, ne_eqb}
 use Rattle.words.proofs.Appends.{count_of_append, joined_append}
 use Rattle.words.specs.Blocks.{unmapped}
-use Rattle.words.specs.Choice.{if◌then◌else◌}
+use Rattle.words.specs.Choice.{when◌then◌else◌}
 use Rattle.words.proofs.Counting.{count_most}
 use Rattle.words.proofs.Each.{all-each}
 use Rattle.words.specs.Lists.{all, count_of, joined, up_from}
@@ -42,7 +42,7 @@ counted-one a c h =
           (go p (eqb p c) refl);
     }
   where
-    go : (p : ℕ) (t : Bool) → eqb p c ≡ t → (if t then get_or a c 0 + 1 else get_or a p 0) ≡ get_or a p 0 + (if t then 1 else 0)
+    go : (p : ℕ) (t : Bool) → eqb p c ≡ t → (when t then get_or a c 0 + 1 else get_or a p 0) ≡ get_or a p 0 + (when t then 1 else 0)
     go p true e = rw (eqb-true p c e)
     go p false e = omega arith
 

@@ -10,7 +10,7 @@ use lib.ListN.{length, get_or, set, replicate, length-set, length-replicate, get
 use lib.Seq.{get_or-set_same, set-get_or, ext_get_or}
 use borrow.Author.Tests.{eqb-true, eqb-false, eq-eqb, ne_eqb, ltb-true}
 use Rattle.words.specs.Blocks.{unmapped}
-use Rattle.words.specs.Choice.{if◌then◌else◌}
+use Rattle.words.specs.Choice.{when◌then◌else◌}
 use Rattle.words.proofs.ChoiceLaws.{and_true, same_test}
 use Rattle.words.specs.Lists.{each}
 use Rattle.words.proofs.Each.{each_at, at_each, each_same, all-each}
@@ -59,7 +59,7 @@ module _ (l : ℕ) (small : l ≤ row_size) where
       rows : (w : ℕ) → w < volumes → length (get_or (set ms v (set m k p)) w []) ≡ l
       rows w hw = rw (get_d_set ms v w (set m k p) [] count) (go (eqb w v) refl)
         where
-          go : (s : Bool) → eqb w v ≡ s → length (if s then set m k p else get_or ms w []) ≡ l
+          go : (s : Bool) → eqb w v ≡ s → length (when s then set m k p else get_or ms w []) ≡ l
           go true e = length-set m k p ∙ row
           go false e = rw (get_d_set ms v w m [] count, e) at (t.rows w hw)
 
@@ -75,8 +75,8 @@ module _ (l : ℕ) (small : l ≤ row_size) where
           here e = rw (get_d_set ms v w m [] count, eq-eqb w v e) at (t.cells w j hw hj)
 
           go : (s : Bool) → eqb w v ≡ s → (u : Bool) → eqb j k ≡ u
-              → (if eqb (w * row_size + j) (v * row_size + k) then p else get_or a (w * row_size + j) 0)
-              ≡ get_or (if s then set m k p else get_or ms w []) j unmapped
+              → (when eqb (w * row_size + j) (v * row_size + k) then p else get_or a (w * row_size + j) 0)
+              ≡ get_or (when s then set m k p else get_or ms w []) j unmapped
           go true e true f =
               let ew = eqb-true w v e in let ej = eqb-true j k f in
               rw (eq-eqb (w * row_size + j) (v * row_size + k) (omega arith), get_d_set m k j p unmapped (omega (arith, row)), f)

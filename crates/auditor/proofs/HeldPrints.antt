@@ -6,7 +6,7 @@ use mathlib.Core.List.{List, [], ◌∷◌, map}
 use native.Mathlib.Numerals.{add-one}
 use lib.ListN.{length, drop, drop_of_length-le}
 use lib.Seq.{drop-cons}
-use Rattle.words.specs.Choice.{if◌then◌else◌}
+use Rattle.words.specs.Choice.{when◌then◌else◌}
 use Rattle.words.proofs.ChoiceLaws.{and_yes, and_false, same_test}
 use Rattle.words.specs.Lists.{all, some_of, those, same, differ}
 use Rattle.words.proofs.Same.{same_self, same_equal}
@@ -35,7 +35,7 @@ none_has f (e ∷ es) = rw (same-swap e.print f) (go e.held (none_has f es))
 
     go : (t : Bool) → all (λ y. not (same f y)) (held_prints es) ≡ not (some_of (has_print f) es)
         → all (λ y. not (same f y)) (map (λ (e : Entry). e.print)
-        (if t then e ∷ those (λ (e : Entry). e.held) es else those (λ (e : Entry). e.held) es))
+        (when t then e ∷ those (λ (e : Entry). e.held) es else those (λ (e : Entry). e.held) es))
         ≡ not ((t && same f e.print) || some_of (has_print f) es)
     go true ih = rw ih (neither (same f e.print) (some_of (has_print f) es))
     go false ih = ih
@@ -50,7 +50,7 @@ more e es = go e.held
     swap false t = sym (and_false t)
 
     go : (t : Bool) → differ (map (λ (e : Entry). e.print)
-        (if t then e ∷ those (λ (e : Entry). e.held) es else those (λ (e : Entry). e.held) es))
+        (when t then e ∷ those (λ (e : Entry). e.held) es else those (λ (e : Entry). e.held) es))
         ≡ (differ (held_prints es) && not (t && some_of (has_print e.print) es))
     go true = rw (none_has e.print es) (swap (not (some_of (has_print e.print) es)) (differ (held_prints es)))
     go false = sym (and_yes (differ (held_prints es)))

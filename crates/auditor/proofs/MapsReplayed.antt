@@ -9,7 +9,7 @@ use lib.ListN.{length, get_or, set, drop, replicate, length-set, length-replicat
 use borrow.Author.Tests.{eqb-true, ltb-true, leb-true, le-leb}
 use Rattle.words.proofs.Places.{all_weaker}
 use Rattle.words.specs.Blocks.{unmapped}
-use Rattle.words.specs.Choice.{if◌then◌else◌}
+use Rattle.words.specs.Choice.{when◌then◌else◌}
 use Rattle.words.proofs.ChoiceLaws.{and_true}
 use Rattle.words.proofs.Each.{each_at, all-each}
 use Rattle.words.specs.Lists.{all, up_from}
@@ -69,7 +69,7 @@ befores-all z ms (b ∷ bs) n rows ok e =
         → length (get_or (set ms b.volume (applied (get_or ms b.volume []) b.records)) v []) ≡ z.l
     after v h hm new = rw (get_d_set ms b.volume v (applied (get_or ms b.volume []) b.records) [] hm) (go (eqb v b.volume))
       where
-        go : (t : Bool) → length (if t then applied (get_or ms b.volume []) b.records else get_or ms v []) ≡ z.l
+        go : (t : Bool) → length (when t then applied (get_or ms b.volume []) b.records else get_or ms v []) ≡ z.l
         go true = new
         go false = rows v h
 

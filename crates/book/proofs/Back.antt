@@ -10,7 +10,7 @@ use lib.Dec.{eqb, ltb}
 use borrow.Author.Tests.{ltb-true, ltb-false}
 use lib.ListN.{length, get_or}
 use Rattle.words.specs.Blocks.{print_size, unmapped}
-use Rattle.words.specs.Choice.{if◌then◌else◌}
+use Rattle.words.specs.Choice.{when◌then◌else◌}
 use Rattle.words.specs.Lists.{joined}
 use Rattle.words.specs.Numbers.{two, num}
 use Rattle.words.specs.Sections.{flat, fit, tab, part}
@@ -50,9 +50,9 @@ module _ (b : List ℕ) (small : (i : ℕ) → get_or b i 0 < 256) where
   count-part : (g o : ℕ) → o + count_size g ≤ length b → count_bytes g (count_in g b o) ≡ part b o (count_size g)
   count-part g o = go (eqb g 1)
     where
-      go : (t : Bool) → o + (if t then 1 else 2) ≤ length b
-          → (if t then (if t then get_or b o 0 else num b o) ∷ [] else two (if t then get_or b o 0 else num b o))
-          ≡ part b o (if t then 1 else 2)
+      go : (t : Bool) → o + (when t then 1 else 2) ≤ length b
+          → (when t then (when t then get_or b o 0 else num b o) ∷ [] else two (when t then get_or b o 0 else num b o))
+          ≡ part b o (when t then 1 else 2)
       go true h = sym (part_cons b o 0 (omega arith))
       go false h = two-part o h
 

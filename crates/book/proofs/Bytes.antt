@@ -7,7 +7,7 @@ use native.Mathlib.Omega.{arith}
 use lib.Dec.{eqb}
 use lib.ListN.{length, get_or, length-append}
 use Rattle.words.specs.Blocks.{unmapped}
-use Rattle.words.specs.Choice.{if◌then◌else◌}
+use Rattle.words.specs.Choice.{when◌then◌else◌}
 use Rattle.words.specs.Numbers.{two}
 use Rattle.words.proofs.SectionLaws.{start, get_or-joined, length_sect, get_or_sect, length-fit, inside}
 use Rattle.words.specs.Sections.{flat, fit}
@@ -36,7 +36,7 @@ pub entry-size : (g : ℕ) (e : Entry) → length (entry_bytes g e) ≡ entry_si
 unfolding entry_size
 entry-size g e = go (eqb g 1)
   where
-    go : (t : Bool) → length ((if t then e.count ∷ [] else two e.count) ++ rest_bytes e) ≡ (if t then 1 else 2) + 19
+    go : (t : Bool) → length ((when t then e.count ∷ [] else two e.count) ++ rest_bytes e) ≡ (when t then 1 else 2) + 19
     go true = simp length-fit
     go false = simp length-fit
 

@@ -8,7 +8,7 @@ use lib.Dec.{eqb}
 use lib.ListN.{length, set, replicate, length-set}
 use lib.Seq.{sets, set-set, get_or-set_same}
 use Rattle.words.specs.Blocks.{print_size}
-use Rattle.words.specs.Choice.{if◌then◌else◌}
+use Rattle.words.specs.Choice.{when◌then◌else◌}
 use Rattle.words.specs.Numbers.{two}
 use Rattle.words.specs.Sections.{fit}
 use Rattle.words.proofs.SectionLaws.{sets_append_left, sets_append_right, sets_cons, sets-whole, length-fit, fit_all}
@@ -22,7 +22,7 @@ use Rattle.book.proofs.FieldsWritten.{set-entry}
 count-size : (g c : ℕ) → length (count_bytes g c) ≡ count_size g
 count-size g c = go (eqb g 1)
   where
-    go : (t : Bool) → length (if t then c ∷ [] else two c) ≡ (if t then 1 else 2)
+    go : (t : Bool) → length (when t then c ∷ [] else two c) ≡ (when t then 1 else 2)
     go true = refl
     go false = refl
 

@@ -7,7 +7,7 @@ use lib.Dec.{eqb}
 use lib.ListN.{replicate, length-replicate, replicate-append-replicate}
 use lib.Seq.{sets}
 use Rattle.words.specs.Blocks.{unmapped}
-use Rattle.words.specs.Choice.{if◌then◌else◌}
+use Rattle.words.specs.Choice.{when◌then◌else◌}
 use Rattle.words.specs.Lists.{joined}
 use Rattle.words.specs.Numbers.{two}
 use Rattle.words.proofs.Filling.{fit_none, flat-run}
@@ -28,7 +28,7 @@ entry_zero : (g : ℕ) → entry_bytes g free_entry ≡ zeros (entry_size g)
 unfolding free_entry no_print entry_size
 entry_zero g = go (eqb g 1)
   where
-    go : (t : Bool) → (if t then 0 ∷ [] else two 0) ++ zeros 19 ≡ zeros ((if t then 1 else 2) + 19)
+    go : (t : Bool) → (when t then 0 ∷ [] else two 0) ++ zeros 19 ≡ zeros ((when t then 1 else 2) + 19)
     go true = refl
     go false = refl
 

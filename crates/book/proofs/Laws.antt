@@ -8,7 +8,7 @@ use native.Mathlib.Omega.{arith}
 use lib.Dec.{eqb}
 use lib.ListN.{length, get_or}
 use Rattle.words.specs.Blocks.{print_size, unmapped}
-use Rattle.words.specs.Choice.{if◌then◌else◌}
+use Rattle.words.specs.Choice.{when◌then◌else◌}
 use Rattle.words.specs.Numbers.{two, num}
 use Rattle.words.proofs.NumberLaws.{two_back}
 use Rattle.words.specs.Sections.{flat, tab}
@@ -111,13 +111,13 @@ module _ (x : Book) where
   entry-from g at e hs = go (eqb g 1)
     where
       go : (t : Bool)
-          → ((j i : ℕ) → j < (if t then 1 else 2) + 19 → i ≡ at + j
-          → get_or (bytes x) i 0 ≡ get_or ((if t then e.count ∷ [] else two e.count) ++ rest_bytes e) j 0)
+          → ((j i : ℕ) → j < (when t then 1 else 2) + 19 → i ≡ at + j
+          → get_or (bytes x) i 0 ≡ get_or ((when t then e.count ∷ [] else two e.count) ++ rest_bytes e) j 0)
           → record {
-            count = if t then get_or (bytes x) at 0 else num (bytes x) at;
-            held = eqb (get_or (bytes x) (at + (if t then 1 else 2)) 0) 1;
-            expiry = num (bytes x) (at + ((if t then 1 else 2) + 1));
-            print = tab print_size (λ i. get_or (bytes x) (at + ((if t then 1 else 2) + 3) + i) 0);
+            count = when t then get_or (bytes x) at 0 else num (bytes x) at;
+            held = eqb (get_or (bytes x) (at + (when t then 1 else 2)) 0) 1;
+            expiry = num (bytes x) (at + ((when t then 1 else 2) + 1));
+            print = tab print_size (λ i. get_or (bytes x) (at + ((when t then 1 else 2) + 3) + i) 0);
           } ≡ e
       go true get = narrow-from at e hs get
       go false get = wide_from at e hs get

@@ -6,7 +6,7 @@ use Prim.Native.Nat.{ℕ, ◌+◌, ◌-◌, ◌≤◌, ◌<◌, ◌/◌, ◌%◌
 use native.Mathlib.Omega.{arith}
 use lib.Dec.{eqb}
 use lib.ListN.{length, get_or, get_or-replicate, get_or-eq_default}
-use Rattle.words.specs.Choice.{if◌then◌else◌}
+use Rattle.words.specs.Choice.{when◌then◌else◌}
 use Rattle.words.specs.Numbers.{two}
 use Rattle.book.specs.Book.{Sizes, Entry, Slot, Rec, Book, no_slot, no_rec, entry_at, slot_at, rec_at, Sized}
 use Rattle.book.specs.Layout.{count_size, entry_size, slot_size, rec_size, entry_offset, slots_from, slot_offset, records_from, rec_offset}
@@ -24,7 +24,7 @@ state-small false = omega arith
 state-byte-at : (g : ℕ) (e : Entry) → get_or (entry_bytes g e) (count_size g) 0 ≡ state_byte e.held
 state-byte-at g e = go (eqb g 1)
   where
-    go : (t : Bool) → get_or ((if t then e.count ∷ [] else two e.count) ++ rest_bytes e) (if t then 1 else 2) 0 ≡ state_byte e.held
+    go : (t : Bool) → get_or ((when t then e.count ∷ [] else two e.count) ++ rest_bytes e) (when t then 1 else 2) 0 ≡ state_byte e.held
     go true = refl
     go false = refl
 

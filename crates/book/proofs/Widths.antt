@@ -8,7 +8,7 @@ use lib.Dec.{eqb}
 use lib.ListN.{get_or}
 use borrow.Author.Tests.{ne_eqb}
 use Rattle.words.specs.Blocks.{print_size}
-use Rattle.words.specs.Choice.{if◌then◌else◌}
+use Rattle.words.specs.Choice.{when◌then◌else◌}
 use Rattle.words.specs.Numbers.{two, num}
 use Rattle.words.specs.Sections.{tab}
 use Rattle.book.specs.Book.{Sizes}
@@ -39,7 +39,7 @@ unfolding entry_size
 offset-now p = refl
 
 -- the width tells whether it is layout 1
-narrow-same : (s t : Bool) → ◌≡◌ {A = ℕ} (if s then 1 else 2) (if t then 1 else 2) → s ≡ t
+narrow-same : (s t : Bool) → ◌≡◌ {A = ℕ} (when s then 1 else 2) (when t then 1 else 2) → s ≡ t
 narrow-same true true e = refl
 narrow-same true false e = absurd (omega arith)
 narrow-same false true e = absurd (omega arith)
@@ -51,14 +51,14 @@ module _ (g h : ℕ) (e : count_size g ≡ count_size h) where
   offset-same p = ap (λ (k : ℕ). entries_from + p * (k + 19)) e
 
   pub count_same : (c : ℕ) → count_bytes g c ≡ count_bytes h c
-  count_same c = ap (λ (t : Bool). if t then c ∷ [] else two c) (narrow-same (eqb g 1) (eqb h 1) e)
+  count_same c = ap (λ (t : Bool). when t then c ∷ [] else two c) (narrow-same (eqb g 1) (eqb h 1) e)
 
   pub entry-same : (b : List ℕ) (at : ℕ) → entry_in g b at ≡ entry_in h b at
   entry-same b at =
       let t = narrow-same (eqb g 1) (eqb h 1) e in
       λ i. record {
-        count = if t i then get_or b at 0 else num b at;
-        held = eqb (get_or b (at + (if t i then 1 else 2)) 0) 1;
-        expiry = num b (at + ((if t i then 1 else 2) + 1));
-        print = tab print_size (λ k. get_or b (at + ((if t i then 1 else 2) + 3) + k) 0);
+        count = when t i then get_or b at 0 else num b at;
+        held = eqb (get_or b (at + (when t i then 1 else 2)) 0) 1;
+        expiry = num b (at + ((when t i then 1 else 2) + 1));
+        print = tab print_size (λ k. get_or b (at + ((when t i then 1 else 2) + 3) + k) 0);
       }

@@ -19,7 +19,7 @@
 -- raw_ok has what only the bytes show, book_ok what the book that they say shows.
 use Rattle.std.specs.Prelude.{ℕ, ◌+◌, ◌-◌, ◌*◌, Bool, true, not, ◌&&◌, ◌||◌, List, [], ◌∷◌, length, get_or, take, drop, leb, ltb, eqb}
 use Rattle.words.specs.Blocks.{unmapped}
-use Rattle.words.specs.Choice.{if◌then◌else◌}
+use Rattle.words.specs.Choice.{when◌then◌else◌}
 use Rattle.words.specs.Lists.{all, all_zero, up_from}
 use Rattle.words.specs.Numbers.{num}
 use Rattle.words.specs.Sections.{part}
@@ -60,7 +60,7 @@ rec_ok z r = ltb r.lbn z.l && pbn_ok z.n r.before && pbn_ok z.n r.after
 
 -- "a record has that after exactly when its slot is a retire slot" (document 02, K6): so for each slot and its records
 unfoldable pub after_ok : Bool → Rec → Bool
-after_ok retire r = if retire then eqb r.after unmapped else not (eqb r.after unmapped)
+after_ok retire r = when retire then eqb r.after unmapped else not (eqb r.after unmapped)
 
 abbrev pub afters_ok : List Slot → List Rec → Bool
 afters_ok [] rs = true
@@ -124,8 +124,8 @@ raw_ok b =
 -- 1, 2, or 0 for a book in form, as a book of layout g
 unfoldable pub form_as : ℕ → List ℕ → ℕ
 form_as g b =
-    if not (layout_as g b) then 1 else
-    if not (raw_ok b && book_ok (book_of b)) then 2 else
+    when not (layout_as g b) then 1 else
+    when not (raw_ok b && book_ok (book_of b)) then 2 else
     0
 
 -- as a book of today's layout: what every call asks

@@ -3,7 +3,7 @@
 use Rattle.std.specs.Prelude.{ℕ, ◌+◌, ◌*◌, ◌≤◌, ◌/◌, ◌%◌, ◌≡◌, Bool, List, [], ◌∷◌, ◌++◌, length, get_or, eqb}
 use Rattle.std.specs.Borrow.{Bor}
 use Rattle.words.specs.Blocks.{print_size, unmapped}
-use Rattle.words.specs.Choice.{if◌then◌else◌}
+use Rattle.words.specs.Choice.{when◌then◌else◌}
 use Rattle.words.specs.Lists.{joined}
 use Rattle.words.specs.Numbers.{two, num}
 use Rattle.words.specs.Sections.{flat, fit, tab}
@@ -19,7 +19,7 @@ header_size = 20
 
 -- a count has one byte in layout 1; "the count becomes u16" in layout 2, and stays so
 abbrev pub count_size : ℕ → ℕ
-count_size g = if eqb g 1 then 1 else 2
+count_size g = when eqb g 1 then 1 else 2
 
 -- a count, a state, an expiry and a fingerprint
 unfoldable pub entry_size : ℕ → ℕ
@@ -100,10 +100,10 @@ book_size z = records_from z + z.j * rec_size
 
 -- an entry's state, and a slot's second byte
 abbrev pub state_byte : Bool → ℕ
-state_byte on = if on then 1 else 0
+state_byte on = when on then 1 else 0
 
 abbrev pub count_bytes : ℕ → ℕ → List ℕ
-count_bytes g c = if eqb g 1 then c ∷ [] else two c
+count_bytes g c = when eqb g 1 then c ∷ [] else two c
 
 -- what follows an entry's count
 abbrev pub rest_bytes : Entry → List ℕ
@@ -155,7 +155,7 @@ abbrev pub sizes_of : List ℕ → Sizes
 sizes_of b = record { layout = num b 0; n = num b n_offset; l = num b l_offset; s = num b s_offset; j = num b j_offset }
 
 abbrev pub count_in : ℕ → List ℕ → ℕ → ℕ
-count_in g b at = if eqb g 1 then get_or b at 0 else num b at
+count_in g b at = when eqb g 1 then get_or b at 0 else num b at
 
 -- the entry that stands at `at` in layout g
 abbrev pub entry_in : ℕ → List ℕ → ℕ → Entry

@@ -7,7 +7,7 @@ use native.Mathlib.Omega.{arith}
 use lib.ListN.{length}
 use borrow.Author.Tests.{eqb-true, eq-eqb, ne_eqb, not-false}
 use Rattle.words.specs.Blocks.{block_size}
-use Rattle.words.specs.Choice.{if◌then◌else◌}
+use Rattle.words.specs.Choice.{when◌then◌else◌}
 use Rattle.words.specs.Outcome.{Outcome, unless}
 use Rattle.book.specs.Layout.{book_of}
 use Rattle.book.specs.Form.{form_number}
@@ -29,7 +29,7 @@ unless-or zero k o = refl
 unless-or (suc j) k o = refl
 
 -- a test that gives 0 failed
-pub if_zero : (t : Bool) (k : ℕ) → (if t then suc k else 0) ≡ 0 → t ≡ false
+pub if_zero : (t : Bool) (k : ℕ) → (when t then suc k else 0) ≡ 0 → t ≡ false
 if_zero true k e = absurd (omega arith)
 if_zero false k e = refl
 

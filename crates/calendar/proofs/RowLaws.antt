@@ -10,7 +10,7 @@ use native.Mathlib.Omega.{arith}
 use lib.ListN.{length, drop, length-drop}
 use lib.Seq.{sets, length-take-le}
 use borrow.Author.Tests.{lt-ltb, le-ltb}
-use Rattle.words.specs.Choice.{if◌then◌else◌}
+use Rattle.words.specs.Choice.{when◌then◌else◌}
 use Rattle.words.specs.Lists.{bit}
 use Rattle.words.specs.Laying.{Stored}
 use Rattle.words.proofs.LayingLaws.{sets_append}
@@ -99,7 +99,7 @@ module _ (x : Book) (q : ℕ) (p : pairs_ok 0 x.slots (length x.records) ≡ tru
       ap length (records-at x q p h) ∙ length-take-le t.number (drop t.first x.records) (rw length-drop (omega arith))
 
   pub row_is : (v r next : ℕ) → NextIs x v (q + 1) next
-      → (if (backup_at x q).retire then [] else backup_row (backup_at x q) (map (λ (b : Backup). b.day) (own_from x v (q + 1))) r x.day)
+      → (when (backup_at x q).retire then [] else backup_row (backup_at x q) (map (λ (b : Backup). b.day) (own_from x v (q + 1))) r x.day)
       ≡ row_from x q next r
   row_is v r next n =
       let t = (slot_at x.slots q).day in

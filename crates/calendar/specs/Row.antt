@@ -1,6 +1,6 @@
 -- The row of a slot, by the volume's slot that came after it.
 use Rattle.std.specs.Prelude.{ℕ, ◌+◌, List, [], ◌∷◌, ltb, length}
-use Rattle.words.specs.Choice.{if◌then◌else◌}
+use Rattle.words.specs.Choice.{when◌then◌else◌}
 use Rattle.words.specs.Lists.{bit}
 use Rattle.words.specs.Numbers.{two}
 use Rattle.words.specs.Sections.{flat}
@@ -12,7 +12,7 @@ row_size = 8
 
 -- the last day on which a backup is kept that was taken on day t, where slot `at` is the volume's next
 unfoldable pub until_from : Book → ℕ → ℕ → ℕ → ℕ
-until_from x t at r = if ltb at (length x.slots) then t + r else 65535
+until_from x t at r = when ltb at (length x.slots) then t + r else 65535
 
 -- the row of the backup in slot q, where slot `next` is the volume's next
 abbrev pub backup_from : Book → ℕ → ℕ → ℕ → List ℕ
@@ -22,4 +22,4 @@ backup_from x q next r =
 
 -- the row of slot q: a retire slot has none
 abbrev pub row_from : Book → ℕ → ℕ → ℕ → List ℕ
-row_from x q next r = if (slot_at x.slots q).retire then [] else backup_from x q next r
+row_from x q next r = when (slot_at x.slots q).retire then [] else backup_from x q next r

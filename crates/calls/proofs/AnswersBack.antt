@@ -12,7 +12,7 @@ use lib.Seq.{take_at, drop_at}
 use borrow.Author.Tests.{eqb-true}
 use Rattle.words.proofs.ChoiceLaws.{and_true, or_cases}
 use Rattle.words.specs.Blocks.{block_size}
-use Rattle.words.specs.Choice.{if◌then◌else◌}
+use Rattle.words.specs.Choice.{when◌then◌else◌}
 use Rattle.words.specs.Lists.{all}
 use Rattle.words.proofs.NumberLaws.{two_back}
 use Rattle.words.specs.Numbers.{two}
@@ -74,7 +74,7 @@ not_run : (a : Answer) (rest : List ℕ) → eqb (get_or (answer_bytes a ++ rest
 not_run (number k) rest = refl
 not_run (gave ns) rest = go (eqb (length ns) 3)
   where
-    go : (t : Bool) → eqb (if t then 1 else 2) 5 ≡ false
+    go : (t : Bool) → eqb (when t then 1 else 2) 5 ≡ false
     go true = refl
     go false = refl
 not_run (block b) rest = refl

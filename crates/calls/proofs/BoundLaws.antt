@@ -9,7 +9,7 @@ use native.Mathlib.Omega.{arith}
 use lib.Dec.{leb, ltb}
 use lib.ListN.{length}
 use borrow.Author.Tests.{leb-false, lt-ltb, le-ltb, ltb-false}
-use Rattle.words.specs.Choice.{if◌then◌else◌}
+use Rattle.words.specs.Choice.{when◌then◌else◌}
 use Rattle.words.specs.Outcome.{Outcome, refused, accepted, and_then, unless}
 use Rattle.calls.specs.Asked.{Asked}
 use Rattle.model.specs.OnBytes.{number_of}
@@ -43,7 +43,7 @@ module _ (room : ℕ) where
   unfolding room_number
   room-zero most e = go (ltb room most) refl e
     where
-      go : (t : Bool) → ltb room most ≡ t → ◌≡◌ {A = ℕ} (if t then 20 else 0) 0 → most ≤ room
+      go : (t : Bool) → ltb room most ≡ t → ◌≡◌ {A = ℕ} (when t then 20 else 0) 0 → most ≤ room
       go true f z = absurd (omega arith)
       go false f z = ltb-false room most f
 
@@ -52,7 +52,7 @@ module _ (room : ℕ) where
   sum_more most more rest = go (leb most room) refl
     where
       go : (t : Bool) → leb most room ≡ t
-          → room_number room (most + (more + rest)) ≡ room_number room ((if t then most + more else most) + rest)
+          → room_number room (most + (more + rest)) ≡ room_number room ((when t then most + more else most) + rest)
       go true e = ap (λ (k : ℕ). room_number room k) (omega arith)
       go false e =
           let l = leb-false most room e in

@@ -8,7 +8,7 @@ use mathlib.Core.List.{List, [], ◌∷◌, ◌++◌}
 use lib.Dec.{ltb, eqb}
 use lib.ListN.{length}
 use Rattle.words.specs.Blocks.{block_size}
-use Rattle.words.specs.Choice.{if◌then◌else◌}
+use Rattle.words.specs.Choice.{when◌then◌else◌}
 use Rattle.words.specs.Lists.{all, some_of, up_from}
 use Rattle.words.specs.Outcome.{accepted, unless}
 use Rattle.book.specs.Book.{Sizes}
@@ -40,7 +40,7 @@ restore-undamaged l h d k first many room =
   where
     go : (a b c e g : Bool) (blocks : List ℕ)
         → damage_reply (restore_reply many (unless
-        (if a then 5 else if b then 15 else if not c then 16 else if e then 21 else if g then 18 else 0) (accepted blocks)))
+        (when a then 5 else when b then 15 else when not c then 16 else when e then 21 else when g then 18 else 0) (accepted blocks)))
         ≡ false
     go true b c e g blocks = refl
     go false true c e g blocks = refl

@@ -5,7 +5,7 @@ use mathlib.Core.List.{List, [], ◌∷◌}
 use mathlib.Core.Option.{Option, none, some}
 use lib.Dec.{eqb}
 use Rattle.words.specs.Blocks.{unmapped}
-use Rattle.words.specs.Choice.{if◌then◌else◌}
+use Rattle.words.specs.Choice.{when◌then◌else◌}
 use Rattle.words.specs.Lists.{same, up_from}
 use Rattle.words.specs.Outcome.{Outcome, refused, accepted, unless}
 use Rattle.runs.specs.Changes.{Change, changes}
@@ -47,7 +47,7 @@ place_proper c w = held (find_held w.book.entries c.print)
     free none = proper_refused 11
     free (some p) = proper_accepted _
 
-    check : (t : Bool) (d : Placed) → Proper (if t then accepted d else refused 11)
+    check : (t : Bool) (d : Placed) → Proper (when t then accepted d else refused 11)
     check true d = proper_accepted d
     check false d = proper_refused 10
 
@@ -81,7 +81,7 @@ clear_proper : (v until lbn before : ℕ) (x : Book) → Proper (clear_cell v un
 unfolding clear_cell
 clear_proper v until lbn before x = go (eqb before unmapped)
   where
-    go : (t : Bool) → Proper (if t then accepted x else unless (clear_number x before) (accepted (cleared v until lbn before x)))
+    go : (t : Bool) → Proper (when t then accepted x else unless (clear_number x before) (accepted (cleared v until lbn before x)))
     go true = proper_accepted x
     go false = proper_unless (clear_number x before) _ (proper_accepted _)
 

@@ -9,7 +9,7 @@ use lib.Dec.{leb, eqb}
 use lib.ListN.{length, get_or}
 use borrow.Author.Tests.{leb-true, le-leb, lt-leb, eq-eqb, ne_eqb}
 use Rattle.words.proofs.Accepted.{refused_not, then-accepted}
-use Rattle.words.specs.Choice.{if◌then◌else◌}
+use Rattle.words.specs.Choice.{when◌then◌else◌}
 use Rattle.words.proofs.ChoiceLaws.{and_true, same_test}
 use Rattle.words.specs.Numbers.{num}
 use Rattle.words.specs.Outcome.{Outcome, refused, accepted, and_then}
@@ -43,8 +43,8 @@ module _ (b : List ℕ) where
       go (leb (length b) at) (is_call b at) (bound-same m n (at + call_size b at) (omega arith) (omega arith))
     where
       go : (t u : Bool) → calls_from m b (at + call_size b at) ≡ calls_from n b (at + call_size b at)
-          → (if t then accepted [] else if u then and_then (calls_from m b (at + call_size b at)) (before (call_at b at)) else refused 19)
-          ≡ (if t then accepted [] else if u then and_then (calls_from n b (at + call_size b at)) (before (call_at b at)) else refused 19)
+          → (when t then accepted [] else when u then and_then (calls_from m b (at + call_size b at)) (before (call_at b at)) else refused 19)
+          ≡ (when t then accepted [] else when u then and_then (calls_from n b (at + call_size b at)) (before (call_at b at)) else refused 19)
       go true u e = refl
       go false true e = ap (λ (o : Outcome (List Asked)). and_then o (before (call_at b at))) e
       go false false e = refl
@@ -63,14 +63,14 @@ module _ (b : List ℕ) where
   pub calls-refused : (n at k : ℕ) → calls_from n b at ≡ refused k → k ≡ 19
   calls-refused zero at k e = go (leb (length b) at) e
     where
-      go : (t : Bool) → ◌≡◌ {A = Outcome (List Asked)} (if t then accepted [] else refused 19) (refused k) → k ≡ 19
+      go : (t : Bool) → ◌≡◌ {A = Outcome (List Asked)} (when t then accepted [] else refused 19) (refused k) → k ≡ 19
       go true f = absurd (refused_not k [] (sym f))
       go false f = cc
   calls-refused (suc n) at k e =
       go (leb (length b) at) (is_call b at) (calls_from n b (at + call_size b at)) (calls-refused n (at + call_size b at)) e
     where
       go : (t u : Bool) (o : Outcome (List Asked)) → ((j : ℕ) → o ≡ refused j → j ≡ 19)
-          → (if t then accepted [] else if u then and_then o (before (call_at b at)) else refused 19) ≡ refused k → k ≡ 19
+          → (when t then accepted [] else when u then and_then o (before (call_at b at)) else refused 19) ≡ refused k → k ≡ 19
       go true u o ih f = absurd (refused_not k [] (sym f))
       go false true (refused j) ih f = ih k f
       go false true (accepted cs) ih f = absurd (refused_not k (call_at b at ∷ cs) (sym f))

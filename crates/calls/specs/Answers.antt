@@ -1,7 +1,7 @@
 -- Answers in bytes: a tag, then numbers or blocks; the longest answer that a call can have.
 use Rattle.std.specs.Prelude.{ℕ, ◌+◌, ◌*◌, List, ◌∷◌, ◌++◌, map, eqb, length}
 use Rattle.words.specs.Blocks.{block_size}
-use Rattle.words.specs.Choice.{if◌then◌else◌}
+use Rattle.words.specs.Choice.{when◌then◌else◌}
 use Rattle.words.specs.Lists.{sum}
 use Rattle.words.specs.Numbers.{two}
 use Rattle.words.specs.Sections.{flat}
@@ -10,7 +10,7 @@ use Rattle.calls.specs.Asked.{Asked, listed, restore, Reply, answer, run}
 
 -- three numbers are a backup's, and any other call answers one
 abbrev pub gave_tag : ℕ → ℕ
-gave_tag many = if eqb many 3 then 1 else 2
+gave_tag many = when eqb many 3 then 1 else 2
 
 -- "tag byte 0 number, 1 backed, 2 one number (a collect's freed, a retire's cells), 3 block, 4 sound, then the numbers as u16 or the 512
 -- bytes"
@@ -18,7 +18,7 @@ abbrev pub answer_bytes : Answer → List ℕ
 answer_bytes (number k) = 0 ∷ two k
 answer_bytes (gave ns) = gave_tag (length ns) ∷ flat two ns
 answer_bytes (block b) = 3 ∷ b
-answer_bytes (sound t) = 4 ∷ two (if t then 1 else 0)
+answer_bytes (sound t) = 4 ∷ two (when t then 1 else 0)
 
 -- "5 run, then how many blocks as u16 and these"
 abbrev pub reply_bytes : Reply → List ℕ
@@ -46,7 +46,7 @@ most_of xs = sum (map longest_reply xs)
 -- the same by the kind in the call's head, and its last argument
 unfoldable pub longest_of : ℕ → ℕ → ℕ
 longest_of kind d =
-    if eqb kind 1 then 7 else
-    if eqb kind 3 then 1 + block_size else
-    if eqb kind 5 then 3 + d * block_size else
+    when eqb kind 1 then 7 else
+    when eqb kind 3 then 1 + block_size else
+    when eqb kind 5 then 3 + d * block_size else
     3

@@ -1,6 +1,6 @@
 -- Calls in bytes: a head of 14 bytes and its data, one after the other to the end (docs/FORMAT.md).
 use Rattle.std.specs.Prelude.{ℕ, zero, suc, ◌+◌, ◌*◌, Bool, false, ◌&&◌, List, [], ◌∷◌, leb, eqb, length, get_or}
-use Rattle.words.specs.Choice.{if◌then◌else◌}
+use Rattle.words.specs.Choice.{when◌then◌else◌}
 use Rattle.words.specs.Numbers.{num}
 use Rattle.words.specs.Outcome.{Outcome, refused, accepted, and_then}
 use Rattle.words.specs.Sections.{part}
@@ -22,25 +22,25 @@ call_size b at = head_size + data_size b at
 -- "What a kind doesn't use is zero, and only a backup has data"; an unknown kind is no call
 unfoldable pub unused_zero : ℕ → ℕ → ℕ → ℕ → ℕ → ℕ → Bool
 unused_zero kind a b c d size =
-    if eqb kind 0 then eqb c 0 && eqb d 0 && eqb size 0 else
-    if eqb kind 1 then eqb c 0 && eqb d 0 else
-    if eqb kind 2 then eqb b 0 && eqb c 0 && eqb d 0 && eqb size 0 else
-    if eqb kind 3 then eqb d 0 && eqb size 0 else
-    if eqb kind 4 then eqb a 0 && eqb b 0 && eqb c 0 && eqb d 0 && eqb size 0 else
-    if eqb kind 5 then eqb size 0 else
-    if eqb kind 6 then eqb c 0 && eqb d 0 && eqb size 0 else
+    when eqb kind 0 then eqb c 0 && eqb d 0 && eqb size 0 else
+    when eqb kind 1 then eqb c 0 && eqb d 0 else
+    when eqb kind 2 then eqb b 0 && eqb c 0 && eqb d 0 && eqb size 0 else
+    when eqb kind 3 then eqb d 0 && eqb size 0 else
+    when eqb kind 4 then eqb a 0 && eqb b 0 && eqb c 0 && eqb d 0 && eqb size 0 else
+    when eqb kind 5 then eqb size 0 else
+    when eqb kind 6 then eqb c 0 && eqb d 0 && eqb size 0 else
     false
 
 -- "0 enrol (a volume, b retention), 1 backup (a volume, b day; the data is the change list), 2 collect (a day), 3 read (a volume, b number,
 -- c LBN), 4 audit, 5 restore (a volume, b number, c first LBN, d length), 6 retire (a volume, b day)"
 unfoldable pub call_of : ℕ → ℕ → ℕ → ℕ → ℕ → List ℕ → Asked
 call_of kind a b c d list =
-    if eqb kind 0 then listed (enrol a b) else
-    if eqb kind 1 then listed (backup a b list) else
-    if eqb kind 2 then listed (collect a) else
-    if eqb kind 3 then listed (read a b c) else
-    if eqb kind 5 then restore a b c d else
-    if eqb kind 6 then listed (retire a b) else
+    when eqb kind 0 then listed (enrol a b) else
+    when eqb kind 1 then listed (backup a b list) else
+    when eqb kind 2 then listed (collect a) else
+    when eqb kind 3 then listed (read a b c) else
+    when eqb kind 5 then restore a b c d else
+    when eqb kind 6 then listed (retire a b) else
     listed audit
 
 -- ---- the call at an offset
@@ -63,10 +63,10 @@ before a xs = accepted (a ∷ xs)
 
 -- the calls from an offset to the end, n at most
 abbrev pub calls_from : ℕ → List ℕ → ℕ → Outcome (List Asked)
-calls_from zero b at = if leb (length b) at then accepted [] else refused 19
+calls_from zero b at = when leb (length b) at then accepted [] else refused 19
 calls_from (suc n) b at =
-    if leb (length b) at then accepted [] else
-    if is_call b at then and_then (calls_from n b (at + call_size b at)) (before (call_at b at)) else
+    when leb (length b) at then accepted [] else
+    when is_call b at then and_then (calls_from n b (at + call_size b at)) (before (call_at b at)) else
     refused 19
 
 -- no list has more calls than bytes

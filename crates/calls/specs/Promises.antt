@@ -1,6 +1,6 @@
 -- What a list of calls in bytes leaves and answers, for all inputs, by the run of `model`.
 use Rattle.std.specs.Prelude.{ℕ, ◌≡◌, List, ◌++◌, ltb, leb, length, drop}
-use Rattle.words.specs.Choice.{if◌then◌else◌}
+use Rattle.words.specs.Choice.{when◌then◌else◌}
 use Rattle.words.specs.Outcome.{Outcome, accepted, and_then, unless}
 use Rattle.words.specs.Sections.{flat}
 use Rattle.model.specs.OnBytes.{number_of, after}
@@ -20,10 +20,10 @@ answered spare o xs = flat reply_bytes (replies_of spare o xs)
 
 -- an answers buffer of n bytes, whose length is told in 32 bits
 unfoldable pub room_of : ℕ → ℕ
-room_of n = if leb n 4294967295 then n else 4294967295
+room_of n = when leb n 4294967295 then n else 4294967295
 
 unfoldable pub room_number : ℕ → ℕ → ℕ
-room_number room most = if ltb room most then 20 else 0
+room_number room most = when ltb room most then 20 else 0
 
 unfoldable pub playable : List ℕ → ℕ → Outcome (List Asked)
 playable calls room = and_then (calls_of calls) (λ xs. unless (room_number room (most_of xs)) (accepted xs))

@@ -5,7 +5,7 @@ use mathlib.Core.Bool.{Bool, true, false}
 use mathlib.Core.List.{List, [], ◌∷◌, map}
 use lib.ListN.{length, get_or, take}
 use Rattle.words.specs.Blocks.{unmapped}
-use Rattle.words.specs.Choice.{if◌then◌else◌}
+use Rattle.words.specs.Choice.{when◌then◌else◌}
 use Rattle.book.specs.Book.{Sizes, Entry, Book, no_print}
 use Rattle.book.specs.Next.{new_sizes}
 use Rattle.book.specs.Layout.{book_of}
@@ -44,7 +44,7 @@ call_of (row c a k es ms) = c
 
 -- an entry's block has the bytes of its letter
 abbrev pub block_in : Kept → Block
-block_in (ent h n x f) = if h then held f (block_of (get_or f 0 0)) else free
+block_in (ent h n x f) = when h then held f (block_of (get_or f 0 0)) else free
 
 unfoldable pub plain_of : Row → PlainRow
 plain_of (row c a k es ms) = plain_row c a k (map block_in es) ms

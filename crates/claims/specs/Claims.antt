@@ -2,7 +2,7 @@
 -- of what backup's numbers count, backup finds and audit says. Statements only; the proofs are in proofs/claims.
 use Rattle.std.specs.Prelude.{ℕ, ◌+◌, ◌-◌, ◌*◌, ◌≤◌, ◌<◌, ◌≡◌, ◌≢◌, Bool, true, false, not, ◌&&◌, ◌||◌, List, [], ◌∷◌, ◌++◌, length, get_or, set, drop, leb, eqb}
 use Rattle.words.specs.Blocks.{unmapped}
-use Rattle.words.specs.Choice.{if◌then◌else◌}
+use Rattle.words.specs.Choice.{when◌then◌else◌}
 use Rattle.words.specs.Lists.{all, some_of, count_of, joined}
 use Rattle.words.specs.Outcome.{Outcome, accepted}
 use Rattle.runs.specs.Changes.{lbns, change_count}
@@ -183,7 +183,7 @@ pub record IsLowest (es : List Entry) (f : List ℕ) (p : ℕ) : Type 0 where
 
 -- how many blocks are passed from block c up to q, "going round after N − 1"
 unfoldable pub passed : ℕ → ℕ → ℕ → ℕ
-passed n c q = if leb c q then q - c else q + (n - c)
+passed n c q = when leb c q then q - c else q + (n - c)
 
 -- "the first free block from the cursor up"
 pub record IsNext (es : List Entry) (c p : ℕ) : Type 0 where

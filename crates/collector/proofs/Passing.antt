@@ -7,7 +7,7 @@ use native.Mathlib.Omega.{arith}
 use lib.ListN.{length, get_or, take, set}
 use lib.Seq.{take-suc}
 use Rattle.words.proofs.Appends.{count_of_append}
-use Rattle.words.specs.Choice.{if◌then◌else◌}
+use Rattle.words.specs.Choice.{when◌then◌else◌}
 use Rattle.words.specs.Lists.{bit}
 use Rattle.words.specs.Lists.{count_of}
 
@@ -41,7 +41,7 @@ module _ {A : Type 0} where
     one : (x : A) → count_of g (x ∷ []) ≡ bit (g x)
     one x = go (g x)
       where
-        go : (t : Bool) → (if t then 1 else 0) ≡ bit t
+        go : (t : Bool) → (when t then 1 else 0) ≡ bit t
         go true = refl
         go false = refl
 

@@ -1,6 +1,6 @@
 -- What counting a book leaves, for all inputs: its number, and the four answers of a book in form.
 use Rattle.std.specs.Prelude.{ℕ, ◌≡◌, List, eqb}
-use Rattle.words.specs.Choice.{if◌then◌else◌}
+use Rattle.words.specs.Choice.{when◌then◌else◌}
 use Rattle.words.specs.Lent.{Lent}
 use Rattle.book.specs.Layout.{told}
 use Rattle.book.specs.Form.{form_number}
@@ -8,7 +8,7 @@ use Rattle.counter.specs.Sums
 
 -- an answer is written only where nothing refuses
 abbrev pub answered : List ℕ → ℕ → ℕ → ℕ
-answered b new old = if eqb (form_number b) 0 then new else old
+answered b new old = when eqb (form_number b) 0 then new else old
 
 -- what an answer is after the call
 abbrev pub answer : Lent (List ℕ) → ℕ → Lent ℕ → ℕ

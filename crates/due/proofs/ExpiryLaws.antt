@@ -10,7 +10,7 @@ use lib.Dec.{eqb}
 use lib.ListN.{length, get_or, drop, set, length-set}
 use lib.Seq.{slice, slice-cons, slice_empty}
 use borrow.Author.Tests.{eqb-true, ne_eqb}
-use Rattle.words.specs.Choice.{if◌then◌else◌}
+use Rattle.words.specs.Choice.{when◌then◌else◌}
 use Rattle.words.proofs.SetLaws.{get_d_set}
 use Rattle.words.proofs.Tests.{eqb_swap}
 use Rattle.book.specs.Book.{Rec, Book, no_rec, rec_at}
@@ -31,14 +31,14 @@ raised-past a u c h = raised-none a (until_one u c) (λ p k. rw (ne_eqb c p (λ 
 pub raised-kept : (a : List ℕ) (u c : ℕ) → u ≤ get_or a c 0 → Raised a (until_one u c) a
 raised-kept a u c h = raised-none a (until_one u c) (λ p k. go p (eqb c p) refl)
   where
-    go : (p : ℕ) (t : Bool) → eqb c p ≡ t → (if t then u else 0) ≤ get_or a p 0
+    go : (p : ℕ) (t : Bool) → eqb c p ≡ t → (when t then u else 0) ≤ get_or a p 0
     go p true e = rw (← (eqb-true c p e)) h
     go p false e = omega arith
 
 pub raised-set : (a : List ℕ) (u c : ℕ) → c < length a → get_or a c 0 ≤ u → Raised a (until_one u c) (set a c u)
 raised-set a u c h k = record { long = length-set a c u; at = λ p _. rw (get_d_set a c p u 0 h, eqb_swap p c) (go p (eqb c p) refl) }
   where
-    go : (p : ℕ) (t : Bool) → eqb c p ≡ t → (if t then u else get_or a p 0) ≡ max (get_or a p 0) (if t then u else 0)
+    go : (p : ℕ) (t : Bool) → eqb c p ≡ t → (when t then u else get_or a p 0) ≡ max (get_or a p 0) (when t then u else 0)
     go p true e = rw (← (eqb-true c p e)) (omega arith)
     go p false e = omega arith
 
@@ -64,7 +64,7 @@ until-more : (u : ℕ) (rs : List Rec) (q e : ℕ) → q < e → e ≤ length rs
 until-more u rs q e h k p =
     rw (slice-cons q e rs no_rec h k, add-one q) (go (eqb (rec_at rs q).before p) (has_before p (slice (suc q) e rs)))
   where
-    go : (s t : Bool) → (if s || t then u else 0) ≡ max (if s then u else 0) (if t then u else 0)
+    go : (s t : Bool) → (when s || t then u else 0) ≡ max (when s then u else 0) (when t then u else 0)
     go true true = omega arith
     go true false = omega arith
     go false t = omega arith

@@ -8,7 +8,7 @@ use native.Mathlib.Numerals.{add-one}
 use native.Mathlib.Omega.{arith}
 use lib.Dec.{eqb}
 use lib.ListN.{length, get_or, set, replicate, length-set}
-use Rattle.words.specs.Choice.{if◌then◌else◌}
+use Rattle.words.specs.Choice.{when◌then◌else◌}
 use Rattle.words.proofs.Places.{get_or_replicated}
 use Rattle.words.proofs.SetLaws.{get_d_set}
 use Rattle.words.proofs.Tests.{eqb_swap}
@@ -28,7 +28,7 @@ last-low x p v zero h = omega arith
 last-low x p v (suc q) h =
     rw (← (add-one q), last-next x q v (omega arith)) (go (eqb (slot_at x.slots q).volume v) (last-low x p v q (omega arith)))
   where
-    go : (t : Bool) → last_before x q v ≤ x.day → (if t then (slot_at x.slots q).day else last_before x q v) ≤ x.day
+    go : (t : Bool) → last_before x q v ≤ x.day → (when t then (slot_at x.slots q).day else last_before x q v) ≤ x.day
     go true l = (slot_in x p q (omega arith)).1
     go false l = l
 
@@ -51,6 +51,6 @@ module _ (x : Book) (q : ℕ) (h : q < length x.slots) {a : List ℕ} (l : Lasts
             ∙ rw (last-next x q w h, ← e, ← f, eqb_swap w v) (go w m (eqb v w));
       }
     where
-      go : (w : ℕ) → w < volumes → (t : Bool) → (if t then d else get_or a w 0) ≡ (if t then d else last_before x q w)
+      go : (w : ℕ) → w < volumes → (t : Bool) → (when t then d else get_or a w 0) ≡ (when t then d else last_before x q w)
       go w m true = refl
       go w m false = l.at w m

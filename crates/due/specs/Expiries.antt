@@ -1,6 +1,6 @@
 -- An expiry for each block of the pool, raised record by record.
 use Rattle.std.specs.Prelude.{ℕ, ◌<◌, max, ◌≡◌, List, eqb, length, get_or}
-use Rattle.words.specs.Choice.{if◌then◌else◌}
+use Rattle.words.specs.Choice.{when◌then◌else◌}
 use Rattle.book.specs.Book.{Rec}
 use Rattle.model.specs.Audit.{has_before}
 use Rattle.due.specs.Pool.{pool_blocks}
@@ -12,8 +12,8 @@ pub record Raised (a : List ℕ) (f : ℕ → ℕ) (a' : List ℕ) : Type 0 wher
 
 -- u for the block c alone
 abbrev pub until_one : ℕ → ℕ → ℕ → ℕ
-until_one u c p = if eqb c p then u else 0
+until_one u c p = when eqb c p then u else 0
 
 -- u for each before of the records
 abbrev pub until_each : ℕ → List Rec → ℕ → ℕ
-until_each u rs p = if has_before p rs then u else 0
+until_each u rs p = when has_before p rs then u else 0

@@ -12,7 +12,7 @@ use lib.Seq.{ext_get_or}
 use borrow.Author.Tests.{eqb-true, eq-eqb, ne_eqb}
 use Rattle.words.proofs.ChoiceLaws.{not_both}
 use Rattle.words.specs.Blocks.{print_size}
-use Rattle.words.specs.Choice.{if◌then◌else◌}
+use Rattle.words.specs.Choice.{when◌then◌else◌}
 use Rattle.words.specs.Lists.{same}
 use Rattle.words.proofs.Same.{same_self, same_equal}
 use Rattle.words.proofs.Tests.{surely_not}
@@ -49,7 +49,7 @@ module _ (a b : List ℕ) where
   agree_in (suc i) = go (eqb (get_or a i 0) (get_or b i 0)) refl (agree_in i)
     where
       go : (t : Bool) → eqb (get_or a i 0) (get_or b i 0) ≡ t → FarAgreement a b i (agreeing_in i a b)
-          → FarAgreement a b (suc i) (if t then suc (agreeing_in i a b) else 0)
+          → FarAgreement a b (suc i) (when t then suc (agreeing_in i a b) else 0)
       go true e s = agree-more i (agreeing_in i a b) (eqb-true (get_or a i 0) (get_or b i 0) e) s
       go false e s = agree-none i (λ z. not_both (eqb (get_or a i 0) (get_or b i 0)) (eq-eqb (get_or a i 0) (get_or b i 0) z) e)
 

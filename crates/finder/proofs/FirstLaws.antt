@@ -11,7 +11,7 @@ use lib.Dec.{eqb}
 use lib.ListN.{length, get_or, drop, length-drop}
 use lib.Seq.{get_or-drop}
 use borrow.Author.Tests.{eq-eqb, ne_eqb}
-use Rattle.words.specs.Choice.{if◌then◌else◌}
+use Rattle.words.specs.Choice.{when◌then◌else◌}
 use Rattle.words.proofs.ChoiceLaws.{not_both}
 use Rattle.words.proofs.FoundPlaces.{place_found, place-first, place_none}
 use Rattle.words.specs.Lists.{some_of, place_from}
@@ -94,7 +94,7 @@ module _ {A : Type 0} (f : A → Bool) (xs : List A) (d : A) where
   some-found i [] o e = ap found e
   some-found i (y ∷ ys) o e = go (f y) e (some-found (suc i) ys o)
     where
-      go : (t : Bool) → (if t then some i else place_from (suc i) f ys) ≡ o
+      go : (t : Bool) → (when t then some i else place_from (suc i) f ys) ≡ o
           → (place_from (suc i) f ys ≡ o → some_of f ys ≡ found o) → (t || some_of f ys) ≡ found o
       go true k ih = ap found k
       go false k ih = ih k

@@ -13,7 +13,7 @@ use borrow.Author.Count.{below_more}
 use borrow.Author.Tests.{eq-eqb, ne_eqb, eqb-true, eqb-false}
 use Rattle.words.proofs.Parts.{drop-take}
 use Rattle.words.proofs.Ranges.{below_or_not}
-use Rattle.words.specs.Choice.{if◌then◌else◌}
+use Rattle.words.specs.Choice.{when◌then◌else◌}
 use Rattle.words.specs.Lists.{first_that}
 use Rattle.book.specs.Book.{Rec, Book, no_rec, slot_at, rec_at, cell_at}
 use Rattle.book.specs.Form.{pairs_ok}
@@ -65,7 +65,7 @@ module _ (x : Book) where
     where
       go : (l : ℕ) (t : Bool) → eqb r.lbn l ≡ t → get_or a' l 0 ≡ first_before l rs (get_or a l 0)
           → get_or (set a' r.lbn r.before) l 0
-          ≡ before_or (get_or a l 0) (if t then some r else first_that (λ r. eqb r.lbn l) rs)
+          ≡ before_or (get_or a l 0) (when t then some r else first_that (λ r. eqb r.lbn l) rs)
       go l true e ih = rw (← (eqb-true r.lbn l e)) (get_or-set_same a' r.lbn r.before 0 i)
       go l false e ih = get_or-set_other a' r.lbn l r.before 0 (λ q. eqb-false r.lbn l e (sym q)) ∙ ih
 

@@ -8,7 +8,7 @@ use native.Mathlib.Omega.{arith}
 use lib.Dec.{eqb}
 use lib.ListN.{length, get_or}
 use borrow.Author.Tests.{eqb-true, eqb-false, ne_eqb}
-use Rattle.words.specs.Choice.{if◌then◌else◌}
+use Rattle.words.specs.Choice.{when◌then◌else◌}
 use Rattle.runs.specs.Changes.{change_at}
 use Rattle.book.specs.Book.{Entry, entry_at}
 use Rattle.model.specs.Pool.{pool_size, block_at, with_block}
@@ -51,7 +51,7 @@ module _ (old new : List Entry) (taker list pool₀ : List ℕ) where
       above = λ q l. block_with pool c p (length old) h s.size hc q ∙ rw (ne_eqb q p (λ z. omega arith)) (s.above q (omega arith));
     }
       where
-        go : (q : ℕ) → q < p + 1 → (t : Bool) → eqb q p ≡ t → (if t then c else block_at pool q) ≡ block_now old new taker list pool₀ q
+        go : (q : ℕ) → q < p + 1 → (t : Bool) → eqb q p ≡ t → (when t then c else block_at pool q) ≡ block_now old new taker list pool₀ q
         go q l true z = rw (eqb-true q p z) (sym e)
         go q l false z = s.below q (let d = eqb-false q p z in omega arith)
 
@@ -60,7 +60,7 @@ module _ (old new : List Entry) (taker list pool₀ : List ℕ) where
     stored_more = go (entry_at old p).held (entry_at new p).held refl refl
       where
         go : (t u : Bool) → (entry_at old p).held ≡ t → (entry_at new p).held ≡ u
-            → Stored (if t then pool else if u then with_block pool p (change_at list (get_or taker p 0)).block else pool) (p + 1)
+            → Stored (when t then pool else when u then with_block pool p (change_at list (get_or taker p 0)).block else pool) (p + 1)
         go true true e f = kept (rw (f, e))
         go true false e f = kept (rw f)
         go false true e f = wrote (change_at list (get_or taker p 0)).block (k.whole (get_or taker p 0) (k.marks p e f)) (rw (f, e))

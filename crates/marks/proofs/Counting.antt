@@ -10,7 +10,7 @@ use lib.Dec.{eqb}
 use borrow.Author.Tests.{ne_eqb}
 use lib.ListN.{length, get_or, drop, drop_of_length-le, length-append}
 use lib.Seq.{drop-cons}
-use Rattle.words.specs.Choice.{if◌then◌else◌}
+use Rattle.words.specs.Choice.{when◌then◌else◌}
 use Rattle.words.specs.Lists.{bit}
 use Rattle.words.proofs.Prefixes.{bit-one}
 use Rattle.runs.specs.Writer.{run_before, marked_pairs, marked_from}
@@ -32,7 +32,7 @@ ended-length : (i k m : ℕ) → length (ended_run i k m) ≡ length (ended_run 
 unfolding ended_run
 ended-length i k m = go (goes_on k m) k
   where
-    go : (t : Bool) (k : ℕ) → length (if t then [] else run_before i k) ≡ length (if t then [] else run_before 0 k)
+    go : (t : Bool) (k : ℕ) → length (when t then [] else run_before i k) ≡ length (when t then [] else run_before 0 k)
     go true k = refl
     go false zero = refl
     go false (suc k) = refl
@@ -45,7 +45,7 @@ few : (t : Tally) (m : ℕ) → ((counted t m).runs + (counted t m).row ≤ t.ru
 unfolding counted ended_run row_after
 few t m = (go (goes_on t.row m) t.row, omega (arith, bit-one (eqb m 1)))
   where
-    go : (b : Bool) (k : ℕ) → t.runs + length (if b then [] else run_before 0 k) + (if b then k + 1 else bit (eqb m 1)) ≤ t.runs + k + 1
+    go : (b : Bool) (k : ℕ) → t.runs + length (when b then [] else run_before 0 k) + (when b then k + 1 else bit (eqb m 1)) ≤ t.runs + k + 1
     go true k = omega arith
     go false zero = omega (arith, bit-one (eqb m 1))
     go false (suc k) = omega (arith, bit-one (eqb m 1))

@@ -11,7 +11,7 @@ use lib.Dec.{ltb, eqb}
 use borrow.Author.Tests.{lt-ltb, le-ltb, eq-eqb, ne_eqb}
 use lib.ListN.{length, get_or, drop, drop_of_length-le}
 use lib.Seq.{drop-cons}
-use Rattle.words.specs.Choice.{if◌then◌else◌}
+use Rattle.words.specs.Choice.{when◌then◌else◌}
 use Rattle.words.specs.Lists.{bit}
 use Rattle.words.proofs.Prefixes.{bit-one}
 use Rattle.words.proofs.Ranges.{below_or_not}
@@ -38,7 +38,7 @@ module _ (k m : ℕ) where
   unfolding goes_on row_after
   row-grows r = go (eqb m 1) (below_or_not k max_run)
     where
-      go : (t : Bool) → (k < max_run) ⊎ (max_run ≤ k) → r ≡ (if t && ltb k max_run then k + 1 else bit t) → k < r → (t && ltb k max_run) ≡ true
+      go : (t : Bool) → (k < max_run) ⊎ (max_run ≤ k) → r ≡ (when t && ltb k max_run then k + 1 else bit t) → k < r → (t && ltb k max_run) ≡ true
       go true (inl less) f h = lt-ltb k max_run less
       go true (inr full) f h = absurd (let g = rw (le-ltb k max_run full) at f in omega arith)
       go false _ f h = absurd (omega arith)
@@ -47,7 +47,7 @@ module _ (k m : ℕ) where
   unfolding row_after
   row_stops r = go (goes_on k m)
     where
-      go : (t : Bool) → r ≡ (if t then k + 1 else bit (eqb m 1)) → r ≤ k → t ≡ false
+      go : (t : Bool) → r ≡ (when t then k + 1 else bit (eqb m 1)) → r ≤ k → t ≡ false
       go true f h = absurd (omega arith)
       go false f h = refl
 
@@ -68,7 +68,7 @@ module _ (i k m : ℕ) where
   unfolding ended_run
   ended-none e = rw e (go (goes_on 0 m))
     where
-      go : (t : Bool) → (if t then [] else run_before i 0) ≡ []
+      go : (t : Bool) → (when t then [] else run_before i 0) ≡ []
       go true = refl
       go false = refl
 

@@ -6,7 +6,7 @@ use mathlib.Core.List.{List, ◌++◌}
 use native.Mathlib.Omega.{arith}
 use lib.Dec.{eqb}
 use lib.ListN.{length, get_or, drop}
-use Rattle.words.specs.Choice.{if◌then◌else◌}
+use Rattle.words.specs.Choice.{when◌then◌else◌}
 use Rattle.words.specs.Lists.{bit}
 use Rattle.words.proofs.Prefixes.{bit-one}
 use Rattle.words.specs.Sections.{flat}
@@ -67,6 +67,6 @@ pub row_room : {out out' : List ℕ} {p r : Progress} {i m : ℕ} → Passed out
 unfolding row_after
 row_room {p = p} {i = i} {m = m} s h = rw s.row (go (goes_on p.row m))
   where
-    go : (t : Bool) → (if t then p.row + 1 else bit (eqb m 1)) ≤ i + 1
+    go : (t : Bool) → (when t then p.row + 1 else bit (eqb m 1)) ≤ i + 1
     go true = omega arith
     go false = omega (arith, bit-one (eqb m 1))

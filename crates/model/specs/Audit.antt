@@ -1,7 +1,7 @@
 -- Audit (document 01, "Audit says yes exactly when").
 use Rattle.std.specs.Prelude.{ℕ, ◌+◌, max, Bool, true, not, ◌&&◌, ◌||◌, List, [], ◌∷◌, map, get_or, set, replicate, eqb}
 use Rattle.words.specs.Blocks.{unmapped}
-use Rattle.words.specs.Choice.{if◌then◌else◌}
+use Rattle.words.specs.Choice.{when◌then◌else◌}
 use Rattle.words.specs.Lists.{all, some_of, those, count_of, joined, same, differ, up_from}
 use Rattle.book.specs.Book.{volumes, Rec, Book, entry_at, retention_of}
 use Rattle.model.specs.Days.{kept}
@@ -55,7 +55,7 @@ due_of r b = since_of b.prev + r
 
 abbrev pub until_in : Book → ℕ → List Backup → ℕ
 until_in x p [] = 0
-until_in x p (b ∷ bs) = max (if has_before p b.records then due_of (retention_of x b.volume) b else 0) (until_in x p bs)
+until_in x p (b ∷ bs) = max (when has_before p b.records then due_of (retention_of x b.volume) b else 0) (until_in x p bs)
 
 unfoldable pub expiry_sound : Book → ℕ → Bool
 expiry_sound x p = eqb (entry_at x.entries p).expiry (until_in x p (journal x))

@@ -1,7 +1,7 @@
 -- Audit by the rules that books of layout 2 were kept by (document 01): days counted from the backup that replaced another. Nothing goes by them
 -- any more; they say what a sound book of that layout is.
 use Rattle.std.specs.Prelude.{ℕ, ◌+◌, max, Bool, true, not, ◌&&◌, ◌||◌, List, [], ◌∷◌, length, drop, leb, eqb}
-use Rattle.words.specs.Choice.{if◌then◌else◌}
+use Rattle.words.specs.Choice.{when◌then◌else◌}
 use Rattle.words.specs.Lists.{all, up_from}
 use Rattle.book.specs.Book.{volumes, Book, entry_at, retention_of}
 use Rattle.model.specs.Journal.{Backup, journal, days}
@@ -19,7 +19,7 @@ kept_two ds r d k = kept_before (drop k ds) r d
 -- "each expiry is the largest slot day plus retention over records with that before, 0 if none"
 abbrev pub until_two : Book → ℕ → List Backup → ℕ
 until_two x p [] = 0
-until_two x p (b ∷ bs) = max (if has_before p b.records then b.day + retention_of x b.volume else 0) (until_two x p bs)
+until_two x p (b ∷ bs) = max (when has_before p b.records then b.day + retention_of x b.volume else 0) (until_two x p bs)
 
 unfoldable pub expiry_two : Book → ℕ → Bool
 expiry_two x p = eqb (entry_at x.entries p).expiry (until_two x p (journal x))

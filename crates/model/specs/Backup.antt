@@ -2,7 +2,7 @@
 use Rattle.std.specs.Prelude.{ℕ, suc, ◌+◌, ◌-◌, ◌%◌, max, false, not, ◌&&◌, ◌||◌, List, [], ◌∷◌, length, take, drop, set, leb, ltb, eqb}
 use Rattle.std.proofs.Math.Option.{Option, none, some}
 use Rattle.words.specs.Blocks.{unmapped}
-use Rattle.words.specs.Choice.{if◌then◌else◌}
+use Rattle.words.specs.Choice.{when◌then◌else◌}
 use Rattle.words.specs.Lists.{place_from, or_else, same, last_of}
 use Rattle.words.specs.Outcome.{Outcome, refused, accepted, and_then, unless}
 use Rattle.runs.specs.Changes.{Change, changes, change_count, list_number}
@@ -15,11 +15,11 @@ use Rattle.model.specs.Pool.{block_at, with_block}
 -- numbers 5 to 10
 unfoldable pub backup_number : Book → ℕ → ℕ → List ℕ → ℕ
 backup_number x v t list =
-    if no_living x v then 5 else
-    if bad_day x.day t || not_after (days x v) t then 7 else
-    if not (eqb (list_number x.sizes.l list) 0) then 8 else
-    if leb x.sizes.s (length x.slots) then 9 else
-    if ltb x.sizes.j (length x.records + change_count list) then 10 else
+    when no_living x v then 5 else
+    when bad_day x.day t || not_after (days x v) t then 7 else
+    when not (eqb (list_number x.sizes.l list) 0) then 8 else
+    when leb x.sizes.s (length x.slots) then 9 else
+    when ltb x.sizes.j (length x.records + change_count list) then 10 else
     0
 
 -- ---- the changes
@@ -60,7 +60,7 @@ place_free c w (some p) = accepted (record { pbn = p; work = take_block c p w })
 
 unfoldable pub place_held : Change → Work → Option ℕ → Outcome Placed
 place_held c w none = place_free c w (find_free w.book.entries w.book.cursor)
-place_held c w (some p) = if same (block_at w.pool p) c.block then accepted (record { pbn = p; work = w }) else refused 11
+place_held c w (some p) = when same (block_at w.pool p) c.block then accepted (record { pbn = p; work = w }) else refused 11
 
 unfoldable pub place : Change → Work → Outcome Placed
 place c w = place_held c w (find_held w.book.entries c.print)
@@ -71,7 +71,7 @@ unfoldable pub lowered : ℕ → Entry → Entry
 lowered until e = expiry_as (max e.expiry until) (count_as (e.count - 1) e)
 
 unfoldable pub lower : ℕ → ℕ → List Entry → List Entry
-lower until before es = if eqb before unmapped then es else set es before (lowered until (entry_at es before))
+lower until before es = when eqb before unmapped then es else set es before (lowered until (entry_at es before))
 
 -- step 4: "The found block's count rises by 1, the map names it, a record is added"
 unfoldable pub raised : Entry → Entry
@@ -86,8 +86,8 @@ name_block v lbn p es x =
 -- (document 02, K3)
 unfoldable pub move_number : ℕ → ℕ → ℕ → List Entry → ℕ
 move_number until before p es =
-    if not (eqb before unmapped) && eqb (entry_at es before).count 0 then 13 else
-    if eqb (entry_at (lower until before es) p).count 65535 then 14 else
+    when not (eqb before unmapped) && eqb (entry_at es before).count 0 then 13 else
+    when eqb (entry_at (lower until before es) p).count 65535 then 14 else
     0
 
 -- steps 3 and 4; touched is "n plus the changes that had a before"
@@ -96,7 +96,7 @@ moved v until lbn before d = record {
   book = name_block v lbn d.pbn (lower until before d.work.book.entries) d.work.book;
   pool = d.work.pool;
   taken = d.work.taken;
-  touched = d.work.touched + (if eqb before unmapped then 1 else 2);
+  touched = d.work.touched + (when eqb before unmapped then 1 else 2);
 }
 
 unfoldable pub move_to : ℕ → ℕ → ℕ → ℕ → Placed → Outcome Work

@@ -1,6 +1,6 @@
 -- Collect (document 01, "The calls"), from number 7 on.
 use Rattle.std.specs.Prelude.{ℕ, Bool, ◌&&◌, map, ltb, eqb}
-use Rattle.words.specs.Choice.{if◌then◌else◌}
+use Rattle.words.specs.Choice.{when◌then◌else◌}
 use Rattle.words.specs.Lists.{count_of}
 use Rattle.words.specs.Outcome.{Outcome, accepted, unless}
 use Rattle.book.specs.Book.{Entry, Book}
@@ -8,7 +8,7 @@ use Rattle.book.specs.Next.{with_day, with_entries, made_free}
 use Rattle.model.specs.Days.{bad_day}
 
 unfoldable pub collect_number : Book → ℕ → ℕ
-collect_number x t = if bad_day x.day t then 7 else 0
+collect_number x t = when bad_day x.day t then 7 else 0
 
 -- "each held block with count 0 and expiry < T"
 unfoldable pub is_over : ℕ → Entry → Bool
@@ -16,7 +16,7 @@ is_over t e = e.held && eqb e.count 0 && ltb e.expiry t
 
 -- .. "becomes free with a zero fingerprint and its expiry kept"
 unfoldable pub swept_entry : ℕ → Entry → Entry
-swept_entry t e = if is_over t e then made_free e else e
+swept_entry t e = when is_over t e then made_free e else e
 
 pub record Collected : Type 0 where
   pub book : Book

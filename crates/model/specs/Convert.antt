@@ -1,6 +1,6 @@
 -- The converters: a book of one layout, written in another (document 02, K3 and K4).
 use Rattle.std.specs.Prelude.{ℕ, Bool, List, leb, ltb}
-use Rattle.words.specs.Choice.{if◌then◌else◌}
+use Rattle.words.specs.Choice.{when◌then◌else◌}
 use Rattle.words.specs.Lists.{all}
 use Rattle.words.specs.Outcome.{Outcome, accepted, unless}
 use Rattle.words.specs.Sections.{tab}
@@ -13,7 +13,7 @@ use Rattle.model.specs.Journal.{journal}
 
 -- "4, which for the converter means an output shorter than the book to write"
 unfoldable pub room_number : ℕ → List ℕ → ℕ → ℕ
-room_number to b room = if ltb room (book_size (sizes_in to (sizes_of b))) then 4 else 0
+room_number to b room = when ltb room (book_size (sizes_in to (sizes_of b))) then 4 else 0
 
 -- From layout `from` to layout `to`, with what it asks of the book and what it makes of it; then the book's bytes and the output's length.
 -- 1 and 2 are those of layout `from`
@@ -29,7 +29,7 @@ is_narrow e = leb e.count 255
 
 -- 22: "going back, a count is above 255"
 unfoldable pub narrow_number : Book → ℕ
-narrow_number x = if all is_narrow x.entries then 0 else 22
+narrow_number x = when all is_narrow x.entries then 0 else 22
 
 -- "A converter takes a layout 1 book and writes a layout 2 book with every field equal"
 unfoldable pub to_two : List ℕ → ℕ → Outcome (List ℕ)

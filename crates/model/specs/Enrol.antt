@@ -1,6 +1,6 @@
 -- Enrol (document 01, "The calls"), from number 5 on.
 use Rattle.std.specs.Prelude.{ℕ, ◌||◌, ltb}
-use Rattle.words.specs.Choice.{if◌then◌else◌}
+use Rattle.words.specs.Choice.{when◌then◌else◌}
 use Rattle.words.specs.Outcome.{Outcome, accepted, unless}
 use Rattle.book.specs.Book.{Book}
 use Rattle.book.specs.Form.{enrolled}
@@ -10,8 +10,8 @@ use Rattle.model.specs.Days.{bad_retention}
 -- 5: "above 7, or enrolled for enrol"
 unfoldable pub enrol_number : Book → ℕ → ℕ → ℕ
 enrol_number x v r =
-    if ltb 7 v || enrolled x v then 5 else
-    if bad_retention r then 6 else
+    when ltb 7 v || enrolled x v then 5 else
+    when bad_retention r then 6 else
     0
 
 -- "Enrol takes volume and retention"

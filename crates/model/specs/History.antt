@@ -2,7 +2,7 @@
 use Rattle.std.specs.Prelude.{ℕ, ◌+◌, ◌*◌, Bool, true, false, not, ◌&&◌, ◌||◌, List, [], ◌∷◌, ◌++◌, map, length, take, leb, ltb, eqb}
 use Rattle.std.proofs.Math.Option.{Option, none, some}
 use Rattle.words.specs.Blocks.{block_size}
-use Rattle.words.specs.Choice.{if◌then◌else◌}
+use Rattle.words.specs.Choice.{when◌then◌else◌}
 use Rattle.words.specs.Lists.{some_of, or_else, joined, up_from}
 use Rattle.words.specs.Outcome.{Outcome, accepted, unless}
 use Rattle.words.specs.Sections.{flat}
@@ -38,10 +38,10 @@ unfoldable pub with_left : ℕ → History → History
 with_left t h = record { retention = h.retention; sent = h.sent; left = h.left ++ (t ∷ []) }
 
 abbrev pub noted : ℕ → History → Call → Answer → History
-noted v h (enrol u r) a = if eqb u v && is_accepted a then with_enrol r h else h
-noted v h (backup u t list) a = if eqb u v && is_accepted a then with_sent (record { day = t; changes = changes list }) h else h
+noted v h (enrol u r) a = when eqb u v && is_accepted a then with_enrol r h else h
+noted v h (backup u t list) a = when eqb u v && is_accepted a then with_sent (record { day = t; changes = changes list }) h else h
 noted v h (collect t) a = h
-noted v h (retire u t) a = if eqb u v && is_accepted a then with_left t h else h
+noted v h (retire u t) a = when eqb u v && is_accepted a then with_left t h else h
 noted v h (read u k lbn) a = h
 noted v h audit a = h
 
@@ -57,9 +57,9 @@ history_of v cs answers = history_from v no_history cs answers
 -- the header's day: the T of the last accepted backup, collect or retire
 abbrev pub day_noted : ℕ → Call → Answer → ℕ
 day_noted d (enrol u r) a = d
-day_noted d (backup u t list) a = if is_accepted a then t else d
-day_noted d (collect t) a = if is_accepted a then t else d
-day_noted d (retire u t) a = if is_accepted a then t else d
+day_noted d (backup u t list) a = when is_accepted a then t else d
+day_noted d (collect t) a = when is_accepted a then t else d
+day_noted d (retire u t) a = when is_accepted a then t else d
 day_noted d (read u k lbn) a = d
 day_noted d audit a = d
 
@@ -80,7 +80,7 @@ days_noted h = map (λ (s : Sent). s.day) h.sent ++ h.left
 -- the block of the last change at that LBN
 abbrev pub last_block : ℕ → List Change → Option (List ℕ)
 last_block lbn [] = none
-last_block lbn (c ∷ cs) = or_else (last_block lbn cs) (if eqb c.lbn lbn then some c.block else none)
+last_block lbn (c ∷ cs) = or_else (last_block lbn cs) (when eqb c.lbn lbn then some c.block else none)
 
 -- .. in backups 1 to k
 unfoldable pub sent_block : History → ℕ → ℕ → Option (List ℕ)
@@ -97,11 +97,11 @@ block_or d (some b) = b
 -- 5, 15, 16, 17, 18, where a volume has l blocks and the header's day is d
 unfoldable pub history_number : ℕ → History → ℕ → ℕ → ℕ → ℕ
 history_number l h d k lbn =
-    if eqb h.retention 0 then 5 else
-    if eqb k 0 || ltb (length h.sent) k then 15 else
-    if not (kept (days_noted h) h.retention d k) then 16 else
-    if leb l lbn then 17 else
-    if is_none (sent_block h k lbn) then 18 else
+    when eqb h.retention 0 then 5 else
+    when eqb k 0 || ltb (length h.sent) k then 15 else
+    when not (kept (days_noted h) h.retention d k) then 16 else
+    when leb l lbn then 17 else
+    when is_none (sent_block h k lbn) then 18 else
     0
 
 unfoldable pub history_read : ℕ → History → ℕ → ℕ → ℕ → Answer
@@ -112,11 +112,11 @@ history_read l h d k lbn = read_answer (unless (history_number l h d k lbn) (acc
 -- 5, 15, 16, 21, and 18 where one of them was never sent
 unfoldable pub history_run_number : ℕ → History → ℕ → ℕ → ℕ → ℕ → ℕ → ℕ
 history_run_number l h d k first many room =
-    if eqb h.retention 0 then 5 else
-    if eqb k 0 || ltb (length h.sent) k then 15 else
-    if not (kept (days_noted h) h.retention d k) then 16 else
-    if ltb l (first + many) || ltb room (many * block_size) then 21 else
-    if some_of (λ lbn. is_none (sent_block h k lbn)) (up_from first many) then 18 else
+    when eqb h.retention 0 then 5 else
+    when eqb k 0 || ltb (length h.sent) k then 15 else
+    when not (kept (days_noted h) h.retention d k) then 16 else
+    when ltb l (first + many) || ltb room (many * block_size) then 21 else
+    when some_of (λ lbn. is_none (sent_block h k lbn)) (up_from first many) then 18 else
     0
 
 unfoldable pub history_restore : ℕ → History → ℕ → ℕ → ℕ → ℕ → ℕ → Outcome (List ℕ)

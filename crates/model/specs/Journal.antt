@@ -1,7 +1,7 @@
 -- The journal: the book's used slots, each with its records, and those of a volume.
 use Rattle.std.specs.Prelude.{ℕ, Bool, not, ◌||◌, List, [], ◌∷◌, map, take, drop, ltb, eqb}
 use Rattle.std.proofs.Math.Option.{Option, none, some}
-use Rattle.words.specs.Choice.{if◌then◌else◌}
+use Rattle.words.specs.Choice.{when◌then◌else◌}
 use Rattle.words.specs.Lists.{those, some_of, count_of}
 use Rattle.book.specs.Book.{Slot, Rec, Book}
 use Rattle.book.specs.Form.{enrolled}
@@ -18,7 +18,7 @@ pub record Backup : Type 0 where
 -- the day of the volume's last backup in these slots, the newest of them first
 abbrev pub last_day : ℕ → List Slot → Option ℕ
 last_day v [] = none
-last_day v (t ∷ ts) = if eqb t.volume v then some t.day else last_day v ts
+last_day v (t ∷ ts) = when eqb t.volume v then some t.day else last_day v ts
 
 -- the day that its replaced blocks' days are counted from: "the day of the volume's previous backup .., or 0 where a damaged book has none"
 -- (document 02, K4)

@@ -1,7 +1,7 @@
 -- The calls on bytes, with numbers 1 to 4 (document 01, "Numbers of refusal, in checking order"), and what stands after them.
 use Rattle.std.specs.Prelude.{ℕ, ◌*◌, Bool, not, ◌&&◌, List, [], length, ltb, eqb}
 use Rattle.words.specs.Blocks.{block_size}
-use Rattle.words.specs.Choice.{if◌then◌else◌}
+use Rattle.words.specs.Choice.{when◌then◌else◌}
 use Rattle.words.specs.Outcome.{Outcome, refused, accepted, and_then, unless}
 use Rattle.book.specs.Book.{Sizes}
 use Rattle.book.specs.Layout.{book_size, bytes, book_of, sizes_of}
@@ -33,16 +33,16 @@ module _ {A : Type 0} where
 
 -- "The pool isn't 512N bytes"
 unfoldable pub pool_number : List ℕ → List ℕ → ℕ
-pool_number b pool = if not (eqb (length pool) (pool_size (sizes_of b).n)) then 3 else 0
+pool_number b pool = when not (eqb (length pool) (pool_size (sizes_of b).n)) then 3 else 0
 
 -- "The spare is shorter than the book"; only its length counts
 unfoldable pub spare_number : List ℕ → ℕ → ℕ
-spare_number b spare = if ltb spare (length b) then 4 else 0
+spare_number b spare = when ltb spare (length b) then 4 else 0
 
 -- ---- format: "all zero but layout and sizes, maps unmapped"; 1: "for format, its length and the sizes given"
 
 unfoldable pub format_number : List ℕ → Sizes → ℕ
-format_number b z = if not (sizes_ok z && eqb (length b) (book_size z)) then 1 else 0
+format_number b z = when not (sizes_ok z && eqb (length b) (book_size z)) then 1 else 0
 
 unfoldable pub format_bytes : List ℕ → Sizes → Outcome (List ℕ)
 format_bytes b z = unless (format_number b z) (accepted (bytes (fresh z)))
@@ -135,4 +135,4 @@ audit_bytes b = unless (form_number b) (accepted (audit (book_of b)))
 
 -- yes is 1, no is 0
 abbrev pub sound_after : Outcome Bool → ℕ → ℕ
-sound_after o k = after (λ s. if s then 1 else 0) o k
+sound_after o k = after (λ s. when s then 1 else 0) o k

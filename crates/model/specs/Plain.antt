@@ -1,7 +1,7 @@
 -- The plain store (document 01, "The plain store"): its state, and enrol, collect and read on it.
 use Rattle.std.specs.Prelude.{ℕ, suc, ◌+◌, ◌-◌, Bool, true, false, not, ◌&&◌, ◌||◌, List, [], ◌∷◌, ◌++◌, map, length, get_or, set, replicate, leb, ltb, eqb}
 use Rattle.words.specs.Blocks.{unmapped}
-use Rattle.words.specs.Choice.{if◌then◌else◌}
+use Rattle.words.specs.Choice.{when◌then◌else◌}
 use Rattle.words.specs.Lists.{some_of, those, last_of, up_from}
 use Rattle.words.specs.Outcome.{Outcome, accepted, unless}
 use Rattle.words.specs.Sections.{tab}
@@ -135,8 +135,8 @@ bytes_of (held f b) = b
 
 unfoldable pub enrol_number : Plain → ℕ → ℕ → ℕ
 enrol_number q v r =
-    if ltb 7 v || is_enrolled q v then 5 else
-    if bad_retention r then 6 else
+    when ltb 7 v || is_enrolled q v then 5 else
+    when bad_retention r then 6 else
     0
 
 unfoldable pub enrol : Plain → ℕ → ℕ → Outcome Plain
@@ -165,11 +165,11 @@ marked q d p =
 -- the blocks after it, and how many it freed, where the first block has PBN p
 abbrev pub swept : (ℕ → Bool) → ℕ → List Block → List Block
 swept mark p [] = []
-swept mark p (b ∷ bs) = (if mark p then b else free) ∷ swept mark (suc p) bs
+swept mark p (b ∷ bs) = (when mark p then b else free) ∷ swept mark (suc p) bs
 
 abbrev pub swept_count : (ℕ → Bool) → ℕ → List Block → ℕ
 swept_count mark p [] = 0
-swept_count mark p (b ∷ bs) = (if is_free b || mark p then 0 else 1) + swept_count mark (suc p) bs
+swept_count mark p (b ∷ bs) = (when is_free b || mark p then 0 else 1) + swept_count mark (suc p) bs
 
 pub record PlainCollected : Type 0 where
   pub store : Plain
@@ -183,7 +183,7 @@ collected q t = record {
 }
 
 unfoldable pub collect_number : Plain → ℕ → ℕ
-collect_number q t = if bad_day q.day t then 7 else 0
+collect_number q t = when bad_day q.day t then 7 else 0
 
 unfoldable pub collect : Plain → ℕ → Outcome PlainCollected
 collect q t = unless (collect_number q t) (accepted (collected q t))
@@ -195,11 +195,11 @@ cell q v k lbn = get_or (map_at q.sizes (taken_of v q.taken) k) lbn unmapped
 
 unfoldable pub read_number : Plain → ℕ → ℕ → ℕ → ℕ
 read_number q v k lbn =
-    if ltb 7 v || not (is_enrolled q v) then 5 else
-    if eqb k 0 || ltb (length (maps_of (taken_of v q.taken))) k then 15 else
-    if not (kept (days_of (taken_of v q.taken)) (retention_at q v) q.day k) then 16 else
-    if leb q.sizes.l lbn then 17 else
-    if eqb (cell q v k lbn) unmapped then 18 else
+    when ltb 7 v || not (is_enrolled q v) then 5 else
+    when eqb k 0 || ltb (length (maps_of (taken_of v q.taken))) k then 15 else
+    when not (kept (days_of (taken_of v q.taken)) (retention_at q v) q.day k) then 16 else
+    when leb q.sizes.l lbn then 17 else
+    when eqb (cell q v k lbn) unmapped then 18 else
     0
 
 unfoldable pub read : Plain → ℕ → ℕ → ℕ → Outcome (List ℕ)

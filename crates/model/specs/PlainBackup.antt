@@ -2,7 +2,7 @@
 use Rattle.std.specs.Prelude.{ℕ, suc, ◌+◌, ◌%◌, Bool, false, not, ◌||◌, List, [], ◌∷◌, map, length, get_or, take, drop, set, leb, ltb, eqb}
 use Rattle.std.proofs.Math.Option.{Option, none, some}
 use Rattle.words.specs.Blocks.{unmapped}
-use Rattle.words.specs.Choice.{if◌then◌else◌}
+use Rattle.words.specs.Choice.{when◌then◌else◌}
 use Rattle.words.specs.Lists.{place_from, or_else, same, sum}
 use Rattle.words.specs.Outcome.{Outcome, refused, accepted, and_then, unless}
 use Rattle.runs.specs.Changes.{Change, changes, change_count, list_number}
@@ -17,11 +17,11 @@ changes_in is = sum (map (λ (i : Taken). i.changes) is)
 -- numbers 5 to 10
 unfoldable pub backup_number : Plain → ℕ → ℕ → List ℕ → ℕ
 backup_number q v t list =
-    if no_living q v then 5 else
-    if bad_day q.day t || not_after (days_of (taken_of v q.taken)) t then 7 else
-    if not (eqb (list_number q.sizes.l list) 0) then 8 else
-    if leb q.sizes.s (length q.taken) then 9 else
-    if ltb q.sizes.j (changes_in q.taken + change_count list) then 10 else
+    when no_living q v then 5 else
+    when bad_day q.day t || not_after (days_of (taken_of v q.taken)) t then 7 else
+    when not (eqb (list_number q.sizes.l list) 0) then 8 else
+    when leb q.sizes.s (length q.taken) then 9 else
+    when ltb q.sizes.j (changes_in q.taken + change_count list) then 10 else
     0
 
 -- ---- the changes: "for each change runs steps 1 and 2 and sets the cell in the copy"
@@ -63,7 +63,7 @@ place_free c w (some p) = accepted (record { pbn = p; work = take_block c p w })
 
 unfoldable pub place_held : Change → PlainWork → Option ℕ → Outcome PlainPlaced
 place_held c w none = place_free c w (find_free w.blocks w.cursor)
-place_held c w (some p) = if same (bytes_of (get_or w.blocks p free)) c.block then accepted (record { pbn = p; work = w }) else refused 11
+place_held c w (some p) = when same (bytes_of (get_or w.blocks p free)) c.block then accepted (record { pbn = p; work = w }) else refused 11
 
 unfoldable pub place : Change → PlainWork → Outcome PlainPlaced
 place c w = place_held c w (find_held w.blocks c.print)
@@ -75,7 +75,7 @@ moved lbn d = record {
   cursor = d.work.cursor;
   copy = set d.work.copy lbn d.pbn;
   taken = d.work.taken;
-  touched = d.work.touched + (if eqb (get_or d.work.copy lbn unmapped) unmapped then 1 else 2);
+  touched = d.work.touched + (when eqb (get_or d.work.copy lbn unmapped) unmapped then 1 else 2);
 }
 
 -- 11 and 12 are all that stops a change: 14 comes from damage alone, so "the plain store drops it as well" (document 02, K3)

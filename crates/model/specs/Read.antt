@@ -2,7 +2,7 @@
 use Rattle.std.specs.Prelude.{ℕ, not, ◌||◌, List, map, drop, leb, ltb, eqb}
 use Rattle.std.proofs.Math.Option.{Option, none, some}
 use Rattle.words.specs.Blocks.{unmapped}
-use Rattle.words.specs.Choice.{if◌then◌else◌}
+use Rattle.words.specs.Choice.{when◌then◌else◌}
 use Rattle.words.specs.Lists.{first_that, joined}
 use Rattle.words.specs.Outcome.{Outcome, accepted, unless}
 use Rattle.book.specs.Book.{Rec, Book, cell_at, retention_of}
@@ -24,11 +24,11 @@ image x v k lbn = before_or (cell_at x.maps v lbn) (first_that (λ r. eqb r.lbn 
 
 unfoldable pub read_number : Book → ℕ → ℕ → ℕ → ℕ
 read_number x v k lbn =
-    if no_volume x v then 5 else
-    if eqb k 0 || ltb (backup_count x v) k then 15 else
-    if not (kept (days x v) (retention_of x v) x.day k) then 16 else
-    if leb x.sizes.l lbn then 17 else
-    if eqb (image x v k lbn) unmapped then 18 else
+    when no_volume x v then 5 else
+    when eqb k 0 || ltb (backup_count x v) k then 15 else
+    when not (kept (days x v) (retention_of x v) x.day k) then 16 else
+    when leb x.sizes.l lbn then 17 else
+    when eqb (image x v k lbn) unmapped then 18 else
     0
 
 -- "The block comes back as that part of the lent pool"

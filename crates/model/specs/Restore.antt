@@ -1,7 +1,7 @@
 -- Restore (document 02, K2), from number 5 on: a run of a backup's blocks in one call.
 use Rattle.std.specs.Prelude.{ℕ, zero, suc, ◌+◌, ◌*◌, ◌||◌, List, [], ◌++◌, ltb}
 use Rattle.words.specs.Blocks.{block_size}
-use Rattle.words.specs.Choice.{if◌then◌else◌}
+use Rattle.words.specs.Choice.{when◌then◌else◌}
 use Rattle.words.specs.Outcome.{Outcome, accepted, and_then, unless}
 use Rattle.book.specs.Book.{Book}
 use Rattle.model.specs.Kept.{kept_number}
@@ -9,7 +9,7 @@ use Rattle.model.specs.Read.{read}
 
 -- 21: "first plus length is above L, or the output is too short", where the output has `room` bytes
 unfoldable pub run_number : ℕ → ℕ → ℕ → ℕ → ℕ
-run_number l first many room = if ltb l (first + many) || ltb room (many * block_size) then 21 else 0
+run_number l first many room = when ltb l (first + many) || ltb room (many * block_size) then 21 else 0
 
 -- "what the reads one by one give, in order"; where one is refused, "the first such number". `one` reads an LBN
 abbrev pub reads_from : (ℕ → Outcome (List ℕ)) → ℕ → ℕ → Outcome (List ℕ)

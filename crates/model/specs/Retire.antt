@@ -1,7 +1,7 @@
 -- Retire (document 02, K6), from number 5 on: the numbers, one cell after the other, and what it leaves.
 use Rattle.std.specs.Prelude.{ℕ, ◌+◌, true, not, ◌||◌, List, [], ◌∷◌, length, get_or, leb, ltb, eqb}
 use Rattle.words.specs.Blocks.{unmapped}
-use Rattle.words.specs.Choice.{if◌then◌else◌}
+use Rattle.words.specs.Choice.{when◌then◌else◌}
 use Rattle.words.specs.Lists.{count_of, up_from}
 use Rattle.words.specs.Outcome.{Outcome, accepted, and_then, unless}
 use Rattle.book.specs.Book.{Book, entry_at, cell_at}
@@ -17,17 +17,17 @@ mapped_cells x v = count_of (λ p. not (eqb p unmapped)) (get_or x.maps v [])
 -- numbers 5, 7, 9 and 10, "as for a backup": it takes a slot, and as many records as there are cells
 unfoldable pub retire_number : Book → ℕ → ℕ → ℕ
 retire_number x v t =
-    if no_living x v then 5 else
-    if bad_day x.day t || not_after (days x v) t then 7 else
-    if leb x.sizes.s (length x.slots) then 9 else
-    if ltb x.sizes.j (length x.records + mapped_cells x v) then 10 else
+    when no_living x v then 5 else
+    when bad_day x.day t || not_after (days x v) t then 7 else
+    when leb x.sizes.s (length x.slots) then 9 else
+    when ltb x.sizes.j (length x.records + mapped_cells x v) then 10 else
     0
 
 -- ---- the cells
 
 -- 13, of a mapped cell: "before's count is 0"
 unfoldable pub clear_number : Book → ℕ → ℕ
-clear_number x before = if eqb (entry_at x.entries before).count 0 then 13 else 0
+clear_number x before = when eqb (entry_at x.entries before).count 0 then 13 else 0
 
 -- "a record with after 65,535 for each mapped cell"; "Counts and expiries move as in step 3, the map becomes unmapped"
 unfoldable pub cleared : ℕ → ℕ → ℕ → ℕ → Book → Book
@@ -37,7 +37,7 @@ cleared v until lbn before x =
 
 unfoldable pub clear_cell : ℕ → ℕ → ℕ → ℕ → Book → Outcome Book
 clear_cell v until lbn before x =
-    if eqb before unmapped then accepted x else
+    when eqb before unmapped then accepted x else
     unless (clear_number x before) (accepted (cleared v until lbn before x))
 
 -- "by LBN"

@@ -1,7 +1,7 @@
 -- Both sides: lists of calls on our book and pool and on the plain store, and what is compared after them.
 use Rattle.std.specs.Prelude.{ℕ, Bool, true, List, [], ◌∷◌, take, drop}
 use Rattle.words.specs.Blocks.{block_size}
-use Rattle.words.specs.Choice.{if◌then◌else◌}
+use Rattle.words.specs.Choice.{when◌then◌else◌}
 use Rattle.words.specs.Outcome.{Outcome, refused, accepted, and_then}
 use Rattle.book.specs.Book.{Entry}
 use Rattle.book.specs.Layout.{book_of}
@@ -119,7 +119,7 @@ pub record Shown : Type 0 where
 
 abbrev pub blocks_in : List Entry → List ℕ → List Block
 blocks_in [] pool = []
-blocks_in (e ∷ es) pool = (if e.held then held e.print (take block_size pool) else free) ∷ blocks_in es (drop block_size pool)
+blocks_in (e ∷ es) pool = (when e.held then held e.print (take block_size pool) else free) ∷ blocks_in es (drop block_size pool)
 
 -- "ours are those in the book, with the bytes in the pool"
 unfoldable pub ours_shown : Ours → Shown

@@ -1,7 +1,7 @@
 -- What a host is shown of a book, beside the calls of document 01: its sizes, how much of it is used, a volume, its backups, its map, and
 -- the blocks. A host that goes by these knows no place in the book.
 use Rattle.std.specs.Prelude.{ℕ, ◌+◌, List, [], ◌∷◌, ◌++◌, map, length, get_or, drop, ltb, eqb}
-use Rattle.words.specs.Choice.{if◌then◌else◌}
+use Rattle.words.specs.Choice.{when◌then◌else◌}
 use Rattle.words.specs.Lists.{bit}
 use Rattle.words.specs.Numbers.{two}
 use Rattle.words.specs.Outcome.{Outcome, accepted, unless}
@@ -17,11 +17,11 @@ use Rattle.model.specs.OnBytes.{after}
 
 -- 1, 2, then 5: "The volume is above 7, .. or not enrolled"
 unfoldable pub enrolled_number : List ℕ → ℕ → ℕ
-enrolled_number b v = if eqb (form_number b) 0 then (if no_volume (book_of b) v then 5 else 0) else form_number b
+enrolled_number b v = when eqb (form_number b) 0 then (when no_volume (book_of b) v then 5 else 0) else form_number b
 
 -- 20: the output is shorter than what is to be written
 unfoldable pub output_number : List ℕ → ℕ → ℕ
-output_number c room = if ltb room (length c) then 20 else 0
+output_number c room = when ltb room (length c) then 20 else 0
 
 -- ---- what is shown of a book
 
@@ -37,7 +37,7 @@ used_of x = record { slots = length x.slots; records = length x.records; day = x
 -- the day on which a volume was retired. No day is 65,535, which stands for none
 abbrev pub retired_on : List Backup → ℕ
 retired_on [] = 65535
-retired_on (b ∷ bs) = if b.retire then b.day else retired_on bs
+retired_on (b ∷ bs) = when b.retire then b.day else retired_on bs
 
 -- a volume's retention, how many backups it has, and the day on which it was retired
 pub record VolumeFacts : Type 0 where
@@ -62,7 +62,7 @@ backup_row b later r d =
 -- of a volume's slots: a retire slot has no row
 abbrev pub backup_rows : ℕ → ℕ → List Backup → List ℕ
 backup_rows r d [] = []
-backup_rows r d (b ∷ bs) = (if b.retire then [] else backup_row b (map (λ (b : Backup). b.day) bs) r d) ++ backup_rows r d bs
+backup_rows r d (b ∷ bs) = (when b.retire then [] else backup_row b (map (λ (b : Backup). b.day) bs) r d) ++ backup_rows r d bs
 
 -- the volume's backups by their numbers
 unfoldable pub backups_of : Book → ℕ → List ℕ

@@ -11,7 +11,7 @@ use lib.ListN.{length, get_or, set}
 use lib.Seq.{get_or-set_same}
 use borrow.Author.Tests.{eq-eqb, ne_eqb, not-true, not-false}
 use Rattle.words.specs.Blocks.{unmapped}
-use Rattle.words.specs.Choice.{if◌then◌else◌}
+use Rattle.words.specs.Choice.{when◌then◌else◌}
 use Rattle.words.specs.Lent.{Lent}
 use Rattle.words.specs.Lists.{all}
 use Rattle.words.specs.Outcome.{refused, accepted}
@@ -134,7 +134,7 @@ module _ (v until lbn p : ℕ) (x : Book) (pool : List ℕ) (t : Tally) where
 
     pub move-goes : ((entry_at (lower until (cell_at x.maps v lbn) x.entries) p).count ≡ 65535 → ⊥) → (y : Book) (t' : Tally)
         → y ≡ name_block v lbn p (lower until (cell_at x.maps v lbn) x.entries) x
-        → t'.taken ≡ t.taken → t'.touched ≡ t.touched + (if eqb (cell_at x.maps v lbn) unmapped then 1 else 2)
+        → t'.taken ≡ t.taken → t'.touched ≡ t.touched + (when eqb (cell_at x.maps v lbn) unmapped then 1 else 2)
         → move_to v until lbn (cell_at x.maps v lbn) (record { pbn = p; work = work_at x pool t }) ≡ accepted (work_at y pool t')
     unfolding move_to move_number moved
     move-goes f y t' g k l =
@@ -151,7 +151,7 @@ module _ (v until lbn p : ℕ) (x : Book) (pool : List ℕ) (t : Tally) where
 pub name-lowered : (v lbn p : ℕ) (es : List Entry) (x : Book)
     → name_block v lbn p (with_entries es x).entries (with_entries es x) ≡ name_block v lbn p es x
 unfolding name_block with_entries
-name-lowered v lbn p es x = refl
+name-lowered v lbn p _ x = refl
 
 -- a cell of maps in form names a block or nothing
 pub cell-ok : (ms : List (List ℕ)) (n v l : ℕ) → all (all (pbn_ok n)) ms ≡ true → (cell_at ms v l < n) ⊎ (cell_at ms v l ≡ unmapped)
@@ -159,6 +159,6 @@ cell-ok ms n v l e =
     pbn-cases n (cell_at ms v l)
     (all_get_d (pbn_ok n) (get_or ms v []) unmapped l (all_get_d (all (pbn_ok n)) ms [] v e refl) (unmapped-ok n))
 
-pub at_most_two : (t : Bool) → (if t then 1 else 2) ≤ 2
+pub at_most_two : (t : Bool) → (when t then 1 else 2) ≤ 2
 at_most_two true = omega arith
 at_most_two false = omega arith

@@ -1,7 +1,7 @@
 // Steps 3 and 4 of a change: the block that its cell named is counted down, the one that it names now up.
 ghost use Rattle.std.specs.Prelude.{◌≡◌, true, ◌⊎◌, ◌<◌, eqb, length};
 ghost use Rattle.words.specs.Blocks.{unmapped};
-ghost use Rattle.words.specs.Choice.{if◌then◌else◌};
+ghost use Rattle.words.specs.Choice.{when◌then◌else◌};
 ghost use Rattle.words.specs.Lists.{all};
 ghost use Rattle.book.specs.Book.{volumes, entry_at, cell_at};
 ghost use Rattle.book.specs.Form.{pbn_ok};
@@ -26,7 +26,7 @@ pub enum Step {
 
 // The entries that a change touches: its block's, and that of the before where there is one.
 fn touches(before: PBN) -> u16
-    ensures { result ≡ (if eqb before.0 unmapped then 1 else 2) }
+    ensures { result ≡ (when eqb before.0 unmapped then 1 else 2) }
 {
     if before.0 == UNMAPPED { 1 } else { 2 }
 }

@@ -10,7 +10,7 @@ use native.Mathlib.Omega.{arith}
 use lib.Dec.{ltb}
 use lib.ListN.{length, get_or, length-append, get_or-append}
 use borrow.Author.Tests.{ltb-true, ltb-false, lt-ltb, le-ltb}
-use Rattle.words.specs.Choice.{if◌then◌else◌}
+use Rattle.words.specs.Choice.{when◌then◌else◌}
 use Rattle.pages.specs.Tally.{digits, decimal}
 
 -- more room than a number needs changes nothing
@@ -20,8 +20,8 @@ digits_enough (suc j) zero n h g = absurd (omega arith)
 digits_enough (suc j) (suc k) n h g = go (ltb n 10) refl (λ e. digits_enough j k (n / 10) (omega arith) (omega arith))
   where
     go : (t : Bool) → ltb n 10 ≡ t → (10 ≤ n → digits j (n / 10) ≡ digits k (n / 10))
-        → (if t then (48 + n) ∷ [] else digits j (n / 10) ++ (48 + n % 10) ∷ [])
-        ≡ (if t then (48 + n) ∷ [] else digits k (n / 10) ++ (48 + n % 10) ∷ [])
+        → (when t then (48 + n) ∷ [] else digits j (n / 10) ++ (48 + n % 10) ∷ [])
+        ≡ (when t then (48 + n) ∷ [] else digits k (n / 10) ++ (48 + n % 10) ∷ [])
     go true e ih = refl
     go false e ih = ap (λ (l : List ℕ). l ++ (48 + n % 10) ∷ []) (ih (ltb-false n 10 e))
 
@@ -55,7 +55,7 @@ decimal-few zero n h = decimal-one n h ∙ rw (lt-ltb n 10 h)
 decimal-few (suc k) n h = go (ltb n 10) refl (decimal-few k (n / 10) (omega (arith, pow-suc 10 (suc k))))
   where
     go : (t : Bool) → ltb n 10 ≡ t → decimal (n / 10) ≡ digits (suc k) (n / 10)
-        → decimal n ≡ (if t then (48 + n) ∷ [] else digits (suc k) (n / 10) ++ (48 + n % 10) ∷ [])
+        → decimal n ≡ (when t then (48 + n) ∷ [] else digits (suc k) (n / 10) ++ (48 + n % 10) ∷ [])
     go true e ih = decimal-one n (ltb-true n 10 e)
     go false e ih = decimal-more n (ltb-false n 10 e) ∙ ap (λ (l : List ℕ). l ++ (48 + n % 10) ∷ []) ih
 

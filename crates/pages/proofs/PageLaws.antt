@@ -9,7 +9,7 @@ use native.Mathlib.Omega.{arith}
 use lib.Dec.{ltb}
 use lib.ListN.{length, get_or, take, length-append}
 use borrow.Author.Tests.{lt-ltb, le-ltb, eq-eqb, ne_eqb}
-use Rattle.words.specs.Choice.{if◌then◌else◌}
+use Rattle.words.specs.Choice.{when◌then◌else◌}
 use Rattle.words.specs.Laying.{Stored}
 use Rattle.words.proofs.Ranges.{below_or_not}
 use Rattle.book.specs.Layout.{book_of, Holds}
@@ -40,7 +40,7 @@ module _ (b : List ℕ) where
   unfolding tally_number
   number_small = go (ltb 65536 (length b)) (form-cases current b)
     where
-      go : (t : Bool) → ((form_number b ≡ 0) ⊎ ((form_number b ≡ 1) ⊎ (form_number b ≡ 2))) → (if t then 1 else form_number b) ≤ 2
+      go : (t : Bool) → ((form_number b ≡ 0) ⊎ ((form_number b ≡ 1) ⊎ (form_number b ≡ 2))) → (when t then 1 else form_number b) ≤ 2
       go true w = omega arith
       go false (inl e) = omega arith
       go false (inr (inl e)) = omega arith

@@ -1,6 +1,6 @@
 -- What the program tally prints (document 01, "the program tally").
 use Rattle.std.specs.Prelude.{ℕ, zero, suc, ◌+◌, ◌/◌, ◌%◌, List, [], ◌∷◌, ◌++◌, ltb, eqb, length}
-use Rattle.words.specs.Choice.{if◌then◌else◌}
+use Rattle.words.specs.Choice.{when◌then◌else◌}
 use Rattle.words.specs.Lists.{joined}
 use Rattle.book.specs.Book.{Book}
 use Rattle.book.specs.Layout.{book_of}
@@ -9,14 +9,14 @@ use Rattle.counter.specs.Sums.{blocks, held, free, waiting, references}
 
 -- "given a book of at most 65,536 bytes", "`refused 1` (also for longer input) or `refused 2`": 0 where nothing refuses
 unfoldable pub tally_number : List ℕ → ℕ
-tally_number b = if ltb 65536 (length b) then 1 else form_number b
+tally_number b = when ltb 65536 (length b) then 1 else form_number b
 
 -- ---- numbers and lines, in ASCII
 
 -- the digits of n, of which there are at most as many as the first number says
 abbrev pub digits : ℕ → ℕ → List ℕ
 digits zero n = []
-digits (suc most) n = if ltb n 10 then (48 + n) ∷ [] else digits most (n / 10) ++ (48 + n % 10) ∷ []
+digits (suc most) n = when ltb n 10 then (48 + n) ∷ [] else digits most (n / 10) ++ (48 + n % 10) ∷ []
 
 -- n in decimal without leading zeros: a number has fewer digits than it has predecessors, but for 0
 unfoldable pub decimal : ℕ → List ℕ
@@ -58,4 +58,4 @@ book_page x =
     ∷ [])
 
 unfoldable pub tally_page : List ℕ → List ℕ
-tally_page b = if eqb (tally_number b) 0 then book_page (book_of b) else line refused_word (tally_number b)
+tally_page b = when eqb (tally_number b) 0 then book_page (book_of b) else line refused_word (tally_number b)

@@ -6,7 +6,7 @@ use mathlib.Core.List.{List}
 use lib.Dec.{ltb, eqb}
 use lib.ListN.{length}
 use borrow.Author.Tests.{eqb-true, eq-eqb, ne_eqb}
-use Rattle.words.specs.Choice.{if◌then◌else◌}
+use Rattle.words.specs.Choice.{when◌then◌else◌}
 use Rattle.runs.specs.Changes.{pair_count, pairs, change_count, list_size, pairs_fit, list_number}
 use Rattle.runs.proofs.Number.{Accepted, ladder, number_ladder, accepted-number, number-accepted}
 use Rattle.pairs.specs.Answers.{shape_of, checked_of}
@@ -22,7 +22,7 @@ checked_number Refused = 8
 module _ (L : ℕ) (b : List ℕ) where
   -- the check's answer
   abbrev answer : Bool → Checked
-  answer t = if t then Good (shape_of b) else Refused
+  answer t = when t then Good (shape_of b) else Refused
 
   pub accepted-good : (e n : ℕ) → Accepted L b → e ≡ pair_count b → n ≡ change_count b
       → checked_of L b ≡ Good (record { pairs = e; changes = n })

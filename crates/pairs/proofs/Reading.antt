@@ -7,7 +7,7 @@ use native.Mathlib.Numerals.{add-one}
 use native.Mathlib.Omega.{arith}
 use lib.ListN.{drop, drop_of_length-le}
 use lib.Seq.{drop-cons}
-use Rattle.words.specs.Choice.{if◌then◌else◌}
+use Rattle.words.specs.Choice.{when◌then◌else◌}
 use Rattle.words.specs.Lists.{sum}
 use Rattle.runs.specs.Changes.{Pair, pair_count, pair_at, pairs, lengths, change_count, pair_fits, pairs_fit}
 use Rattle.pairs.specs.Answers.{counted_of}
@@ -44,17 +44,17 @@ module _ (b : List ℕ) (i first many : ℕ) (h : i < pair_count b) (p : first �
 module _ (L : ℕ) (b : List ℕ) where
   pub counted-fit : pairs_fit L 0 (pairs b) ≡ true → counted_of L b ≡ Fit (change_count b)
   unfolding counted_of
-  counted-fit e = ap (λ (t : Bool). if t then Fit (change_count b) else Unfit) e
+  counted-fit e = ap (λ (t : Bool). when t then Fit (change_count b) else Unfit) e
 
   pub counted_unfit : pairs_fit L 0 (pairs b) ≡ false → counted_of L b ≡ Unfit
   unfolding counted_of
-  counted_unfit e = ap (λ (t : Bool). if t then Fit (change_count b) else Unfit) e
+  counted_unfit e = ap (λ (t : Bool). when t then Fit (change_count b) else Unfit) e
 
   pub fit-counted : (n : ℕ) → counted_of L b ≡ Fit n → (pairs_fit L 0 (pairs b) ≡ true) × (n ≡ change_count b)
   unfolding counted_of
   fit-counted n e = go (pairs_fit L 0 (pairs b)) e
     where
-      go : (t : Bool) → (if t then Fit (change_count b) else Unfit) ≡ Fit n → (t ≡ true) × (n ≡ change_count b)
+      go : (t : Bool) → (when t then Fit (change_count b) else Unfit) ≡ Fit n → (t ≡ true) × (n ≡ change_count b)
       go true q = (refl, cc)
       go false q = (cc, cc)
 
@@ -66,6 +66,6 @@ module _ (L : ℕ) (b : List ℕ) where
   unfolding counted_of
   unfit_counted e = go (pairs_fit L 0 (pairs b)) e
     where
-      go : (t : Bool) → (if t then Fit (change_count b) else Unfit) ≡ Unfit → t ≡ false
+      go : (t : Bool) → (when t then Fit (change_count b) else Unfit) ≡ Unfit → t ≡ false
       go true q = cc
       go false q = refl

@@ -1,6 +1,6 @@
 -- What the check of a list and its helpers answer.
 use Rattle.std.specs.Prelude.{ℕ, List, eqb}
-use Rattle.words.specs.Choice.{if◌then◌else◌}
+use Rattle.words.specs.Choice.{when◌then◌else◌}
 use Rattle.runs.specs.Changes.{pairs, pair_count, change_count, pairs_fit, list_number}
 use Rattle.pairs.specs.declared.Shape.{Shape}
 use Rattle.pairs.specs.declared.Counted.{Counted}
@@ -14,7 +14,7 @@ shape_of b = record { pairs = pair_count b; changes = change_count b }
 
 -- what the pairs of a list come to
 unfoldable pub counted_of : ℕ → List ℕ → Counted
-counted_of L b = if pairs_fit L 0 (pairs b) then Fit (change_count b) else Unfit
+counted_of L b = when pairs_fit L 0 (pairs b) then Fit (change_count b) else Unfit
 
 unfoldable pub checked_of : ℕ → List ℕ → Checked
-checked_of L b = if eqb (list_number L b) 0 then Good (shape_of b) else Refused
+checked_of L b = when eqb (list_number L b) 0 then Good (shape_of b) else Refused

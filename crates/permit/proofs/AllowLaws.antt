@@ -9,7 +9,7 @@ use lib.ListN.{length, length-map}
 use borrow.Author.Tests.{lt-ltb, le-ltb, le-leb, lt-leb, eq-eqb, ne_eqb, ltb-false}
 use Rattle.words.proofs.Accepted.{unless-refused}
 use Rattle.words.specs.Blocks.{block_size}
-use Rattle.words.specs.Choice.{if◌then◌else◌}
+use Rattle.words.specs.Choice.{when◌then◌else◌}
 use Rattle.words.specs.Lists.{those, last_of}
 use Rattle.words.specs.Outcome.{Outcome, refused, accepted, and_then, unless}
 use Rattle.runs.specs.Changes.{change_count, changes, list_number}
@@ -162,7 +162,7 @@ length-those : {A : Type 0} (f : A → Bool) (xs : List A) → length (those f x
 length-those f [] = omega arith
 length-those f (x ∷ xs) = go (f x) (length-those f xs)
   where
-    go : (t : Bool) → length (those f xs) ≤ length xs → length (if t then x ∷ those f xs else those f xs) ≤ suc (length xs)
+    go : (t : Bool) → length (those f xs) ≤ length xs → length (when t then x ∷ those f xs else those f xs) ≤ suc (length xs)
     go true h = omega arith
     go false h = omega arith
 

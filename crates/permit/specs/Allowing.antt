@@ -1,6 +1,6 @@
 -- Numbers 1 to 10 of a backup, as the code checks them, and what it knows when none refuses.
 use Rattle.std.specs.Prelude.{ℕ, suc, ◌+◌, ◌≤◌, ◌<◌, ◌≡◌, Bool, ◌||◌, List, leb, ltb, length}
-use Rattle.words.specs.Choice.{if◌then◌else◌}
+use Rattle.words.specs.Choice.{when◌then◌else◌}
 use Rattle.words.specs.Lent.{Lent}
 use Rattle.words.specs.Outcome.{Outcome, refused, accepted, and_then}
 use Rattle.runs.specs.Changes.{change_count, changes}
@@ -28,7 +28,7 @@ day_refused x v t = bad_day x.day t || not_after (days x v) t
 -- numbers 9 and 10, for n changes
 unfoldable pub room_number : Book → ℕ → ℕ
 room_number x n =
-    if leb x.sizes.s (length x.slots) then 9 else if ltb x.sizes.j (length x.records + n) then 10 else 0
+    when leb x.sizes.s (length x.slots) then 9 else when ltb x.sizes.j (length x.records + n) then 10 else 0
 
 -- what a backup comes to when none of numbers 1 to 10 refuses it
 abbrev pub goes_on : Book → List ℕ → ℕ → ℕ → List ℕ → Outcome BackedBytes

@@ -3,7 +3,7 @@ use Rattle.std.specs.Prelude.{ℕ, ◌≡◌, length}
 use Rattle.words.specs.Lists.{last_of}
 use Rattle.book.specs.Book.{Book}
 use Rattle.model.specs.Journal.{days, is_retired}
-use Rattle.permit.specs.declared.slots.Backups.{Backups}
+use Rattle.permit.specs.declared.backups.Backups.{Backups}
 
 -- what the code answers
 pub record BackupsAre (x : Book) (v : ℕ) (r : Backups) : Type 0 where

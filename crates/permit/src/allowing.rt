@@ -4,7 +4,7 @@ ghost use Rattle.book.specs.Layout.{told, Holds};
 ghost use Rattle.permit.specs.Allowing.{lent_number, day_refused, room_number, AllowedBy, allowed_number};
 ghost use Rattle.permit.specs.Backups.{BackupsAre};
 
-use super::slots::{Backups, backups_of};
+use super::backups::{Backups, backups_of};
 use buffers::buffers_number;
 use fields::header;
 use pairs::{Checked, Shape};

@@ -3,4 +3,4 @@
 #![tactic(auto)]
 
 pub mod allowing;
-pub mod slots;
+pub mod backups;

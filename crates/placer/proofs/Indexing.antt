@@ -6,7 +6,7 @@ use mathlib.Core.List.{List}
 use lib.Dec.{eqb}
 use lib.ListN.{set}
 use Rattle.words.specs.Blocks.{unmapped}
-use Rattle.words.specs.Choice.{if◌then◌else◌}
+use Rattle.words.specs.Choice.{when◌then◌else◌}
 use Rattle.book.specs.Book.{Entry, Book, entry_at}
 use Rattle.book.specs.Layout.{book_of, Is}
 use Rattle.book.specs.Next.{with_cursor, count_as, expiry_as}
@@ -27,7 +27,7 @@ module _ (until before p : ℕ) (es : List Entry) {heads nexts : List ℕ} where
   unfolding lower lowered count_as expiry_as
   lower_indexed x = go (eqb before unmapped)
     where
-      go : (t : Bool) → Indexed (if t then es else set es before (lowered until (entry_at es before))) heads nexts
+      go : (t : Bool) → Indexed (when t then es else set es before (lowered until (entry_at es before))) heads nexts
       go true = x
       go false = indexed_alike (alike_set es before (lowered until (entry_at es before)) refl refl) x
 

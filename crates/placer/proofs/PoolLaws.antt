@@ -11,7 +11,7 @@ use lib.ListN.{length, get_or, take, drop, set, length-drop}
 use lib.Seq.{take_at, drop_at, length-take-le, drop-drop, take-append-le, drop-append-le, drop-append-add, get_or-set_same, get_or-set_other}
 use borrow.Author.Tests.{eqb-true, eqb-false, eq-eqb}
 use Rattle.words.specs.Blocks.{block_size}
-use Rattle.words.specs.Choice.{if◌then◌else◌}
+use Rattle.words.specs.Choice.{when◌then◌else◌}
 use Rattle.words.specs.Lists.{joined, up_from}
 use Rattle.words.proofs.Parts.{length_part, part-part}
 use Rattle.words.proofs.Pieces.{sized, part-sized, length-sized, all-pieces}
@@ -79,10 +79,10 @@ module _ (pool c : List ℕ) (p n : ℕ) (h : p < n) (l : length pool ≡ pool_s
       ∙ drop-drop r (p * block_size + block_size) pool)
       ∙ ap (λ (o : ℕ). part pool o block_size) o'
 
-  pub block_with : (q : ℕ) → block_at (with_block pool p c) q ≡ (if eqb q p then c else block_at pool q)
+  pub block_with : (q : ℕ) → block_at (with_block pool p c) q ≡ (when eqb q p then c else block_at pool q)
   block_with q = go (eqb q p) refl
     where
-      go : (t : Bool) → eqb q p ≡ t → block_at (with_block pool p c) q ≡ (if t then c else block_at pool q)
+      go : (t : Bool) → eqb q p ≡ t → block_at (with_block pool p c) q ≡ (when t then c else block_at pool q)
       go true e = rw (eqb-true q p e) with_here
       go false e = ⊎_elim (with_before q) (λ b. with_after q (let d = eqb-false q p e in omega arith)) (below_or_not q p)
 
@@ -100,7 +100,7 @@ module _ (old new : List Entry) (taker list pool : List ℕ) where
   block_size_lem m k p h = go (entry_at new p).held (entry_at old p).held refl refl
     where
       go : (s t : Bool) → (entry_at new p).held ≡ s → (entry_at old p).held ≡ t
-          → length (if s then if t then block_at pool p else (change_at list (get_or taker p 0)).block else block_at pool p) ≡ block_size
+          → length (when s then when t then block_at pool p else (change_at list (get_or taker p 0)).block else block_at pool p) ≡ block_size
       go true true e f = length_part pool (p * block_size) block_size (omega (arith, k.size))
       go true false e f = k.whole (get_or taker p 0) (k.marks p f e)
       go false t e f = length_part pool (p * block_size) block_size (omega (arith, k.size))
@@ -136,7 +136,7 @@ unfolding block_now held_block
 start-now old taker list pool l = sym (is-now old old taker list pool pool l (λ p h. go (entry_at old p).held p))
   where
     go : (t : Bool) (p : ℕ) → block_at pool p
-        ≡ (if t then if t then block_at pool p else (change_at list (get_or taker p 0)).block else block_at pool p)
+        ≡ (when t then when t then block_at pool p else (change_at list (get_or taker p 0)).block else block_at pool p)
     go true p = refl
     go false p = refl
 
@@ -148,7 +148,7 @@ unfolding pool_now block_now
 same-now old new new' taker list pool h =
     ap (λ (bs : List (List ℕ)). joined bs)
     (map_same (block_now old new taker list pool) (block_now old new' taker list pool) 0 (length old)
-    (λ p a b. ap (λ (t : Bool). if t then held_block old taker list pool p else block_at pool p) (sym (h p))))
+    (λ p a b. ap (λ (t : Bool). when t then held_block old taker list pool p else block_at pool p) (sym (h p))))
 
 -- block p, free until now, is taken by change i
 module _ (old new new' : List Entry) (taker list pool : List ℕ) (m : ℕ) (k : Known old new taker list pool m) (p i : ℕ) where
@@ -172,8 +172,8 @@ module _ (old new new' : List Entry) (taker list pool : List ℕ) (m : ℕ) (k :
       l = length-now old new taker list pool m k
 
       go : (q : ℕ) → q < length old → (t : Bool) → eqb q p ≡ t
-          → (if t then c else block_at P q)
-          ≡ (if (entry_at new' q).held then if (entry_at old q).held then block_at pool q
+          → (when t then c else block_at P q)
+          ≡ (when (entry_at new' q).held then when (entry_at old q).held then block_at pool q
           else (change_at list (get_or (set taker p i) q 0)).block else block_at pool q)
       go q h true z = rw (eqb-true q p z, e, f, get_or-set_same taker p i 0 hb)
       go q h false z =

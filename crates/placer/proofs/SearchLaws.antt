@@ -9,13 +9,13 @@ use native.Mathlib.Numerals.{add-one}
 use native.Mathlib.Omega.{arith}
 use lib.ListN.{length, get_or, take, drop, length-drop}
 use lib.Seq.{drop-cons, take_all}
-use Rattle.words.specs.Choice.{if◌then◌else◌}
+use Rattle.words.specs.Choice.{when◌then◌else◌}
 use Rattle.words.specs.Lists.{place_from}
 use Rattle.placer.specs.Search.{place_in}
 
 module _ {A : Type 0} (f : A → Bool) (xs : List A) where
   module _ (d : A) (i n : ℕ) where
-    here : i < n → n ≤ length xs → place_in f xs i n ≡ (if f (get_or xs i d) then some i else place_in f xs (i + 1) n)
+    here : i < n → n ≤ length xs → place_in f xs i n ≡ (when f (get_or xs i d) then some i else place_in f xs (i + 1) n)
     unfolding place_in
     here h k = let e : n - i ≡ suc (n - (i + 1)) = omega arith in rw (e, add-one i, drop-cons xs i d (omega arith))
 

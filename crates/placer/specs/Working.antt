@@ -1,6 +1,6 @@
 -- Where a backup stands between two changes: what the model's work is, by the bytes that the code holds.
 use Rattle.std.specs.Prelude.{ℕ, ◌+◌, ◌*◌, ◌≤◌, ◌<◌, ◌≡◌, true, false, List, map, length, get_or}
-use Rattle.words.specs.Choice.{if◌then◌else◌}
+use Rattle.words.specs.Choice.{when◌then◌else◌}
 use Rattle.words.specs.Lists.{all, joined, up_from}
 use Rattle.runs.specs.Changes.{change_count, change_at, list_number}
 use Rattle.list.specs.Readers.{Whole}
@@ -14,11 +14,11 @@ use Rattle.placer.specs.declared.placing.Tally.{Tally}
 -- `taker` has for a block that the changes took the change that took it.
 -- the bytes of a held block: the pool's where the old book holds it, else those of the change that took it
 unfoldable pub held_block : List Entry → List ℕ → List ℕ → List ℕ → ℕ → List ℕ
-held_block old taker list pool p = if (entry_at old p).held then block_at pool p else (change_at list (get_or taker p 0)).block
+held_block old taker list pool p = when (entry_at old p).held then block_at pool p else (change_at list (get_or taker p 0)).block
 
 -- the bytes of a block, held or not
 unfoldable pub block_now : List Entry → List Entry → List ℕ → List ℕ → List ℕ → ℕ → List ℕ
-block_now old new taker list pool p = if (entry_at new p).held then held_block old taker list pool p else block_at pool p
+block_now old new taker list pool p = when (entry_at new p).held then held_block old taker list pool p else block_at pool p
 
 -- the pool as the model has it: the blocks taken so far are written
 unfoldable pub pool_now : List Entry → List Entry → List ℕ → List ℕ → List ℕ → List ℕ

@@ -1,7 +1,7 @@
 -- A run of an image, which gives a block number for each LBN: the checks past number 16, and the blocks.
 use Rattle.std.specs.Prelude.{ℕ, ◌+◌, ◌-◌, ◌*◌, ◌≤◌, ◌<◌, Bool, not, List, eqb, length, get_or}
 use Rattle.words.specs.Blocks.{block_size, unmapped}
-use Rattle.words.specs.Choice.{if◌then◌else◌}
+use Rattle.words.specs.Choice.{when◌then◌else◌}
 use Rattle.words.specs.Lists.{some_of, up_from}
 use Rattle.words.specs.Outcome.{Outcome, accepted, unless}
 use Rattle.words.specs.Sections.{flat}
@@ -31,7 +31,7 @@ blocks_from pool image first many = flat (λ l. block_at pool (image l)) (up_fro
 -- 18, or the blocks
 unfoldable pub run_from : List ℕ → (ℕ → ℕ) → ℕ → ℕ → Outcome (List ℕ)
 run_from pool image first many =
-    unless (if some_of (λ l. eqb (image l) unmapped) (up_from first many) then 18 else 0) (accepted (blocks_from pool image first many))
+    unless (when some_of (λ l. eqb (image l) unmapped) (up_from first many) then 18 else 0) (accepted (blocks_from pool image first many))
 
 -- from number 21 on, where the volume's later backups are in the slots from `at` on
 unfoldable pub restored_from : Book → List ℕ → ℕ → ℕ → ℕ → ℕ → ℕ → Outcome (List ℕ)

@@ -9,7 +9,7 @@ use lib.Dec.{ltb, eqb}
 use lib.ListN.{length, get_or, set, length-set}
 use borrow.Author.Tests.{eqb-true, eq-eqb, ne_eqb, ltb-true}
 use Rattle.words.specs.Blocks.{unmapped}
-use Rattle.words.specs.Choice.{if◌then◌else◌}
+use Rattle.words.specs.Choice.{when◌then◌else◌}
 use Rattle.words.proofs.ChoiceLaws.{and_true, true_and, same_test}
 use Rattle.words.specs.Lists.{each}
 use Rattle.words.proofs.Each.{each_at, at_each, each_same, all-each}
@@ -34,7 +34,7 @@ module _ (x : Book) (k : ℕ) where
   at a rs l = eqb (get_or a l 0) k || cell_sound x (first_before l rs unmapped)
 
   first_cons : (r : Rec) (rs : List Rec) (l : ℕ) (t : Bool) → eqb r.lbn l ≡ t
-      → first_before l (r ∷ rs) unmapped ≡ (if t then r.before else first_before l rs unmapped)
+      → first_before l (r ∷ rs) unmapped ≡ (when t then r.before else first_before l rs unmapped)
   first_cons r rs l true e = rw e
   first_cons r rs l false e = rw e
 

@@ -11,7 +11,7 @@ use lib.Dec.{eqb}
 use lib.ListN.{length, take, drop}
 use lib.Seq.{drop-cons}
 use borrow.Author.Tests.{eq-eqb, ne_eqb}
-use Rattle.words.specs.Choice.{if◌then◌else◌}
+use Rattle.words.specs.Choice.{when◌then◌else◌}
 use Rattle.words.specs.declared.PBN.{PBN}
 use Rattle.book.specs.Book.{Rec, Book, no_rec, slot_at, rec_at, cell_at}
 use Rattle.book.specs.Form.{pairs_ok}
@@ -72,9 +72,9 @@ unfolding before_in
 before_append lbn [] qs e = refl
 before_append lbn (r ∷ rs) qs e = go (eqb r.lbn lbn) e (before_append lbn rs qs)
   where
-    go : (t : Bool) → before_of (if t then some r else first_of lbn rs) ≡ Nothing
+    go : (t : Bool) → before_of (when t then some r else first_of lbn rs) ≡ Nothing
         → (before_in lbn rs ≡ Nothing → before_in lbn (rs ++ qs) ≡ before_in lbn qs)
-        → before_of (if t then some r else first_of lbn (rs ++ qs)) ≡ before_in lbn qs
+        → before_of (when t then some r else first_of lbn (rs ++ qs)) ≡ before_in lbn qs
     go true f ih = absurd (let z : ◌≡◌ {A = ℕ} 0 1 = cc in omega arith)
     go false f ih = ih f
 
@@ -83,8 +83,8 @@ unfolding before_in
 append_before lbn p [] qs e = absurd (let z : ◌≡◌ {A = ℕ} 0 1 = cc in omega arith)
 append_before lbn p (r ∷ rs) qs e = go (eqb r.lbn lbn) e (append_before lbn p rs qs)
   where
-    go : (t : Bool) → before_of (if t then some r else first_of lbn rs) ≡ At p → (before_in lbn rs ≡ At p → before_in lbn (rs ++ qs) ≡ At p)
-        → before_of (if t then some r else first_of lbn (rs ++ qs)) ≡ At p
+    go : (t : Bool) → before_of (when t then some r else first_of lbn rs) ≡ At p → (before_in lbn rs ≡ At p → before_in lbn (rs ++ qs) ≡ At p)
+        → before_of (when t then some r else first_of lbn (rs ++ qs)) ≡ At p
     go true f ih = f
     go false f ih = ih f
 

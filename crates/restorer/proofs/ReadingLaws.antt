@@ -6,7 +6,7 @@ use native.Mathlib.Omega.{arith}
 use lib.Dec.{leb, ltb, eqb}
 use borrow.Author.Tests.{eq-eqb, ne_eqb, eqb-false, le-leb, lt-leb}
 use Rattle.words.specs.Blocks.{unmapped}
-use Rattle.words.specs.Choice.{if◌then◌else◌}
+use Rattle.words.specs.Choice.{when◌then◌else◌}
 use Rattle.words.specs.Outcome.{refused, accepted, unless}
 use Rattle.book.specs.Book.{Book, retention_of}
 use Rattle.model.specs.Days.{kept}
@@ -64,7 +64,7 @@ number_mapped x v k lbn e =
     (go (no_volume x v) (eqb k 0 || ltb (backup_count x v) k) (kept (days x v) (retention_of x v) x.day k)
     (leb x.sizes.l lbn) (eqb (image x v k lbn) unmapped) e)
   where
-    go : (a b c d u : Bool) → numbers a b c (if d then 17 else if u then 18 else 0) ≡ 0 → u ≡ false
+    go : (a b c d u : Bool) → numbers a b c (when d then 17 else when u then 18 else 0) ≡ 0 → u ≡ false
     go a b c d false f = refl
     go true b c d true f = absurd (omega arith)
     go false true c d true f = absurd (omega arith)

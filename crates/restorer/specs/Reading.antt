@@ -1,7 +1,7 @@
 -- What a read's checks answer, step by step: document 01's number, or what the code goes on with.
 use Rattle.std.specs.Prelude.{ℕ, List, leb, eqb}
 use Rattle.words.specs.Blocks.{unmapped}
-use Rattle.words.specs.Choice.{if◌then◌else◌}
+use Rattle.words.specs.Choice.{when◌then◌else◌}
 use Rattle.words.specs.Outcome.{Outcome, refused, accepted, unless}
 use Rattle.book.specs.Book.{Book}
 use Rattle.book.specs.Layout.{book_of}
@@ -15,8 +15,8 @@ use Rattle.restorer.specs.declared.read.Sought.TheVariants.{At, Refused}
 -- 17: "The LBN is L or more"; 18: "The LBN is unmapped in it", where p is what the image has there
 unfoldable pub mapped_number : Book → ℕ → ℕ → ℕ
 mapped_number x lbn p =
-    if leb x.sizes.l lbn then 17 else
-    if eqb p unmapped then 18 else
+    when leb x.sizes.l lbn then 17 else
+    when eqb p unmapped then 18 else
     0
 
 -- ---- the search

@@ -9,7 +9,7 @@ use lib.ListN.{length}
 use borrow.Author.Tests.{lt-ltb, le-ltb, eq-eqb, ne_eqb, leb-false, ltb-false}
 use Rattle.words.proofs.Accepted.{unless-refused}
 use Rattle.words.proofs.Tests.{or_neither}
-use Rattle.words.specs.Choice.{if◌then◌else◌}
+use Rattle.words.specs.Choice.{when◌then◌else◌}
 use Rattle.words.specs.Outcome.{Outcome, refused, accepted, and_then, unless}
 use Rattle.book.specs.Book.{Book, retention_of}
 use Rattle.book.specs.Layout.{book_of}
@@ -72,7 +72,7 @@ unfolding room_number
 room-facts x n e = go (leb x.sizes.s (length x.slots)) (ltb x.sizes.j (length x.records + n)) refl refl e
   where
     go : (a b : Bool) → leb x.sizes.s (length x.slots) ≡ a → ltb x.sizes.j (length x.records + n) ≡ b
-        → ◌≡◌ {A = ℕ} (if a then 9 else if b then 10 else 0) 0 → (length x.slots < x.sizes.s) × (length x.records + n ≤ x.sizes.j)
+        → ◌≡◌ {A = ℕ} (when a then 9 else when b then 10 else 0) 0 → (length x.slots < x.sizes.s) × (length x.records + n ≤ x.sizes.j)
     go true b f g z = absurd (omega arith)
     go false true f g z = absurd (omega arith)
     go false false f g z = (leb-false _ _ f, ltb-false _ _ g)

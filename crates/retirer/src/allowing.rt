@@ -6,7 +6,7 @@ use super::clearing::mapped_cells;
 use fields::header;
 use form::form_number;
 use permit::allowing::{bad_day, room};
-use permit::slots::backups_of;
+use permit::backups::backups_of;
 use words::limits::LAST_VOLUME;
 use words::refusals;
 

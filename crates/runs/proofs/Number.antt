@@ -8,7 +8,7 @@ use native.Mathlib.Omega.{arith}
 use lib.Dec.{ltb, eqb}
 use lib.ListN.{length}
 use borrow.Author.Tests.{ltb-false, eqb-true, le-ltb, eq-eqb}
-use Rattle.words.specs.Choice.{if◌then◌else◌}
+use Rattle.words.specs.Choice.{when◌then◌else◌}
 use Rattle.runs.specs.Changes.{pairs, list_size, pairs_fit, list_number}
 
 -- what number 0 says of a list
@@ -19,7 +19,7 @@ pub record Accepted (L : ℕ) (b : List ℕ) : Type 0 where
 
 -- the number by its three tests
 abbrev pub ladder : Bool → Bool → Bool → ℕ
-ladder s f n = if s then 8 else if not f then 8 else if not n then 8 else 0
+ladder s f n = when s then 8 else when not f then 8 else when not n then 8 else 0
 
 module _ (L : ℕ) (b : List ℕ) where
   pub number_ladder : list_number L b ≡ ladder (ltb (length b) 2) (pairs_fit L 0 (pairs b)) (eqb (length b) (list_size b))

@@ -8,7 +8,7 @@ use native.Mathlib.Omega.{arith}
 use lib.Dec.{ltb, eqb}
 use lib.ListN.{length}
 use borrow.Author.Tests.{ltb-true, ltb-false, eqb-true, lt-ltb, le-ltb, le-leb, ne_eqb}
-use Rattle.words.specs.Choice.{if◌then◌else◌}
+use Rattle.words.specs.Choice.{when◌then◌else◌}
 use Rattle.words.specs.Lists.{bit}
 use Rattle.words.proofs.ChoiceLaws.{and_true}
 use Rattle.words.proofs.Prefixes.{bit-one}
@@ -49,9 +49,9 @@ cut-from (m ∷ ms) i s k n e h b z = go (eqb m 1) (below_or_not k max_run) (cut
     go : (t : Bool) → (k < max_run) ⊎ (max_run ≤ k)
         → ((s k n : ℕ) → n ≡ s * max_run + k → n ≤ suc i → k ≤ max_run → (k ≡ 0 → s ≡ 0)
         → cut (runs (suc i) n ms) ≡ pieces_from (suc i - n) s 0 ++ pairs_from (suc i) k ms)
-        → cut (if t then runs (suc i) (suc n) ms else run_before i n ++ runs (suc i) 0 ms)
+        → cut (when t then runs (suc i) (suc n) ms else run_before i n ++ runs (suc i) 0 ms)
         ≡ pieces_from (i - n) s 0
-        ++ ((if t && ltb k max_run then [] else run_before i k) ++ pairs_from (suc i) (if t && ltb k max_run then k + 1 else bit t) ms)
+        ++ ((when t && ltb k max_run then [] else run_before i k) ++ pairs_from (suc i) (when t && ltb k max_run then k + 1 else bit t) ms)
     go true (inl less) ih =
         rw (lt-ltb k max_run less, ← f) (ih s (k + 1) (suc n) (omega arith) (omega arith) (omega arith) (λ z. absurd (omega arith)))
     go true (inr all) ih =
@@ -94,7 +94,7 @@ fit-from L [] end i k s h b = rw append-nil at (fit-run L end i k [] s h (omega 
 fit-from L (m ∷ ms) end i k s h b = go (goes_on k m) refl (λ e n r j. fit-from L ms e (suc i) n r j (omega arith))
   where
     go : (t : Bool) → goes_on k m ≡ t → ((e n : ℕ) → n ≤ max_run → e + n ≤ suc i → pairs_fit L e (pairs_from (suc i) n ms) ≡ true)
-        → pairs_fit L end ((if t then [] else run_before i k) ++ pairs_from (suc i) (if t then k + 1 else bit (eqb m 1)) ms) ≡ true
+        → pairs_fit L end ((when t then [] else run_before i k) ++ pairs_from (suc i) (when t then k + 1 else bit (eqb m 1)) ms) ≡ true
     go true on ih = ih end (k + 1) (omega (arith, on-short k m on)) (omega arith)
     go false on ih =
         let n = bit (eqb m 1) in

@@ -9,7 +9,7 @@ use borrow.Author.Tests.{eq-eqb}
 use lib.Dec.{eqb}
 use lib.ListN.{length, replicate, length-append, length-map}
 use Rattle.words.specs.Blocks.{block_size, print_size}
-use Rattle.words.specs.Choice.{if◌then◌else◌}
+use Rattle.words.specs.Choice.{when◌then◌else◌}
 use Rattle.words.specs.Lists.{bit}
 use Rattle.words.specs.Sections.{tab}
 use Rattle.words.proofs.Prefixes.{bit-one}
@@ -68,7 +68,7 @@ pairs-most (m ∷ ms) i k b = go (goes_on k m) refl (pairs-most ms (suc i))
     go : (t : Bool) → goes_on k m ≡ t
         → ((n : ℕ) → n ≤ max_run → length (pairs_from (suc i) n ms) * max_run + length (marked_from (suc i) ms) * (max_run - 1)
         ≤ n + length ms * max_run + (max_run - 1))
-        → length ((if t then [] else run_before i k) ++ pairs_from (suc i) (if t then k + 1 else bit (eqb m 1)) ms) * max_run
+        → length ((when t then [] else run_before i k) ++ pairs_from (suc i) (when t then k + 1 else bit (eqb m 1)) ms) * max_run
         + length (marked_from i (m ∷ ms)) * (max_run - 1)
         ≤ k + length (m ∷ ms) * max_run + (max_run - 1)
     go true on ih =

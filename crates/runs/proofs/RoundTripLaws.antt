@@ -8,7 +8,7 @@ use native.Mathlib.Omega.{arith}
 use lib.ListN.{length, take, drop}
 use lib.Seq.{take_at}
 use lib.Dec.{ltb}
-use Rattle.words.specs.Choice.{if◌then◌else◌}
+use Rattle.words.specs.Choice.{when◌then◌else◌}
 use Rattle.words.specs.Lent.{Lent}
 use Rattle.words.specs.Lists.{all_zero}
 use Rattle.runs.proofs.ListBytes.{changes-back, list_number-back}
@@ -37,7 +37,7 @@ unfolding write_number
 input_written L marks prints image out h = go (input_ok L marks prints image) h
   where
     go : (t : Bool) → ◌≡◌ {A = ℕ}
-        (if not t then 19 else if ltb (length out) (length (marked_list marks prints image)) then 20 else 0) 0 → t ≡ true
+        (when not t then 19 else when ltb (length out) (length (marked_list marks prints image)) then 20 else 0) 0 → t ≡ true
     go true h = refl
     go false h = absurd (omega arith)
 

@@ -8,7 +8,7 @@ use native.Mathlib.Omega.{arith}
 use lib.ListN.{length, get_or}
 use lib.Dec.{ltb, eqb}
 use borrow.Author.Tests.{ltb-true, lt-ltb, eq-eqb, ne_eqb, eqb-true}
-use Rattle.words.specs.Choice.{if◌then◌else◌}
+use Rattle.words.specs.Choice.{when◌then◌else◌}
 use Rattle.words.proofs.ChoiceLaws.{and_true}
 use Rattle.words.proofs.Ranges.{up_from-snoc}
 use Rattle.words.specs.Lists.{up_from, joined, all, some_of, those, all_zero, bit}
@@ -25,7 +25,7 @@ marked-before l [] i h = refl
 marked-before l (m ∷ ms) i h = go (eqb m 1) (marked-before l ms (suc i) (omega arith))
   where
     go : (t : Bool) → some_of (eqb l) (marked_from (suc i) ms) ≡ false
-        → some_of (eqb l) (if t then i ∷ marked_from (suc i) ms else marked_from (suc i) ms) ≡ false
+        → some_of (eqb l) (when t then i ∷ marked_from (suc i) ms else marked_from (suc i) ms) ≡ false
     go true ih = rw (ne_eqb l i (λ e. omega arith)) ih
     go false ih = ih
 
@@ -33,13 +33,13 @@ pub marked_from_lem : (ms : List ℕ) (i n : ℕ) → some_of (eqb (i + n)) (mar
 marked_from_lem [] i n = refl
 marked_from_lem (m ∷ ms) i zero = go (eqb m 1)
   where
-    go : (t : Bool) → some_of (eqb (i + 0)) (if t then i ∷ marked_from (suc i) ms else marked_from (suc i) ms) ≡ t
+    go : (t : Bool) → some_of (eqb (i + 0)) (when t then i ∷ marked_from (suc i) ms else marked_from (suc i) ms) ≡ t
     go true = rw (eq-eqb (i + 0) i (add-zero i))
     go false = marked-before (i + 0) ms (suc i) (omega arith)
 marked_from_lem (m ∷ ms) i (suc n) = rw (add-suc i n, ← suc-add i n) (go (eqb m 1) (marked_from_lem ms (suc i) n))
   where
     go : (t : Bool) → some_of (eqb (suc i + n)) (marked_from (suc i) ms) ≡ eqb (get_or ms n 0) 1
-        → some_of (eqb (suc i + n)) (if t then i ∷ marked_from (suc i) ms else marked_from (suc i) ms) ≡ eqb (get_or ms n 0) 1
+        → some_of (eqb (suc i + n)) (when t then i ∷ marked_from (suc i) ms else marked_from (suc i) ms) ≡ eqb (get_or ms n 0) 1
     go true ih = rw (ne_eqb (suc i + n) i (λ e. omega arith)) ih
     go false ih = ih
 
@@ -56,8 +56,8 @@ ordered-from ws (m ∷ ms) i h =
     rw e (go (eqb m 1) (ordered-from ws ms (suc i) (λ n. rw (suc-add i n, ← add-suc i n) (h (suc n)))))
   where
     go : (t : Bool) → marked_from (suc i) ms ≡ those (λ l. eqb (get_or ws l 0) 1) (up_from (suc i) (length ms))
-        → (if t then i ∷ marked_from (suc i) ms else marked_from (suc i) ms)
-        ≡ (if t then i ∷ those (λ l. eqb (get_or ws l 0) 1) (up_from (suc i) (length ms))
+        → (when t then i ∷ marked_from (suc i) ms else marked_from (suc i) ms)
+        ≡ (when t then i ∷ those (λ l. eqb (get_or ws l 0) 1) (up_from (suc i) (length ms))
         else those (λ l. eqb (get_or ws l 0) 1) (up_from (suc i) (length ms)))
     go true ih = ap (λ (r : List ℕ). i ∷ r) ih
     go false ih = ih
@@ -70,7 +70,7 @@ marked-below [] i n h = refl
 marked-below (m ∷ ms) i n h = go (eqb m 1) (marked-below ms (suc i) n (omega arith))
   where
     go : (t : Bool) → all (λ l. ltb l n) (marked_from (suc i) ms) ≡ true
-        → all (λ l. ltb l n) (if t then i ∷ marked_from (suc i) ms else marked_from (suc i) ms) ≡ true
+        → all (λ l. ltb l n) (when t then i ∷ marked_from (suc i) ms else marked_from (suc i) ms) ≡ true
     go true ih = rw (lt-ltb i n (omega arith)) ih
     go false ih = ih
 
@@ -81,7 +81,7 @@ marked_cons m ms i = go (eqb m 1)
     rest : List ℕ
     rest = marked_from (suc i) ms
 
-    go : (t : Bool) → length (if t then i ∷ rest else rest) ≡ bit t + length rest
+    go : (t : Bool) → length (when t then i ∷ rest else rest) ≡ bit t + length rest
     go true = omega arith
     go false = omega arith
 
@@ -104,8 +104,8 @@ named-from (m ∷ ms) i k h = go (eqb m 1) (named-from ms (suc i) (suc k) (omega
   where
     go : (t : Bool) → joined (map run (runs (suc i) (suc k) ms)) ≡ up_from (suc i - suc k) (suc k) ++ marked_from (suc i) ms
         → joined (map run (runs (suc i) 0 ms)) ≡ up_from (suc i - 0) 0 ++ marked_from (suc i) ms
-        → joined (map run (if t then runs (suc i) (suc k) ms else run_before i k ++ runs (suc i) 0 ms))
-        ≡ up_from (i - k) k ++ (if t then i ∷ marked_from (suc i) ms else marked_from (suc i) ms)
+        → joined (map run (when t then runs (suc i) (suc k) ms else run_before i k ++ runs (suc i) 0 ms))
+        ≡ up_from (i - k) k ++ (when t then i ∷ marked_from (suc i) ms else marked_from (suc i) ms)
     go true more none =
         let start : suc i - suc k ≡ i - k = omega arith in
         let end : i - k + k ≡ i = omega arith in
@@ -143,7 +143,7 @@ past-from end [] i (suc k) h = lt-ltb end (i - suc k) (omega arith)
 past-from end (m ∷ ms) i k h = go (eqb m 1) k h (λ n. past-from end ms (suc i) n)
   where
     go : (t : Bool) (k : ℕ) → end + k < i → ((n : ℕ) → end + n < suc i → starts_past end (runs (suc i) n ms) ≡ true)
-        → starts_past end (if t then runs (suc i) (suc k) ms else run_before i k ++ runs (suc i) 0 ms) ≡ true
+        → starts_past end (when t then runs (suc i) (suc k) ms else run_before i k ++ runs (suc i) 0 ms) ≡ true
     go true k h ih = ih (suc k) (omega arith)
     go false zero h ih = ih 0 (omega arith)
     go false (suc k) h ih = lt-ltb end (i - suc k) (omega arith)
@@ -154,7 +154,7 @@ apart_from [] i (suc k) h = refl
 apart_from (m ∷ ms) i k h = go (eqb m 1) k h (λ n. apart_from ms (suc i) n)
   where
     go : (t : Bool) (k : ℕ) → k ≤ i → ((n : ℕ) → n ≤ suc i → apart (runs (suc i) n ms) ≡ true)
-        → apart (if t then runs (suc i) (suc k) ms else run_before i k ++ runs (suc i) 0 ms) ≡ true
+        → apart (when t then runs (suc i) (suc k) ms else run_before i k ++ runs (suc i) 0 ms) ≡ true
     go true k h ih = ih (suc k) (omega arith)
     go false zero h ih = ih 0 (omega arith)
     go false (suc k) h ih = rw (past-from (i - suc k + suc k) ms (suc i) 0 (omega arith)) (ih 0 (omega arith))

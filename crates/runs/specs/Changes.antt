@@ -1,7 +1,7 @@
 -- The change list (document 01, "Change list", and number 8).
 use Rattle.std.specs.Prelude.{ℕ, ◌+◌, ◌*◌, Bool, true, not, ◌&&◌, List, [], ◌∷◌, map, length, get_or, leb, ltb, eqb}
 use Rattle.words.specs.Blocks.{block_size, print_size}
-use Rattle.words.specs.Choice.{if◌then◌else◌}
+use Rattle.words.specs.Choice.{when◌then◌else◌}
 use Rattle.words.specs.Lists.{up_from, sum, joined}
 use Rattle.words.specs.Numbers.{num}
 use Rattle.words.specs.Sections.{tab, part}
@@ -82,7 +82,7 @@ pairs_fit L end (p ∷ ps) = pair_fits L end p.first p.many && pairs_fit L (p.fi
 -- number 8
 unfoldable pub list_number : ℕ → List ℕ → ℕ
 list_number L b =
-    if ltb (length b) 2 then 8 else
-    if not (pairs_fit L 0 (pairs b)) then 8 else
-    if not (eqb (length b) (list_size b)) then 8 else
+    when ltb (length b) 2 then 8 else
+    when not (pairs_fit L 0 (pairs b)) then 8 else
+    when not (eqb (length b) (list_size b)) then 8 else
     0

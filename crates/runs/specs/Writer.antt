@@ -1,6 +1,6 @@
 -- The writer on the aid (document 01, "The writer on the aid"; numbers 19 and 20).
 use Rattle.std.specs.Prelude.{ℕ, zero, suc, ◌+◌, ◌-◌, ◌*◌, ◌/◌, ◌%◌, ◌≡◌, Bool, not, ◌&&◌, List, [], ◌∷◌, ◌++◌, map, length, drop, leb, ltb, eqb}
-use Rattle.words.specs.Choice.{if◌then◌else◌}
+use Rattle.words.specs.Choice.{when◌then◌else◌}
 use Rattle.words.specs.Lent.{Lent}
 use Rattle.words.specs.Lists.{all, joined}
 use Rattle.words.specs.Numbers.{two}
@@ -16,7 +16,7 @@ run_before i (suc k) = record { first = i - suc k; many = suc k } ∷ []
 -- "the marked blocks in longest runs": the marks are those from LBN i on, and exactly the k blocks before i are marked in a row
 abbrev pub runs : ℕ → ℕ → List ℕ → List Pair
 runs i k [] = run_before i k
-runs i k (m ∷ ms) = if eqb m 1 then runs (suc i) (suc k) ms else run_before i k ++ runs (suc i) 0 ms
+runs i k (m ∷ ms) = when eqb m 1 then runs (suc i) (suc k) ms else run_before i k ++ runs (suc i) 0 ms
 
 -- "pieces of 64 from its start, the rest last" (document 02, K1): s full ones from LBN `first` on, then the k blocks that are left, if any
 abbrev pub pieces_from : ℕ → ℕ → ℕ → List Pair
@@ -33,7 +33,7 @@ marked_pairs marks = joined (map pieces (runs 0 0 marks))
 -- the marked LBNs, where the marks are those from LBN i on
 abbrev pub marked_from : ℕ → List ℕ → List ℕ
 marked_from i [] = []
-marked_from i (m ∷ ms) = if eqb m 1 then i ∷ marked_from (suc i) ms else marked_from (suc i) ms
+marked_from i (m ∷ ms) = when eqb m 1 then i ∷ marked_from (suc i) ms else marked_from (suc i) ms
 
 -- a block of the image, as a change
 unfoldable pub image_change : List ℕ → List ℕ → ℕ → Change
@@ -65,8 +65,8 @@ input_ok L marks prints image =
 
 unfoldable pub write_number : ℕ → List ℕ → List ℕ → List ℕ → List ℕ → ℕ
 write_number L marks prints image out =
-    if not (input_ok L marks prints image) then 19 else
-    if ltb (length out) (length (marked_list marks prints image)) then 20 else
+    when not (input_ok L marks prints image) then 19 else
+    when ltb (length out) (length (marked_list marks prints image)) then 20 else
     0
 
 -- room that is enough for any marks of L blocks: `aspen_list_bound` of the C header
@@ -75,10 +75,10 @@ list_bound L = 2 + (L + (max_run - 1)) / max_run * pair_size + L * (print_size +
 
 -- "answers its length in bytes"; "output past the list is unchanged"; a refusal leaves both as they were
 unfoldable pub answer_after : ℕ → List ℕ → ℕ → ℕ
-answer_after number list answer = if eqb number 0 then length list else answer
+answer_after number list answer = when eqb number 0 then length list else answer
 
 unfoldable pub output_after : ℕ → List ℕ → List ℕ → List ℕ
-output_after number list out = if eqb number 0 then list ++ drop (length list) out else out
+output_after number list out = when eqb number 0 then list ++ drop (length list) out else out
 
 abbrev pub list_of : Lent (List ℕ) → Lent (List ℕ) → Lent (List ℕ) → List ℕ
 list_of marks prints image = marked_list marks.entry.now prints.entry.now image.entry.now

@@ -13,7 +13,7 @@ use Rattle.words.proofs.All.{all-and}
 use Rattle.words.proofs.ChoiceLaws.{and_true, and_assoc, and-swap}
 use Rattle.words.proofs.Each.{each_same, tab-each}
 use Rattle.words.specs.Blocks.{unmapped}
-use Rattle.words.specs.Choice.{if◌then◌else◌}
+use Rattle.words.specs.Choice.{when◌then◌else◌}
 use Rattle.words.specs.Lists.{all}
 use Rattle.words.specs.Numbers.{num}
 use Rattle.words.specs.Sections.{tab}
@@ -29,11 +29,11 @@ use Rattle.slots.proofs.SlotLaws.{this, slots-drop, slots-none}
 
 -- below N is not unmapped
 after_in_lem : (retire : Bool) (n p : ℕ) → n ≤ unmapped
-    → (pbn_ok n p && (if retire then eqb p unmapped else not (eqb p unmapped))) ≡ after_in retire n p
+    → (pbn_ok n p && (when retire then eqb p unmapped else not (eqb p unmapped))) ≡ after_in retire n p
 unfolding pbn_ok after_in
 after_in_lem retire n p h = go retire (ltb p n) (eqb p unmapped) refl refl
   where
-    go : (r s t : Bool) → ltb p n ≡ s → eqb p unmapped ≡ t → ((s || t) && (if r then t else not t)) ≡ (if r then t else s)
+    go : (r s t : Bool) → ltb p n ≡ s → eqb p unmapped ≡ t → ((s || t) && (when r then t else not t)) ≡ (when r then t else s)
     go true true true e f = refl
     go true true false e f = refl
     go true false true e f = refl

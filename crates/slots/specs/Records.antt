@@ -1,7 +1,7 @@
 -- The used records in one pass, slot by slot: what is tested of each, and of what is left.
 use Rattle.std.specs.Prelude.{ℕ, ◌+◌, ◌*◌, ◌≤◌, ◌≡◌, Bool, true, ◌&&◌, List, [], ◌∷◌, ltb, eqb, length, take, drop}
 use Rattle.words.specs.Blocks.{unmapped}
-use Rattle.words.specs.Choice.{if◌then◌else◌}
+use Rattle.words.specs.Choice.{when◌then◌else◌}
 use Rattle.words.specs.Lists.{each}
 use Rattle.words.specs.Lists.{all}
 use Rattle.words.specs.Numbers.{num}
@@ -11,7 +11,7 @@ use Rattle.book.specs.Form.{rec_ok, after_ok, pairs_ok}
 
 -- both rules of an after in one: unmapped in a retire slot, and below N in any other
 unfoldable pub after_in : Bool → ℕ → ℕ → Bool
-after_in retire n p = if retire then eqb p unmapped else ltb p n
+after_in retire n p = when retire then eqb p unmapped else ltb p n
 
 -- a record of a slot that retires its volume, or of one that doesn't
 unfoldable pub rec_here : Sizes → Bool → Rec → Bool

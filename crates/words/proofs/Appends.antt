@@ -6,7 +6,7 @@ use mathlib.Core.List.{List, [], ◌∷◌, ◌++◌, map, append_assoc}
 use native.Mathlib.Nat.{suc-mul}
 use native.Mathlib.Omega.{arith}
 use lib.ListN.{length, get_or, length-append}
-use Rattle.words.specs.Choice.{if◌then◌else◌}
+use Rattle.words.specs.Choice.{when◌then◌else◌}
 use Rattle.words.proofs.ChoiceLaws.{and_assoc, or_assoc}
 use Rattle.words.specs.Lists.{all, some_of, those, count_of, last_of, joined, sum}
 
@@ -24,7 +24,7 @@ module _ {A : Type 0} (f : A → Bool) where
   those_append (x ∷ xs) ys = go (f x) (those_append xs ys)
     where
       go : (t : Bool) → those f (xs ++ ys) ≡ those f xs ++ those f ys
-          → (if t then x ∷ those f (xs ++ ys) else those f (xs ++ ys)) ≡ (if t then x ∷ those f xs else those f xs) ++ those f ys
+          → (when t then x ∷ those f (xs ++ ys) else those f (xs ++ ys)) ≡ (when t then x ∷ those f xs else those f xs) ++ those f ys
       go true ih = rw ih
       go false ih = ih
 
@@ -33,8 +33,8 @@ module _ {A : Type 0} (f : A → Bool) where
   count_of_append (x ∷ xs) ys = go (f x) (count_of_append xs ys)
     where
       go : (t : Bool) → count_of f (xs ++ ys) ≡ count_of f xs + count_of f ys
-          → (if t then suc (count_of f (xs ++ ys)) else count_of f (xs ++ ys))
-          ≡ (if t then suc (count_of f xs) else count_of f xs) + count_of f ys
+          → (when t then suc (count_of f (xs ++ ys)) else count_of f (xs ++ ys))
+          ≡ (when t then suc (count_of f xs) else count_of f xs) + count_of f ys
       go true ih = omega arith
       go false ih = ih
 

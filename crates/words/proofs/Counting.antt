@@ -6,7 +6,7 @@ use mathlib.Core.List.{List, [], ◌∷◌}
 use native.Mathlib.Omega.{arith}
 use lib.ListN.{length, get_or, set}
 use Rattle.words.proofs.Appends.{count_of_append}
-use Rattle.words.specs.Choice.{if◌then◌else◌}
+use Rattle.words.specs.Choice.{when◌then◌else◌}
 use Rattle.words.specs.Lists.{count_of, joined}
 use Rattle.words.specs.Lists.{bit}
 
@@ -14,7 +14,7 @@ module _ {A : Type 0} (f : A → Bool) where
   count_cons : (x : A) (xs : List A) → count_of f (x ∷ xs) ≡ bit (f x) + count_of f xs
   count_cons x xs = go (f x)
     where
-      go : (t : Bool) → (if t then suc (count_of f xs) else count_of f xs) ≡ bit t + count_of f xs
+      go : (t : Bool) → (when t then suc (count_of f xs) else count_of f xs) ≡ bit t + count_of f xs
       go true = omega arith
       go false = omega arith
 

@@ -7,7 +7,7 @@ use mathlib.Core.Option.{none, some}
 use native.Mathlib.Omega.{arith}
 use lib.ListN.{length, get_or}
 use Rattle.words.proofs.Options.{none_not, some_same}
-use Rattle.words.specs.Choice.{if◌then◌else◌}
+use Rattle.words.specs.Choice.{when◌then◌else◌}
 use Rattle.words.specs.Lists.{place_from}
 
 module _ {A : Type 0} (f : A → Bool) (d : A) where
@@ -22,7 +22,7 @@ module _ {A : Type 0} (f : A → Bool) (d : A) where
   place_found i [] p e = absurd (none_not p e)
   place_found i (x ∷ xs) p e = go (f x) refl e (place_found (suc i) xs p)
     where
-      go : (t : Bool) → f x ≡ t → (if t then some i else place_from (suc i) f xs) ≡ some p
+      go : (t : Bool) → f x ≡ t → (when t then some i else place_from (suc i) f xs) ≡ some p
           → (place_from (suc i) f xs ≡ some p → PlaceFound (suc i) xs p)
           → PlaceFound i (x ∷ xs) p
       go true h e' next = let q = some_same i p e' in record { index = 0; place = omega arith; inside = omega arith; passes = h }
@@ -35,7 +35,7 @@ module _ {A : Type 0} (f : A → Bool) (d : A) where
   place-first i [] p e j h = absurd (none_not p e)
   place-first i (x ∷ xs) p e j h = go (f x) refl e (place-first (suc i) xs p) j h
     where
-      go : (t : Bool) → f x ≡ t → (if t then some i else place_from (suc i) f xs) ≡ some p
+      go : (t : Bool) → f x ≡ t → (when t then some i else place_from (suc i) f xs) ≡ some p
           → (place_from (suc i) f xs ≡ some p → (j : ℕ) → suc i + j < p → f (get_or xs j d) ≡ false)
           → (j : ℕ) → i + j < p → f (get_or (x ∷ xs) j d) ≡ false
       go true k e' next j h = let q = some_same i p e' in absurd (omega arith)
@@ -47,7 +47,7 @@ module _ {A : Type 0} (f : A → Bool) (d : A) where
   place_none i [] e j h = absurd (omega arith)
   place_none i (x ∷ xs) e j h = go (f x) refl e (place_none (suc i) xs) j h
     where
-      go : (t : Bool) → f x ≡ t → (if t then some i else place_from (suc i) f xs) ≡ none
+      go : (t : Bool) → f x ≡ t → (when t then some i else place_from (suc i) f xs) ≡ none
           → (place_from (suc i) f xs ≡ none → (j : ℕ) → j < length xs → f (get_or xs j d) ≡ false)
           → (j : ℕ) → j < suc (length xs) → f (get_or (x ∷ xs) j d) ≡ false
       go true k e' next j h = absurd (none_not i (sym e'))

@@ -8,7 +8,7 @@ use native.Mathlib.Omega.{arith}
 use lib.Dec.{eqb, eqb-suc-zero}
 use lib.ListN.{length, get_or, take, drop, set, replicate}
 use borrow.Author.Tests.{eqb-true, eqb-false}
-use Rattle.words.specs.Choice.{if◌then◌else◌}
+use Rattle.words.specs.Choice.{when◌then◌else◌}
 use Rattle.words.proofs.ChoiceLaws.{and_true, true_and, or_cases, or_l, or_r, not_both}
 use Rattle.words.specs.Lists.{all, some_of, those, count_of, joined, up_from}
 use Rattle.words.proofs.Appends.{some_of_append}
@@ -75,7 +75,7 @@ module _ {A : Type 0} where
     all-those g (x ∷ xs) e = go (g x) (and_true (f x) (all f xs) e) (all-those g xs)
       where
         go : (t : Bool) → (f x ≡ true) × (all f xs ≡ true) → (all f xs ≡ true → all f (those g xs) ≡ true)
-            → all f (if t then x ∷ those g xs else those g xs) ≡ true
+            → all f (when t then x ∷ those g xs else those g xs) ≡ true
         go true w ih = true_and (f x) (all f (those g xs)) w.0 (ih w.1)
         go false w ih = ih w.1
 
@@ -119,7 +119,7 @@ module _ {A : Type 0} (f : A → Bool) where
   count_of-none (x ∷ xs) = go (f x) (count_of-none xs)
     where
       go : (t : Bool) → eqb (count_of f xs) 0 ≡ not (some_of f xs)
-          → eqb (if t then suc (count_of f xs) else count_of f xs) 0 ≡ not (t || some_of f xs)
+          → eqb (when t then suc (count_of f xs) else count_of f xs) 0 ≡ not (t || some_of f xs)
       go true ih = eqb-suc-zero (count_of f xs)
       go false ih = ih
 

@@ -8,7 +8,7 @@ use native.Mathlib.Omega.{arith}
 use lib.ListN.{length, get_or, take}
 use lib.Seq.{take-suc}
 use Rattle.words.proofs.Appends.{count_of_append}
-use Rattle.words.specs.Choice.{if◌then◌else◌}
+use Rattle.words.specs.Choice.{when◌then◌else◌}
 use Rattle.words.specs.Lists.{bit}
 use Rattle.words.specs.Lists.{count_of}
 
@@ -24,6 +24,6 @@ count-take {A} f xs p d h =
     ∙ count_of_append f (take p xs) (get_or xs p d ∷ [])
     ∙ ap (λ (k : ℕ). count_of f (take p xs) + k) (one (f (get_or xs p d)))
   where
-    one : (t : Bool) → (if t then 1 else 0) ≡ bit t
+    one : (t : Bool) → (when t then 1 else 0) ≡ bit t
     one true = refl
     one false = refl

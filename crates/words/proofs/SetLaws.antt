@@ -7,13 +7,13 @@ use lib.Dec.{eqb}
 use lib.ListN.{length, get_or, set}
 use lib.Seq.{get_or-set_same, get_or-set_other}
 use borrow.Author.Tests.{eqb-true, eqb-false}
-use Rattle.words.specs.Choice.{if◌then◌else◌}
+use Rattle.words.specs.Choice.{when◌then◌else◌}
 
 module _ {A : Type 0} where
-  pub get_d_set : (l : List A) (i q : ℕ) (y d : A) → i < length l → get_or (set l i y) q d ≡ (if eqb q i then y else get_or l q d)
+  pub get_d_set : (l : List A) (i q : ℕ) (y d : A) → i < length l → get_or (set l i y) q d ≡ (when eqb q i then y else get_or l q d)
   get_d_set l i q y d h = go (eqb q i) refl
     where
-      go : (t : Bool) → eqb q i ≡ t → get_or (set l i y) q d ≡ (if t then y else get_or l q d)
+      go : (t : Bool) → eqb q i ≡ t → get_or (set l i y) q d ≡ (when t then y else get_or l q d)
       go true e = rw (eqb-true q i e) (get_or-set_same l i y d h)
       go false e = get_or-set_other l i q y d (eqb-false q i e)
 

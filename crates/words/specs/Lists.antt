@@ -1,7 +1,7 @@
 -- Words over lists that the box's definitions are written with.
 use Rattle.std.specs.Prelude.{ℕ, zero, suc, ◌+◌, ◌-◌, Bool, true, false, not, ◌&&◌, ◌||◌, List, [], ◌∷◌, ◌++◌, eqb}
 use Rattle.std.proofs.Math.Option.{Option, none, some}
-use Rattle.words.specs.Choice.{if◌then◌else◌}
+use Rattle.words.specs.Choice.{when◌then◌else◌}
 
 module _ {ℓ} {A : Type ℓ} where
   -- the test holds for every element; for some element
@@ -16,20 +16,20 @@ module _ {ℓ} {A : Type ℓ} where
   -- the elements for which the test holds, in order; how many they are
   abbrev pub those : (A → Bool) → List A → List A
   those f [] = []
-  those f (x ∷ xs) = if f x then x ∷ those f xs else those f xs
+  those f (x ∷ xs) = when f x then x ∷ those f xs else those f xs
 
   abbrev pub count_of : (A → Bool) → List A → ℕ
   count_of f [] = 0
-  count_of f (x ∷ xs) = if f x then suc (count_of f xs) else count_of f xs
+  count_of f (x ∷ xs) = when f x then suc (count_of f xs) else count_of f xs
 
   -- the place of the first element for which the test holds, where the list's own first place is i
   abbrev pub place_from : ℕ → (A → Bool) → List A → Option ℕ
   place_from i f [] = none
-  place_from i f (x ∷ xs) = if f x then some i else place_from (suc i) f xs
+  place_from i f (x ∷ xs) = when f x then some i else place_from (suc i) f xs
 
   abbrev pub first_that : (A → Bool) → List A → Option A
   first_that f [] = none
-  first_that f (x ∷ xs) = if f x then some x else first_that f xs
+  first_that f (x ∷ xs) = when f x then some x else first_that f xs
 
   -- the last element, or d where there is none
   abbrev pub last_of : A → List A → A

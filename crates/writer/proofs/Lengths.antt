@@ -7,7 +7,7 @@ use native.Mathlib.Nat.{zero-add, suc-mul, zero-mul, le_trans, mul-le-mul_right}
 use native.Mathlib.Omega.{arith}
 use lib.Dec.{eqb}
 use lib.ListN.{length, length-append}
-use Rattle.words.specs.Choice.{if◌then◌else◌}
+use Rattle.words.specs.Choice.{when◌then◌else◌}
 use Rattle.words.specs.Numbers.{two}
 use Rattle.words.specs.Sections.{flat}
 use Rattle.words.proofs.SectionLaws.{length-flat}
@@ -37,8 +37,8 @@ length-elements size b (m ∷ ms) i h =
     go (eqb m 1) (length-elements size b ms (suc i) (rw s h)) (length-element size b i (i + suc (length ms)) (omega arith) h)
   where
     go : (t : Bool) → length (marked_elements size b (suc i) ms) ≡ length (marked_from (suc i) ms) * size → length (element size b i) ≡ size
-        → length (flat (element size b) (if t then i ∷ marked_from (suc i) ms else marked_from (suc i) ms))
-        ≡ length (if t then i ∷ marked_from (suc i) ms else marked_from (suc i) ms) * size
+        → length (flat (element size b) (when t then i ∷ marked_from (suc i) ms else marked_from (suc i) ms))
+        ≡ length (when t then i ∷ marked_from (suc i) ms else marked_from (suc i) ms) * size
     go true ih e = rw (length-append, suc-mul) (omega arith)
     go false ih e = ih
 

@@ -10,7 +10,7 @@ use lib.Dec.{eqb}
 use borrow.Author.Tests.{eq-eqb, ne_eqb}
 use lib.ListN.{length, get_or, take, drop, drop_of_length-le}
 use lib.Seq.{drop-cons}
-use Rattle.words.specs.Choice.{if◌then◌else◌}
+use Rattle.words.specs.Choice.{when◌then◌else◌}
 use Rattle.words.specs.Sections.{flat}
 use Rattle.words.specs.Laying.{Stored}
 use Rattle.words.proofs.LayingLaws.{Left, left-room, left-more, left-none}
@@ -32,8 +32,8 @@ module _ (size : ℕ) (b : List ℕ) where
   unfolding marked_elements if_marked
   elements_cons i m ms = go (eqb m 1)
     where
-      go : (t : Bool) → flat (element size b) (if t then i ∷ marked_from (suc i) ms else marked_from (suc i) ms)
-          ≡ (if t then element size b i else []) ++ flat (element size b) (marked_from (suc i) ms)
+      go : (t : Bool) → flat (element size b) (when t then i ∷ marked_from (suc i) ms else marked_from (suc i) ms)
+          ≡ (when t then element size b i else []) ++ flat (element size b) (marked_from (suc i) ms)
       go true = refl
       go false = refl
 

@@ -1,13 +1,13 @@
 -- The marked ones of the fingerprints and the blocks, and what the writer of the whole list requires.
 use Rattle.std.specs.Prelude.{ℕ, ◌*◌, ◌≤◌, ◌≡◌, List, [], eqb, length}
-use Rattle.words.specs.Choice.{if◌then◌else◌}
+use Rattle.words.specs.Choice.{when◌then◌else◌}
 use Rattle.words.specs.Sections.{flat, part}
 use Rattle.words.specs.Blocks.{block_size, print_size}
 use Rattle.runs.specs.Writer.{marked_pairs, marked_from, marked_list}
 
 -- the bytes of a block that is marked
 unfoldable pub if_marked : ℕ → List ℕ → List ℕ
-if_marked m bytes = if eqb m 1 then bytes else []
+if_marked m bytes = when eqb m 1 then bytes else []
 
 -- element l of those that are `size` bytes each, and the marked ones where the marks are those from LBN i on
 unfoldable pub element : ℕ → List ℕ → ℕ → List ℕ

@@ -5,7 +5,7 @@ use mathlib.Core.Bool.{Bool, true, false, ◌&&◌}
 use mathlib.Core.List.{List, [], ◌∷◌}
 use lib.ListN.{length, get_or, set}
 use lib.Dec.{leb, eqb}
-use Rattle.words.specs.Choice.{if◌then◌else◌}
+use Rattle.words.specs.Choice.{when◌then◌else◌}
 use Rattle.words.specs.Lists.{some_of, count_of, joined}
 use Rattle.book.specs.Book.{Book, entry_at, retention_of, Sized}
 use Rattle.book.specs.Form.{sizes_ok, book_ok}
@@ -27,7 +27,7 @@ abbrev pub taken_by : List ℕ → Backup → Taken
 taken_by m b = record {
   volume = b.volume;
   day = b.day;
-  what = if b.retire then retirement else image (applied m b.records);
+  what = when b.retire then retirement else image (applied m b.records);
   changes = length b.records;
 }
 

@@ -7,7 +7,7 @@ use native.Mathlib.Omega.{arith}
 use lib.Dec.{eqb, leb-zero}
 use lib.ListN.{length, get_or, set, replicate, length-map}
 use Rattle.words.specs.Blocks.{unmapped}
-use Rattle.words.specs.Choice.{if◌then◌else◌}
+use Rattle.words.specs.Choice.{when◌then◌else◌}
 use Rattle.words.proofs.ChoiceLaws.{and_false, or_no, not_both}
 use Rattle.words.specs.Lists.{joined, count_of}
 use Rattle.runs.specs.Changes.{Change, change_count, changes}
@@ -153,7 +153,7 @@ module _ {x : Book} {pool : List ℕ} {q : Plain} (g : Agree x pool q) (v t : �
   expiry-after p h =
       r.expiries p h
       ∙ omega (
-        ap (λ (u : ℕ). if has_before p r.new then u else 0) due-new,
+        ap (λ (u : ℕ). when has_before p r.new then u else 0) due-new,
         arith,
         g.expiries p h,
         ap (λ (bs : List Backup). until_in y p bs) journal-after,

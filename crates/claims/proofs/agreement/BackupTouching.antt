@@ -8,7 +8,7 @@ use lib.ListN.{get_or}
 use borrow.Author.Tests.{eq-eqb}
 use Rattle.words.proofs.Appends.{those_append, map_append, last_of_append}
 use Rattle.words.specs.Blocks.{unmapped}
-use Rattle.words.specs.Choice.{if◌then◌else◌}
+use Rattle.words.specs.Choice.{when◌then◌else◌}
 use Rattle.words.specs.Lists.{some_of, last_of}
 use Rattle.runs.specs.Changes.{changes, change_count, lbns}
 use Rattle.runs.proofs.Laws.{changes-lbns}
@@ -40,7 +40,7 @@ module _ {x : Book} {pool : List ℕ} {q : Plain} (g : Agree x pool q) (v t : �
   current-after : current q.sizes (taken_of v (q.taken ++ (added ∷ []))) ≡ applied (get_or x.maps v []) r.new
   current-after =
       ap (current q.sizes) (those_append (λ (i : Taken). eqb i.volume v) q.taken (added ∷ []))
-      ∙ ap (λ (s : Bool). current q.sizes (taken_of v q.taken ++ (if s then added ∷ [] else []))) (eq-eqb v v refl)
+      ∙ ap (λ (s : Bool). current q.sizes (taken_of v q.taken ++ (when s then added ∷ [] else []))) (eq-eqb v v refl)
       ∙ ap (λ (ms : List (List ℕ)). last_of (no_map q.sizes) ms)
       (map_append (λ (i : Taken). leaves q.sizes i.what) (taken_of v q.taken) (added ∷ []))
       ∙ last_of_append (no_map q.sizes) (map (λ (i : Taken). leaves q.sizes i.what) (taken_of v q.taken)) (u.copy ∷ [])

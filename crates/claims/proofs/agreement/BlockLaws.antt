@@ -8,7 +8,7 @@ use native.Mathlib.Omega.{arith}
 use lib.ListN.{length, take, drop, set, length-append, length-take, length-drop}
 use lib.Seq.{drop-drop, take-add, take_at, drop_at, length-take-le}
 use Rattle.words.specs.Blocks.{block_size}
-use Rattle.words.specs.Choice.{if◌then◌else◌}
+use Rattle.words.specs.Choice.{when◌then◌else◌}
 use Rattle.words.specs.Lists.{place_from, same}
 use Rattle.book.specs.Book.{Entry, entry_at, is_free}
 use Rattle.book.specs.Next.{held_as}
@@ -22,7 +22,7 @@ use Rattle.model.specs.Sides.{blocks_in}
 
 -- ---- the lookups
 
-print-head : (t : Bool) (g f b : List ℕ) → (t && same g f) ≡ has_print f (if t then held g b else free)
+print-head : (t : Bool) (g f b : List ℕ) → (t && same g f) ≡ has_print f (when t then held g b else free)
 print-head true g f b = refl
 print-head false g f b = refl
 
@@ -36,7 +36,7 @@ pub found-same : (es : List Entry) (pool f : List ℕ) → find_held es f ≡ Pl
 unfolding find_held PlainBackup.find_held
 found-same es pool f = print-place 0 es pool f
 
-free-head : (t : Bool) (g b : List ℕ) → not t ≡ Plain.is_free (if t then held g b else free)
+free-head : (t : Bool) (g b : List ℕ) → not t ≡ Plain.is_free (when t then held g b else free)
 free-head true g b = refl
 free-head false g b = refl
 
@@ -90,7 +90,7 @@ taken-same (e ∷ es) pool f c (suc p) h k l =
     let big : block_size ≤ length pool = omega arith in
     let rest : length (drop block_size pool) ≡ pool_size (length es) = simp length-drop (omega arith) in
     rw (take_with pool c p big, drop_with pool c p big)
-    (ap (λ (bs : List Block). (if e.held then held e.print (take block_size pool) else free) ∷ bs)
+    (ap (λ (bs : List Block). (when e.held then held e.print (take block_size pool) else free) ∷ bs)
     (taken-same es (drop block_size pool) f c p (omega arith) rest l))
 
 -- ---- an entry that keeps its state and fingerprint shows the same block

@@ -7,7 +7,7 @@ use native.Mathlib.Omega.{arith}
 use lib.ListN.{length, get_or, take, drop}
 use lib.Seq.{drop-drop}
 use Rattle.words.specs.Blocks.{block_size}
-use Rattle.words.specs.Choice.{if◌then◌else◌}
+use Rattle.words.specs.Choice.{when◌then◌else◌}
 use Rattle.words.proofs.ChoiceLaws.{not_both}
 use Rattle.book.specs.Book.{Entry, free_entry, entry_at}
 use Rattle.model.specs.Pool.{block_at}
@@ -16,7 +16,7 @@ use Rattle.model.specs.Sides.{blocks_in}
 
 -- the block of an entry, with its bytes
 abbrev pub block_of : Entry → List ℕ → Block
-block_of e c = if e.held then held e.print c else free
+block_of e c = when e.held then held e.print c else free
 
 pub blocks_in-at : (es : List Entry) (pool : List ℕ) (p : ℕ) → p < length es
     → get_or (blocks_in es pool) p free ≡ block_of (entry_at es p) (block_at pool p)

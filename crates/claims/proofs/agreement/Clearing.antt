@@ -10,7 +10,7 @@ use lib.ListN.{length, get_or, set, length-set, length-append, replicate, length
 use lib.Seq.{get_or-set_same, get_or-set_other, set-set, set-get_or, ext_get_or}
 use borrow.Author.Tests.{eqb-true, eqb-false, eq-eqb, ne_eqb, lt-ltb, ltb-true}
 use Rattle.words.specs.Blocks.{unmapped}
-use Rattle.words.specs.Choice.{if◌then◌else◌}
+use Rattle.words.specs.Choice.{when◌then◌else◌}
 use Rattle.words.proofs.Appends.{all_append, count_of_append}
 use Rattle.words.proofs.ChoiceLaws.{or_no}
 use Rattle.words.proofs.Counting.{count_set}
@@ -68,7 +68,7 @@ pub record Cleared (x : Book) (v until k : ℕ) (y : Book) : Type 0 where
   pub counts : (q : ℕ) → q < x.sizes.n → (entry_at y.entries q).count ≡ names_in x.maps v row q
   pub names : (q : ℕ) → q < x.sizes.n → names_in x.maps v row q + took_away q new ≡ named x q
   pub expiries : (q : ℕ) → q < x.sizes.n
-      → (entry_at y.entries q).expiry ≡ max (entry_at x.entries q).expiry (if has_before q new then until else 0)
+      → (entry_at y.entries q).expiry ≡ max (entry_at x.entries q).expiry (when has_before q new then until else 0)
   pub held : (q : ℕ) → (entry_at y.entries q).held ≡ (entry_at x.entries q).held
   pub blocks : (pool : List ℕ) → blocks_in y.entries pool ≡ blocks_in x.entries pool
   pub prints : prints_sound y ≡ true
@@ -165,7 +165,7 @@ module _ (x : Book) (v until : ℕ) (inside : v < length x.maps) (small : x.size
       took_more : (q : ℕ) → took_away q (c.new ++ (rec ∷ [])) ≡ took_away q c.new + bit (eqb q before)
       took_more q = count_of_append (λ (r : Rec). eqb r.before q) c.new (rec ∷ []) ∙ ap (λ (n : ℕ). took_away q c.new + n) (one (eqb before q) ∙ ap bit (eqb_swap before q))
         where
-          one : (t : Bool) → (if t then 1 else 0) ≡ bit t
+          one : (t : Bool) → (when t then 1 else 0) ≡ bit t
           one true = refl
           one false = refl
 
@@ -175,22 +175,22 @@ module _ (x : Book) (v until : ℕ) (inside : v < length x.maps) (small : x.size
           ∙ ap (λ (t : Bool). has_before q c.new || t) (or_no (eqb before q) ∙ eqb_swap before q)
 
       expiry-lower : (q : ℕ) → q < x.sizes.n
-          → (entry_at (lower until before es) q).expiry ≡ max (entry_at es q).expiry (if eqb q before then until else 0)
+          → (entry_at (lower until before es) q).expiry ≡ max (entry_at es q).expiry (when eqb q before then until else 0)
       unfolding lowered count_as expiry_as
       expiry-lower q h = ap (λ (e : Entry). e.expiry) (lower-at until before es q (omega arith) in_entries) ∙ go (eqb q before)
         where
-          go : (t : Bool) → (if t then lowered until (entry_at es q) else entry_at es q).expiry
-              ≡ max (entry_at es q).expiry (if t then until else 0)
+          go : (t : Bool) → (when t then lowered until (entry_at es q) else entry_at es q).expiry
+              ≡ max (entry_at es q).expiry (when t then until else 0)
           go true = refl
           go false = omega arith
 
       expiry-next : (q : ℕ) → q < x.sizes.n → (entry_at (lower until before es) q).expiry
-          ≡ max (entry_at x.entries q).expiry (if has_before q (c.new ++ (rec ∷ [])) then until else 0)
+          ≡ max (entry_at x.entries q).expiry (when has_before q (c.new ++ (rec ∷ [])) then until else 0)
       expiry-next q h =
           expiry-lower q h
-          ∙ ap (λ (e : ℕ). max e (if eqb q before then until else 0)) (c.expiries q h)
+          ∙ ap (λ (e : ℕ). max e (when eqb q before then until else 0)) (c.expiries q h)
           ∙ later (entry_at x.entries q).expiry until (has_before q c.new) (eqb q before)
-          ∙ ap (λ (t : Bool). max (entry_at x.entries q).expiry (if t then until else 0)) (sym (before_more q))
+          ∙ ap (λ (t : Bool). max (entry_at x.entries q).expiry (when t then until else 0)) (sym (before_more q))
 
       cells-next : (l : ℕ) → get_or (set c.row k unmapped) l unmapped ≢ unmapped → get_or (set c.row k unmapped) l unmapped < x.sizes.n
       cells-next l z = go (eqb l k) refl

@@ -9,7 +9,7 @@ use lib.Dec.{ltb}
 use lib.ListN.{set, drop}
 use lib.Seq.{get_or-set_other}
 use borrow.Author.Tests.{ltb-false}
-use Rattle.words.specs.Choice.{if◌then◌else◌}
+use Rattle.words.specs.Choice.{when◌then◌else◌}
 use Rattle.words.proofs.ChoiceLaws.{and_true, not_both}
 use Rattle.words.specs.Lists.{all, some_of}
 use Rattle.book.specs.Book.{volumes, Slot, Rec, Book}
@@ -61,7 +61,7 @@ pub enrol-volume : (x : Book) (v r : ℕ) → enrol_number x v r ≡ 0 → (v < 
 unfolding enrol_number
 enrol-volume x v r e = go (ltb 7 v) (enrolled x v) (bad_retention r) refl refl e
   where
-    go : (a b c : Bool) → ltb 7 v ≡ a → enrolled x v ≡ b → ◌≡◌ {A = ℕ} (if a || b then 5 else if c then 6 else 0) 0
+    go : (a b c : Bool) → ltb 7 v ≡ a → enrolled x v ≡ b → ◌≡◌ {A = ℕ} (when a || b then 5 else when c then 6 else 0) 0
         → (v < volumes) × (b ≡ false)
     go true b c f h e = absurd (omega arith)
     go false true c f h e = absurd (omega arith)

@@ -11,7 +11,7 @@ use lib.ListN.{length, get_or, set, length-set}
 use lib.Seq.{get_or-set_same, get_or-set_other, set-set}
 use borrow.Author.Tests.{eqb-true, eqb-false, eq-eqb, ne_eqb}
 use Rattle.words.specs.Blocks.{unmapped}
-use Rattle.words.specs.Choice.{if◌then◌else◌}
+use Rattle.words.specs.Choice.{when◌then◌else◌}
 use Rattle.words.specs.Lists.{bit}
 use Rattle.words.proofs.Appends.{length-rows}
 use Rattle.words.proofs.Counting.{count_most, count_set, count-joined}
@@ -147,7 +147,7 @@ module _ (x : Book) (v : ℕ) (inside : v < length x.maps) (small : x.sizes.n < 
       blocks = a.alike.blocks ∙ sym (moved-blocks until before p w.book.entries w.pool);
       cursor = a.alike.cursor;
       taken = a.alike.taken;
-      touched = ap (λ (k : ℕ). k + (if eqb before unmapped then 1 else 2)) a.alike.touched;
+      touched = ap (λ (k : ℕ). k + (when eqb before unmapped then 1 else 2)) a.alike.touched;
       entries = length_moved until before p w.book.entries ∙ a.alike.entries;
       pool = a.alike.pool;
     }

@@ -9,7 +9,7 @@ use lib.Dec.{eqb}
 use lib.ListN.{length, set, length-set}
 use borrow.Author.Tests.{eqb-true, eqb-false, ne_eqb}
 use Rattle.words.specs.Blocks.{unmapped}
-use Rattle.words.specs.Choice.{if◌then◌else◌}
+use Rattle.words.specs.Choice.{when◌then◌else◌}
 use Rattle.words.specs.Lists.{bit}
 use Rattle.words.specs.Lists.{those}
 use Rattle.words.proofs.SetLaws.{get_d_set, get_or-set-kept}
@@ -27,7 +27,7 @@ module _ (until before : ℕ) (es : List Entry) where
   unfolding lower
   length-lower = go (eqb before unmapped)
     where
-      go : (t : Bool) → length (if t then es else set es before (lowered until (entry_at es before))) ≡ length es
+      go : (t : Bool) → length (when t then es else set es before (lowered until (entry_at es before))) ≡ length es
       go true = refl
       go false = length-set es before (lowered until (entry_at es before))
 
@@ -37,7 +37,7 @@ module _ (until before : ℕ) (es : List Entry) where
   unfolding lower
   lower-kept f k q = go (eqb before unmapped)
     where
-      go : (t : Bool) → f (entry_at (if t then es else set es before (lowered until (entry_at es before))) q) ≡ f (entry_at es q)
+      go : (t : Bool) → f (entry_at (when t then es else set es before (lowered until (entry_at es before))) q) ≡ f (entry_at es q)
       go true = refl
       go false = get_or-set-kept f es before (lowered until (entry_at es before)) free_entry (k (entry_at es before)) q
 
@@ -45,7 +45,7 @@ module _ (until before : ℕ) (es : List Entry) where
   unfolding lower lowered count_as expiry_as
   lower-blocks pool = go (eqb before unmapped)
     where
-      go : (t : Bool) → blocks_in (if t then es else set es before (lowered until (entry_at es before))) pool ≡ blocks_in es pool
+      go : (t : Bool) → blocks_in (when t then es else set es before (lowered until (entry_at es before))) pool ≡ blocks_in es pool
       go true = refl
       go false = blocks-kept es before (lowered until (entry_at es before)) pool refl refl
 
@@ -56,25 +56,25 @@ module _ (until before : ℕ) (es : List Entry) where
   unfolding lower lowered count_as expiry_as
   lower-prints = go (eqb before unmapped)
     where
-      go : (t : Bool) → prints_in (if t then es else set es before (lowered until (entry_at es before))) ≡ prints_in es
+      go : (t : Bool) → prints_in (when t then es else set es before (lowered until (entry_at es before))) ≡ prints_in es
       go true = refl
       go false = prints-kept es before (lowered until (entry_at es before)) refl refl
 
   -- the lowered entry is before's, and no other
   pub lower-at : (q : ℕ) → q < unmapped → (before ≢ unmapped → before < length es)
-      → entry_at (lower until before es) q ≡ (if eqb q before then lowered until (entry_at es q) else entry_at es q)
+      → entry_at (lower until before es) q ≡ (when eqb q before then lowered until (entry_at es q) else entry_at es q)
   unfolding lower
   lower-at q small k = go (eqb before unmapped) refl
     where
       named : (t : Bool) → eqb q before ≡ t
-          → (if t then lowered until (entry_at es before) else entry_at es q)
-          ≡ (if t then lowered until (entry_at es q) else entry_at es q)
+          → (when t then lowered until (entry_at es before) else entry_at es q)
+          ≡ (when t then lowered until (entry_at es q) else entry_at es q)
       named true e = rw (eqb-true q before e)
       named false e = refl
 
       go : (t : Bool) → eqb before unmapped ≡ t
-          → entry_at (if t then es else set es before (lowered until (entry_at es before))) q
-          ≡ (if eqb q before then lowered until (entry_at es q) else entry_at es q)
+          → entry_at (when t then es else set es before (lowered until (entry_at es before))) q
+          ≡ (when eqb q before then lowered until (entry_at es q) else entry_at es q)
       go true e = rw (ne_eqb q before (λ (z : q ≡ before). omega (arith, eqb-true before unmapped e)))
       go false e =
           get_d_set es before q (lowered until (entry_at es before)) free_entry (k (eqb-false before unmapped e))
@@ -117,24 +117,24 @@ module _ (until before p : ℕ) (es : List Entry) where
     unfolding lowered count_as expiry_as
     lower-count = ap (λ (e : Entry). e.count) (lower-at until before es q small k) ∙ go (eqb q before)
       where
-        go : (t : Bool) → (if t then lowered until (entry_at es q) else entry_at es q).count ≡ (entry_at es q).count - bit t
+        go : (t : Bool) → (when t then lowered until (entry_at es q) else entry_at es q).count ≡ (entry_at es q).count - bit t
         go true = refl
         go false = omega arith
 
-    pub moved-expiry : (entry_at (moved_entries until before p es) q).expiry ≡ max (entry_at es q).expiry (if eqb q before then until else 0)
+    pub moved-expiry : (entry_at (moved_entries until before p es) q).expiry ≡ max (entry_at es q).expiry (when eqb q before then until else 0)
     unfolding lowered raised count_as expiry_as
     moved-expiry =
         get_or-set-kept (λ (e : Entry). e.expiry) (lower until before es) p (raised (entry_at (lower until before es) p)) free_entry refl q
         ∙ ap (λ (e : Entry). e.expiry) (lower-at until before es q small k) ∙ go (eqb q before)
       where
-        go : (t : Bool) → (if t then lowered until (entry_at es q) else entry_at es q).expiry
-            ≡ max (entry_at es q).expiry (if t then until else 0)
+        go : (t : Bool) → (when t then lowered until (entry_at es q) else entry_at es q).expiry
+            ≡ max (entry_at es q).expiry (when t then until else 0)
         go true = refl
         go false = omega arith
 
     module _ (h : p < length es) where
       raise-at : entry_at (moved_entries until before p es) q
-          ≡ (if eqb q p then raised (entry_at (lower until before es) p) else entry_at (lower until before es) q)
+          ≡ (when eqb q p then raised (entry_at (lower until before es) p) else entry_at (lower until before es) q)
       raise-at = get_d_set (lower until before es) p q (raised (entry_at (lower until before es) p)) free_entry (rw length-lower h)
 
       pub moved-count : (entry_at (moved_entries until before p es) q).count ≡ (entry_at (lower until before es) q).count + bit (eqb q p)
@@ -142,7 +142,7 @@ module _ (until before p : ℕ) (es : List Entry) where
       moved-count = ap (λ (e : Entry). e.count) raise-at ∙ go (eqb q p) refl
         where
           go : (t : Bool) → eqb q p ≡ t
-              → (if t then raised (entry_at (lower until before es) p) else entry_at (lower until before es) q).count
+              → (when t then raised (entry_at (lower until before es) p) else entry_at (lower until before es) q).count
               ≡ (entry_at (lower until before es) q).count + bit t
           go true e = rw (eqb-true q p e) (omega arith)
           go false e = omega arith

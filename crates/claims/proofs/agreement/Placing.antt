@@ -9,7 +9,7 @@ use native.Mathlib.Omega.{arith}
 use lib.ListN.{length, get_or, length-set}
 use lib.Seq.{get_or-set_same, get_or-set_other}
 use Rattle.words.specs.Blocks.{block_size}
-use Rattle.words.specs.Choice.{if◌then◌else◌}
+use Rattle.words.specs.Choice.{when◌then◌else◌}
 use Rattle.words.specs.Lists.{same}
 use Rattle.words.proofs.SetLaws.{get_or-set-kept}
 use Rattle.words.specs.Outcome.{Outcome, refused, accepted}
@@ -136,8 +136,8 @@ module _ (c : Change) (w : Work) (u : PlainWork) (l : length c.block ≡ block_s
       rw s (go (same (block_at w.pool p) c.block))
     where
       go : (t : Bool) → BothPlaced w u
-          (if t then accepted (record { pbn = p; work = w }) else refused 11)
-          (if t then accepted (record { pbn = p; work = u }) else refused 11)
+          (when t then accepted (record { pbn = p; work = w }) else refused 11)
+          (when t then accepted (record { pbn = p; work = u }) else refused 11)
       go true = placed p w u (found-placed p e)
       go false = stopped 11 refl
 

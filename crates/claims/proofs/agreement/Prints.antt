@@ -6,7 +6,7 @@ use mathlib.Core.List.{List, [], ◌∷◌, map}
 use mathlib.Core.Option.{none, some}
 use native.Mathlib.Omega.{arith}
 use lib.ListN.{length, set}
-use Rattle.words.specs.Choice.{if◌then◌else◌}
+use Rattle.words.specs.Choice.{when◌then◌else◌}
 use Rattle.words.proofs.ChoiceLaws.{and_true, true_and, same_test}
 use Rattle.words.proofs.Options.{none_not}
 use Rattle.words.specs.Lists.{all, those, place_from, same, differ}
@@ -18,7 +18,7 @@ use Rattle.model.specs.Backup.{find_held}
 
 -- the fingerprints of the held blocks, one block at a time
 abbrev before : Bool → List ℕ → List (List ℕ) → List (List ℕ)
-before t f fs = if t then f ∷ fs else fs
+before t f fs = when t then f ∷ fs else fs
 
 abbrev prints_of : List Entry → List (List ℕ)
 prints_of [] = []
@@ -29,7 +29,7 @@ prints-are [] = refl
 prints-are (e ∷ es) = go e.held (prints-are es)
   where
     go : (t : Bool) → map (λ (e : Entry). e.print) (those (λ (e : Entry). e.held) es) ≡ prints_of es
-        → map (λ (e : Entry). e.print) (if t then e ∷ those (λ (e : Entry). e.held) es else those (λ (e : Entry). e.held) es)
+        → map (λ (e : Entry). e.print) (when t then e ∷ those (λ (e : Entry). e.held) es else those (λ (e : Entry). e.held) es)
         ≡ before t e.print (prints_of es)
     go true ih = ap (λ (fs : List (List ℕ)). e.print ∷ fs) ih
     go false ih = ih
@@ -49,7 +49,7 @@ none-head : (f : List ℕ) (e : Entry) (i : ℕ) (es : List Entry) → place_fro
     → (has_it f e ≡ false) × (place_from (suc i) (has_it f) es ≡ none)
 none-head f e i es h = go (has_it f e) h
   where
-    go : (t : Bool) → (if t then some i else place_from (suc i) (has_it f) es) ≡ none → (t ≡ false) × (place_from (suc i) (has_it f) es ≡ none)
+    go : (t : Bool) → (when t then some i else place_from (suc i) (has_it f) es) ≡ none → (t ≡ false) × (place_from (suc i) (has_it f) es ≡ none)
     go true k = absurd (none_not i (sym k))
     go false k = (refl, k)
 

@@ -8,7 +8,7 @@ use lib.Dec.{eqb, leb-zero}
 use lib.ListN.{length, set, replicate}
 use borrow.Author.Tests.{eqb-true, eq-eqb, not-true}
 use Rattle.words.specs.Blocks.{unmapped}
-use Rattle.words.specs.Choice.{if◌then◌else◌}
+use Rattle.words.specs.Choice.{when◌then◌else◌}
 use Rattle.words.proofs.ChoiceLaws.{and_false, or_l, or_no, or_r}
 use Rattle.words.proofs.Places.{count_of-none}
 use Rattle.words.specs.Lists.{joined, count_of}
@@ -133,7 +133,7 @@ module _ {x : Book} {pool : List ℕ} {q : Plain} (g : Agree x pool q) (v t : �
   expiry-after p h =
       c.expiries p h
       ∙ omega (
-        ap (λ (u : ℕ). if has_before p c.new then u else 0) due-new,
+        ap (λ (u : ℕ). when has_before p c.new then u else 0) due-new,
         arith,
         g.expiries p h,
         ap (λ (bs : List Backup). until_in y p bs) journal-after,

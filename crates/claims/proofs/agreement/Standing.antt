@@ -6,7 +6,7 @@ use mathlib.Core.Bool.{Bool, true, false, not, ◌||◌}
 use mathlib.Core.List.{List, [], ◌∷◌}
 use lib.Dec.{leb, ltb, eqb}
 use Rattle.words.specs.Blocks.{unmapped}
-use Rattle.words.specs.Choice.{if◌then◌else◌}
+use Rattle.words.specs.Choice.{when◌then◌else◌}
 use Rattle.words.specs.Lists.{all}
 use Rattle.words.specs.Outcome.{Outcome, refused, accepted, and_then, unless}
 use Rattle.book.specs.Book.{Sizes, Book, retention_of}
@@ -107,7 +107,7 @@ enrol-undamaged : (x : Book) (v r : ℕ) → is_damage (enrol_number x v r) ≡ 
 unfolding enrol_number
 enrol-undamaged x v r = go (ltb 7 v || enrolled x v) (bad_retention r)
   where
-    go : (a b : Bool) → is_damage (if a then 5 else if b then 6 else 0) ≡ false
+    go : (a b : Bool) → is_damage (when a then 5 else when b then 6 else 0) ≡ false
     go true b = refl
     go false true = refl
     go false false = refl
@@ -116,7 +116,7 @@ collect-undamaged : (x : Book) (t : ℕ) → is_damage (collect_number x t) ≡ 
 unfolding collect_number
 collect-undamaged x t = go (bad_day x.day t)
   where
-    go : (a : Bool) → is_damage (if a then 7 else 0) ≡ false
+    go : (a : Bool) → is_damage (when a then 7 else 0) ≡ false
     go true = refl
     go false = refl
 
@@ -126,7 +126,7 @@ read-undamaged x v k lbn =
     go (no_volume x v) (eqb k 0 || ltb (backup_count x v) k) (not (kept (days x v) (retention_of x v) x.day k)) (leb x.sizes.l lbn)
     (eqb (Read.image x v k lbn) unmapped)
   where
-    go : (a b c d e : Bool) → is_damage (if a then 5 else if b then 15 else if c then 16 else if d then 17 else if e then 18 else 0) ≡ false
+    go : (a b c d e : Bool) → is_damage (when a then 5 else when b then 15 else when c then 16 else when d then 17 else when e then 18 else 0) ≡ false
     go true b c d e = refl
     go false true c d e = refl
     go false false true d e = refl

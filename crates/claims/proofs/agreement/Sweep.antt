@@ -8,7 +8,7 @@ use native.Mathlib.Omega.{arith}
 use lib.Dec.{ltb, eqb}
 use lib.ListN.{length, take, drop}
 use Rattle.words.specs.Blocks.{block_size}
-use Rattle.words.specs.Choice.{if◌then◌else◌}
+use Rattle.words.specs.Choice.{when◌then◌else◌}
 use Rattle.words.proofs.ChoiceLaws.{and_true, true_and, not_both}
 use Rattle.words.specs.Lists.{all, those, count_of, differ, same}
 use Rattle.book.specs.Book.{Entry, entry_at}
@@ -29,7 +29,7 @@ pub after-count : (t : ℕ) (e : Entry) → (swept_entry t e).count ≡ e.count
 unfolding swept_entry made_free
 after-count t e = go (is_over t e)
   where
-    go : (o : Bool) → (if o then made_free e else e).count ≡ e.count
+    go : (o : Bool) → (when o then made_free e else e).count ≡ e.count
     go true = refl
     go false = refl
 
@@ -37,7 +37,7 @@ pub after-expiry : (t : ℕ) (e : Entry) → (swept_entry t e).expiry ≡ e.expi
 unfolding swept_entry made_free
 after-expiry t e = go (is_over t e)
   where
-    go : (o : Bool) → (if o then made_free e else e).expiry ≡ e.expiry
+    go : (o : Bool) → (when o then made_free e else e).expiry ≡ e.expiry
     go true = refl
     go false = refl
 
@@ -45,7 +45,7 @@ pub after-held : (t : ℕ) (e : Entry) → (swept_entry t e).held ≡ (e.held &&
 unfolding swept_entry made_free
 after-held t e = go (is_over t e) e.held refl
   where
-    go : (o h : Bool) → e.held ≡ h → (if o then made_free e else e).held ≡ (h && not o)
+    go : (o h : Bool) → e.held ≡ h → (when o then made_free e else e).held ≡ (h && not o)
     go true true f = refl
     go true false f = refl
     go false true f = f
@@ -54,12 +54,12 @@ after-held t e = go (is_over t e) e.held refl
 -- ---- blocks
 
 after_block : (t : ℕ) (e : Entry) (c : List ℕ) (m : Bool) → (e.held ≡ true → is_over t e ≡ not m)
-    → (if m then block_of e c else free) ≡ block_of (swept_entry t e) c
+    → (when m then block_of e c else free) ≡ block_of (swept_entry t e) c
 unfolding swept_entry made_free
 after_block t e c m f = go (is_over t e) e.held m refl refl f
   where
     go : (o h m : Bool) → is_over t e ≡ o → e.held ≡ h → (h ≡ true → o ≡ not m)
-        → (if m then (if h then held e.print c else free) else free) ≡ block_of (if o then made_free e else e) c
+        → (when m then (when h then held e.print c else free) else free) ≡ block_of (when o then made_free e else e) c
     go true true true a b f = absurd (not_both true refl (f refl))
     go true true false a b f = refl
     go true false m a b f = absurd (not_both e.held (over-was-held t e a) b)
@@ -88,8 +88,8 @@ swept-count mark t i (e ∷ es) pool f =
     (go (is_over t e) e.held (mark i) refl refl (λ h. rw add-zero at (f 0 (omega arith) h)))
   where
     go : (o h m : Bool) → is_over t e ≡ o → e.held ≡ h → (e.held ≡ true → is_over t e ≡ not m)
-        → (if is_free (if h then held e.print (take block_size pool) else free) || m then 0 else 1) + count_of (is_over t) es
-        ≡ (if o then suc (count_of (is_over t) es) else count_of (is_over t) es)
+        → (when is_free (when h then held e.print (take block_size pool) else free) || m then 0 else 1) + count_of (is_over t) es
+        ≡ (when o then suc (count_of (is_over t) es) else count_of (is_over t) es)
     go o false m a b f = rw (no o a b) (omega arith)
       where
         no : (o : Bool) → is_over t e ≡ o → e.held ≡ false → o ≡ false
@@ -107,7 +107,7 @@ held_prints es = map (λ e. e.print) (those (λ e. e.held) es)
 all_held : (f : List ℕ → Bool) (e : Entry) (es : List Entry) → all f (held_prints (e ∷ es)) ≡ true → all f (held_prints es) ≡ true
 all_held f e es h = go e.held h
   where
-    go : (t : Bool) → all f (map (λ e. e.print) (if t then e ∷ those (λ e. e.held) es else those (λ e. e.held) es)) ≡ true
+    go : (t : Bool) → all f (map (λ e. e.print) (when t then e ∷ those (λ e. e.held) es else those (λ e. e.held) es)) ≡ true
         → all f (held_prints es) ≡ true
     go true h = (and_true (f e.print) (all f (held_prints es)) h).1
     go false h = h
@@ -118,9 +118,9 @@ after-all f t [] h = refl
 after-all f t (e ∷ es) h = go (is_over t e) e.held refl h (after-all f t es (all_held f e es h))
   where
     go : (o k : Bool) → e.held ≡ k
-        → all f (map (λ e. e.print) (if k then e ∷ those (λ e. e.held) es else those (λ e. e.held) es)) ≡ true
+        → all f (map (λ e. e.print) (when k then e ∷ those (λ e. e.held) es else those (λ e. e.held) es)) ≡ true
         → all f (held_prints (map (swept_entry t) es)) ≡ true
-        → all f (held_prints ((if o then made_free e else e) ∷ map (swept_entry t) es)) ≡ true
+        → all f (held_prints ((when o then made_free e else e) ∷ map (swept_entry t) es)) ≡ true
     go true k b h ih = ih
     go false true b h ih = rw b (true_and (f e.print) _ (and_true (f e.print) (all f (held_prints es)) h).0 ih)
     go false false b h ih = rw b ih
@@ -131,9 +131,9 @@ after-differ t [] h = refl
 after-differ t (e ∷ es) h = go (is_over t e) e.held refl h (after-differ t es)
   where
     go : (o k : Bool) → e.held ≡ k
-        → differ (map (λ e. e.print) (if k then e ∷ those (λ e. e.held) es else those (λ e. e.held) es)) ≡ true
+        → differ (map (λ e. e.print) (when k then e ∷ those (λ e. e.held) es else those (λ e. e.held) es)) ≡ true
         → (differ (held_prints es) ≡ true → differ (held_prints (map (swept_entry t) es)) ≡ true)
-        → differ (held_prints ((if o then made_free e else e) ∷ map (swept_entry t) es)) ≡ true
+        → differ (held_prints ((when o then made_free e else e) ∷ map (swept_entry t) es)) ≡ true
     go true true b h ih = ih (and_true (all (λ y. not (same e.print y)) (held_prints es)) (differ (held_prints es)) h).1
     go true false b h ih = ih h
     go false true b h ih =

@@ -10,7 +10,7 @@ use lib.ListN.{length, get_or, set}
 use borrow.Author.Tests.{eqb-true, eqb-false}
 use Rattle.words.proofs.Appends.{some_of_append, map_append}
 use Rattle.words.specs.Blocks.{unmapped}
-use Rattle.words.specs.Choice.{if◌then◌else◌}
+use Rattle.words.specs.Choice.{when◌then◌else◌}
 use Rattle.words.proofs.ChoiceLaws.{or_r, or_no, not_both}
 use Rattle.words.specs.Lists.{bit}
 use Rattle.words.specs.Lists.{some_of, those, differ}
@@ -41,7 +41,7 @@ pub record Trail (x : Book) (v until : ℕ) (ds : List Change) (w : Work) (u : P
   pub sound : Sound (get_or x.maps v []) new
   pub lbns : map (λ (r : Rec). r.lbn) new ≡ map (λ (c : Change). c.lbn) ds
   pub expiries : (q : ℕ) → q < x.sizes.n
-      → (entry_at w.book.entries q).expiry ≡ max (entry_at x.entries q).expiry (if has_before q new then until else 0)
+      → (entry_at w.book.entries q).expiry ≡ max (entry_at x.entries q).expiry (when has_before q new then until else 0)
   pub used : x.day ≡ 0 → (q : ℕ) → q < x.sizes.n → (entry_at w.book.entries q).held ≡ true → names_in x.maps v u.copy q ≡ 0
       → (reaches x 0 q || has_before q new) ≡ true
   pub free : (q : ℕ) → q < x.sizes.n → (entry_at w.book.entries q).held ≡ false
@@ -53,7 +53,7 @@ pub record Trail (x : Book) (v until : ℕ) (ds : List Change) (w : Work) (u : P
 -- ---- small laws
 
 -- an expiry that was raised before
-pub later : (e t : ℕ) (a b : Bool) → max (max e (if a then t else 0)) (if b then t else 0) ≡ max e (if a || b then t else 0)
+pub later : (e t : ℕ) (a b : Bool) → max (max e (when a then t else 0)) (when b then t else 0) ≡ max e (when a || b then t else 0)
 later e t true true = omega arith
 later e t true false = omega arith
 later e t false true = omega arith
@@ -153,12 +153,12 @@ module _ (x : Book) (v : ℕ) (inside : v < length x.maps) (small : x.sizes.n < 
 
   expiry-next : (q : ℕ) → q < x.sizes.n
       → (entry_at (moved_entries until before p w'.book.entries) q).expiry
-      ≡ max (entry_at x.entries q).expiry (if has_before q (g.new ++ (rec ∷ [])) then until else 0)
+      ≡ max (entry_at x.entries q).expiry (when has_before q (g.new ++ (rec ∷ [])) then until else 0)
   expiry-next q k =
       moved-expiry until before p w'.book.entries q (omega arith) inside-next
-      ∙ ap (λ (e : ℕ). max e (if eqb q before then until else 0)) (r.expiries q ∙ g.expiries q k)
+      ∙ ap (λ (e : ℕ). max e (when eqb q before then until else 0)) (r.expiries q ∙ g.expiries q k)
       ∙ later (entry_at x.entries q).expiry until (has_before q g.new) (eqb q before)
-      ∙ ap (λ (t : Bool). max (entry_at x.entries q).expiry (if t then until else 0)) (sym (before_more q))
+      ∙ ap (λ (t : Bool). max (entry_at x.entries q).expiry (when t then until else 0)) (sym (before_more q))
 
   prints-next : differ (map (λ (e : Entry). e.print)
       (those (λ (e : Entry). e.held) (moved_entries until before p w'.book.entries))) ≡ true

@@ -9,7 +9,7 @@ use lib.Dec.{eqb}
 use lib.ListN.{length, get_or, set}
 use borrow.Author.Tests.{eqb-true, eq-eqb, eqb-false, not-true}
 use Rattle.words.specs.Blocks.{unmapped}
-use Rattle.words.specs.Choice.{if◌then◌else◌}
+use Rattle.words.specs.Choice.{when◌then◌else◌}
 use Rattle.words.proofs.ChoiceLaws.{and_true, true_and, not_both}
 use Rattle.words.specs.Lists.{all, those, count_of, joined, same, differ, up_from}
 use Rattle.words.proofs.Places.{all-place, place-all, all-up_from, up_from-all}
@@ -61,7 +61,7 @@ held-every f (e ∷ es) = go e.held refl (held-every f es)
   where
     go : (t : Bool) → e.held ≡ t → (all f (held_prints es) ≡ true) ↔ Every f es
         → (all f (map (λ (e : Entry). e.print)
-        (if t then e ∷ those (λ (e : Entry). e.held) es
+        (when t then e ∷ those (λ (e : Entry). e.held) es
         else those (λ (e : Entry). e.held) es)) ≡ true) ↔ Every f (e ∷ es)
     go true k ih = (to, λ g. true_and _ _ (g 0 (omega arith) k) (ih.1 (λ q h. g (suc q) (omega arith))))
       where
@@ -80,7 +80,7 @@ prints-differ (e ∷ es) = go e.held refl (prints-differ es)
   where
     go : (t : Bool) → e.held ≡ t → (differ (held_prints es) ≡ true) ↔ Differ es
         → (differ (map (λ (e : Entry). e.print)
-        (if t then e ∷ those (λ (e : Entry). e.held) es
+        (when t then e ∷ those (λ (e : Entry). e.held) es
         else those (λ (e : Entry). e.held) es)) ≡ true) ↔ Differ (e ∷ es)
     go true k ih = (to, from)
       where

@@ -12,7 +12,7 @@ use lib.Seq.{drop-append_seam}
 use Rattle.words.proofs.Accepted.{unless-accepted, then-accepted, refused_not, accepted-same}
 use Rattle.words.proofs.Appends.{count_of_append}
 use Rattle.words.specs.Blocks.{unmapped}
-use Rattle.words.specs.Choice.{if◌then◌else◌}
+use Rattle.words.specs.Choice.{when◌then◌else◌}
 use Rattle.words.specs.Lists.{bit}
 use Rattle.words.proofs.Counting.{count_set, count-set-kept, count_most}
 use Rattle.words.specs.Lists.{count_of, same}
@@ -61,7 +61,7 @@ module _ (c : Change) (w : Work) where
   held-counted none d e = free-counted (find_free w.book.entries w.book.cursor) d refl e
   held-counted (some p) d e = go (same (block_at w.pool p) c.block) e
     where
-      go : (t : Bool) → (if t then accepted (record { pbn = p; work = w }) else refused 11) ≡ accepted d → Took w d.work
+      go : (t : Bool) → (when t then accepted (record { pbn = p; work = w }) else refused 11) ≡ accepted d → Took w d.work
       go true f = took_none w d.work (ap (λ (d : Placed). d.work) (accepted-same _ d f))
       go false f = absurd (refused_not 11 d f)
 
@@ -79,7 +79,7 @@ lower-held : (until before : ℕ) (es : List Entry) → held_in (lower until bef
 unfolding lower lowered count_as expiry_as
 lower-held until before es = go (eqb before unmapped)
   where
-    go : (t : Bool) → held_in (if t then es else set es before (lowered until (entry_at es before))) ≡ held_in es
+    go : (t : Bool) → held_in (when t then es else set es before (lowered until (entry_at es before))) ≡ held_in es
     go true = refl
     go false = count-set-kept (λ (e : Entry). e.held) es before (lowered until (entry_at es before)) free_entry refl
 
@@ -101,7 +101,7 @@ module _ (v until lbn : ℕ) (d : Placed) where
     touched = go (eqb before unmapped);
   }
     where
-      go : (t : Bool) → d.work.touched + (if t then 1 else 2) ≡ d.work.touched + 1 + (if not t then 1 else 0)
+      go : (t : Bool) → d.work.touched + (when t then 1 else 2) ≡ d.work.touched + 1 + (when not t then 1 else 0)
       go true = omega arith
       go false = omega arith
 

@@ -7,7 +7,7 @@ use mathlib.Core.List.{List, [], ◌∷◌, map}
 use native.Mathlib.Omega.{arith}
 use lib.ListN.{length}
 use borrow.Author.Tests.{eqb-true, eq-eqb, leb-true, leb-false, ltb-true, ltb-false}
-use Rattle.words.specs.Choice.{if◌then◌else◌}
+use Rattle.words.specs.Choice.{when◌then◌else◌}
 use Rattle.words.proofs.ChoiceLaws.{and_true, not_both}
 use Rattle.words.specs.Lists.{count_of}
 use Rattle.words.proofs.Places.{get_d_map}
@@ -25,7 +25,7 @@ pub collect-days : (x : Book) (t : ℕ) → (collect_number x t ≡ 0) ↔ ((x.d
 unfolding collect_number
 collect-days x t = (λ e. (good-day x.day t).0 (go (bad_day x.day t) e), λ g. rw ((good-day x.day t).1 g))
   where
-    go : (a : Bool) → ◌≡◌ {A = ℕ} (if a then 7 else 0) 0 → a ≡ false
+    go : (a : Bool) → ◌≡◌ {A = ℕ} (when a then 7 else 0) 0 → a ≡ false
     go true e = absurd (omega arith)
     go false e = refl
 
@@ -47,7 +47,7 @@ after_iff : (t : ℕ) (e : Entry) → e.held ≡ true → ((swept_entry t e).hel
 unfolding swept_entry made_free
 after_iff t e h = go (is_over t e) refl
   where
-    go : (o : Bool) → is_over t e ≡ o → ((if o then made_free e else e).held ≡ false) ↔ ((e.count ≡ 0) × (e.expiry < t))
+    go : (o : Bool) → is_over t e ≡ o → ((when o then made_free e else e).held ≡ false) ↔ ((e.count ≡ 0) × (e.expiry < t))
     go true f = (λ z. (over_iff t e h).0 f, λ g. refl)
     go false f = (λ z. absurd (not_both e.held h z), λ g. absurd (not_both (is_over t e) ((over_iff t e h).1 g) f))
 
@@ -63,7 +63,7 @@ freed-entry : (t : ℕ) (e : Entry) → e.held ≡ true → (swept_entry t e).he
 unfolding swept_entry made_free
 freed-entry t e h z = go (is_over t e) z
   where
-    go : (o : Bool) → (if o then made_free e else e).held ≡ false → Freed e (if o then made_free e else e)
+    go : (o : Bool) → (when o then made_free e else e).held ≡ false → Freed e (when o then made_free e else e)
     go true z = record { print = refl; expiry = refl; count = refl }
     go false z = absurd (not_both e.held h z)
 
@@ -71,7 +71,7 @@ same-entry : (t : ℕ) (e : Entry) → (swept_entry t e).held ≡ e.held → swe
 unfolding swept_entry made_free
 same-entry t e z = go (is_over t e) refl z
   where
-    go : (o : Bool) → is_over t e ≡ o → (if o then made_free e else e).held ≡ e.held → (if o then made_free e else e) ≡ e
+    go : (o : Bool) → is_over t e ≡ o → (when o then made_free e else e).held ≡ e.held → (when o then made_free e else e) ≡ e
     go true f z = absurd (not_both e.held (over-was-held t e f) (sym z))
     go false f z = refl
 
@@ -104,9 +104,9 @@ freed-some t [] = refl
 freed-some t (e ∷ es) = go (is_over t e) e.held refl refl (freed-some t es)
   where
     go : (o h : Bool) → is_over t e ≡ o → e.held ≡ h → count_of (is_over t) es + held_in (map (swept_entry t) es) ≡ held_in es
-        → (if o then suc (count_of (is_over t) es) else count_of (is_over t) es)
-        + held_in ((if o then made_free e else e) ∷ map (swept_entry t) es)
-        ≡ (if h then suc (held_in es) else held_in es)
+        → (when o then suc (count_of (is_over t) es) else count_of (is_over t) es)
+        + held_in ((when o then made_free e else e) ∷ map (swept_entry t) es)
+        ≡ (when h then suc (held_in es) else held_in es)
     go true true f k ih = omega arith
     go true false f k ih = absurd (not_both e.held (over-was-held t e f) k)
     go false true f k ih = rw k (omega arith)

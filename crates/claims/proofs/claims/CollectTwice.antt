@@ -4,7 +4,7 @@ use mathlib.Core.Path.{◌≡◌, refl}
 use mathlib.Core.Bool.{Bool, true, false}
 use mathlib.Core.List.{List, [], ◌∷◌, map}
 use native.Mathlib.Omega.{arith}
-use Rattle.words.specs.Choice.{if◌then◌else◌}
+use Rattle.words.specs.Choice.{when◌then◌else◌}
 use Rattle.words.specs.Lists.{count_of}
 use Rattle.book.specs.Book.{Book, Entry}
 use Rattle.book.specs.Next.{with_day, with_entries, made_free}
@@ -15,7 +15,7 @@ after_not_over : (t : ℕ) (e : Entry) → is_over t (swept_entry t e) ≡ false
 unfolding is_over swept_entry made_free
 after_not_over t e = go (is_over t e) refl
   where
-    go : (o : Bool) → is_over t e ≡ o → is_over t (if o then made_free e else e) ≡ false
+    go : (o : Bool) → is_over t e ≡ o → is_over t (when o then made_free e else e) ≡ false
     go true f = refl
     go false f = f
 

@@ -10,7 +10,7 @@ use lib.Seq.{drop-drop}
 use Rattle.words.proofs.Accepted.{unless-accepted, then-accepted, accepted-same}
 use Rattle.words.proofs.Options.{none_not, some_same}
 use Rattle.words.specs.Blocks.{block_size}
-use Rattle.words.specs.Choice.{if◌then◌else◌}
+use Rattle.words.specs.Choice.{when◌then◌else◌}
 use Rattle.words.specs.Outcome.{Outcome, refused, accepted, and_then}
 use Rattle.runs.specs.Changes.{Change, changes, change_count}
 use Rattle.book.specs.Book.{Sizes, Entry, Book, entry_at}
@@ -54,7 +54,7 @@ blocks-same (e ∷ es) pool pool' h =
     (blocks-same es (drop block_size pool) (drop block_size pool') (λ p k. block-next pool' p ∙ h (suc p) k ∙ sym (block-next pool p)))
   where
     go : (t : Bool) → e.held ≡ t
-        → (if t then held e.print (take block_size pool) else free) ≡ (if t then held e.print (take block_size pool') else free)
+        → (when t then held e.print (take block_size pool) else free) ≡ (when t then held e.print (take block_size pool') else free)
     go true k = ap (held e.print) (sym (h zero k))
     go false k = refl
 
@@ -128,7 +128,7 @@ module _ {x : Book} {pool : List ℕ} {q : Plain} (g : Agree x pool q) where
       go (entry_at x.entries p).held
       (sym (ap (λ (bs : List Block). shown_at bs p) g.blocks ∙ ap held_bytes (blocks_in-at x.entries pool p h)) ∙ e)
     where
-      go : (t : Bool) → held_bytes (if t then held (entry_at x.entries p).print (block_at pool p) else free) ≡ some b → block_at pool p ≡ b
+      go : (t : Bool) → held_bytes (when t then held (entry_at x.entries p).print (block_at pool p) else free) ≡ some b → block_at pool p ≡ b
       go true f = some_same (block_at pool p) b f
       go false f = absurd (none_not b f)
 

@@ -7,7 +7,7 @@ use native.Mathlib.Omega.{arith}
 use lib.Dec.{leb, ltb, eqb}
 use lib.ListN.{length}
 use borrow.Author.Tests.{eqb-true, leb-false, ltb-false, not-false}
-use Rattle.words.specs.Choice.{if◌then◌else◌}
+use Rattle.words.specs.Choice.{when◌then◌else◌}
 use Rattle.words.proofs.Tests.{or_neither}
 use Rattle.runs.specs.Changes.{change_count, list_number}
 use Rattle.book.specs.Book.{Book}
@@ -30,7 +30,7 @@ pub record Allowed (x : Book) (v t : ℕ) (list : List ℕ) : Type 0 where
 -- the number by its tests
 abbrev pub ladder : Bool → Bool → Bool → Bool → Bool → ℕ
 ladder volume day list slots records =
-    if volume then 5 else if day then 7 else if list then 8 else if slots then 9 else if records then 10 else 0
+    when volume then 5 else when day then 7 else when list then 8 else when slots then 9 else when records then 10 else 0
 
 ladder_zero : (a b c d e : Bool) → ladder a b c d e ≡ 0 → (a ≡ false) × (b ≡ false) × (c ≡ false) × (d ≡ false) × (e ≡ false)
 ladder_zero true b c d e z = absurd (omega arith)

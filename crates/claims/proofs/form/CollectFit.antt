@@ -5,7 +5,7 @@ use mathlib.Core.Bool.{Bool, true, false, ◌&&◌}
 use lib.Dec.{ltb, eqb}
 use lib.ListN.{length-map}
 use borrow.Author.Tests.{eqb-true}
-use Rattle.words.specs.Choice.{if◌then◌else◌}
+use Rattle.words.specs.Choice.{when◌then◌else◌}
 use Rattle.words.proofs.ChoiceLaws.{and_true}
 use Rattle.words.proofs.Mapped.{all_map}
 use Rattle.words.proofs.Places.{all_weaker}
@@ -23,7 +23,7 @@ after-fit : (t : ℕ) (e : Entry) → entry_fit e ≡ true → entry_fit (swept_
 unfolding swept_entry is_over made_free no_print
 after-fit t e f = go (is_over t e) refl
   where
-    go : (o : Bool) → is_over t e ≡ o → entry_fit (if o then made_free e else e) ≡ true
+    go : (o : Bool) → is_over t e ≡ o → entry_fit (when o then made_free e else e) ≡ true
     go true k =
         let none = (and_true e.held (eqb e.count 0) (and_true (e.held && eqb e.count 0) (ltb e.expiry t) k).0).1 in
         unused_fit (made_free e) (fit-expiry e f) refl (eqb-true e.count 0 none) refl

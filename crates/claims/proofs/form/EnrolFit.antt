@@ -7,7 +7,7 @@ use native.Mathlib.Omega.{arith}
 use lib.Dec.{ltb, eqb}
 use lib.ListN.{length-set}
 use borrow.Author.Tests.{le-leb, ne_eqb}
-use Rattle.words.specs.Choice.{if◌then◌else◌}
+use Rattle.words.specs.Choice.{when◌then◌else◌}
 use Rattle.words.proofs.Mapped.{get_or-set-test}
 use Rattle.words.proofs.Places.{all_set}
 use Rattle.book.specs.Book.{Book}
@@ -25,7 +25,7 @@ retention-passed : (x : Book) (v r : ℕ) → enrol_number x v r ≡ 0 → (r �
 unfolding enrol_number
 retention-passed x v r e = go (ltb 7 v || enrolled x v) (bad_retention r) refl e
   where
-    go : (a b : Bool) → bad_retention r ≡ b → ◌≡◌ {A = ℕ} (if a then 5 else if b then 6 else 0) 0 → (r ≢ 0) × (r ≤ 5000)
+    go : (a b : Bool) → bad_retention r ≡ b → ◌≡◌ {A = ℕ} (when a then 5 else when b then 6 else 0) 0 → (r ≢ 0) × (r ≤ 5000)
     go true b f e = absurd (omega arith)
     go false true f e = absurd (omega arith)
     go false false f e = let w = (good-retention r).0 f in (λ z. omega arith, w.1)

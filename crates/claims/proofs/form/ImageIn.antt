@@ -9,7 +9,7 @@ use lib.Dec.{ltb, eqb}
 use lib.ListN.{take, drop}
 use Rattle.words.proofs.Appends.{all_append}
 use Rattle.words.specs.Blocks.{unmapped}
-use Rattle.words.specs.Choice.{if◌then◌else◌}
+use Rattle.words.specs.Choice.{when◌then◌else◌}
 use Rattle.words.proofs.ChoiceLaws.{and_true, true_and}
 use Rattle.words.specs.Lists.{all, first_that}
 use Rattle.words.proofs.Places.{all_take, all_drop, all-those, all_weaker}
@@ -43,7 +43,7 @@ module _ (g : Rec → Bool) where
   first_passes f [] r e h = let z = h in cc
   first_passes f (q ∷ rs) r e h = go (f q) h (and_true (g q) (all g rs) e) (first_passes f rs r)
     where
-      go : (t : Bool) → (if t then some q else first_that f rs) ≡ some r → (g q ≡ true) × (all g rs ≡ true)
+      go : (t : Bool) → (when t then some q else first_that f rs) ≡ some r → (g q ≡ true) × (all g rs ≡ true)
           → (all g rs ≡ true → first_that f rs ≡ some r → g r ≡ true) → g r ≡ true
       go true k w ih = let a = w.0 in cc
       go false k w ih = ih w.1 k

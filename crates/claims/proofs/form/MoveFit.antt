@@ -12,7 +12,7 @@ use borrow.Author.Tests.{eqb-true, eqb-false, lt-ltb, eq-eqb, ne_eqb}
 use Rattle.words.proofs.Accepted.{unless-accepted}
 use Rattle.words.proofs.Appends.{all_append}
 use Rattle.words.specs.Blocks.{unmapped}
-use Rattle.words.specs.Choice.{if◌then◌else◌}
+use Rattle.words.specs.Choice.{when◌then◌else◌}
 use Rattle.words.proofs.ChoiceLaws.{and_true, true_and, or_l}
 use Rattle.words.specs.Lists.{all}
 use Rattle.words.specs.Outcome.{accepted}
@@ -36,7 +36,7 @@ move-passed until before p es e mapped =
     go (eqb before unmapped) (eqb (entry_at es before).count 0) (eqb (entry_at (lower until before es) p).count 65535) refl refl e
   where
     go : (a b c : Bool) → eqb before unmapped ≡ a → eqb (entry_at es before).count 0 ≡ b
-        → ◌≡◌ {A = ℕ} (if not a && b then 13 else if c then 14 else 0) 0 → (entry_at es before).count ≢ 0
+        → ◌≡◌ {A = ℕ} (when not a && b then 13 else when c then 14 else 0) 0 → (entry_at es before).count ≢ 0
     go true b c f g e = absurd (mapped (eqb-true before unmapped f))
     go false true c f g e = absurd (omega arith)
     go false false c f g e = eqb-false (entry_at es before).count 0 g
@@ -58,7 +58,7 @@ module _ (until before : ℕ) (es : List Entry) where
       fit : entry_fit e ≡ true
       fit = entry-fit es before f
 
-      go : (t : Bool) → eqb before unmapped ≡ t → all entry_fit (if t then es else set es before (lowered until e)) ≡ true
+      go : (t : Bool) → eqb before unmapped ≡ t → all entry_fit (when t then es else set es before (lowered until e)) ≡ true
       go true k = f
       go false k =
           all_set entry_fit es before (lowered until e) f

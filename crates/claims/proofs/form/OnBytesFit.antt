@@ -9,7 +9,7 @@ use lib.ListN.{length}
 use borrow.Author.Tests.{le-ltb, eq-eqb}
 use Rattle.words.proofs.Accepted.{unless-accepted}
 use Rattle.words.specs.Blocks.{block_size}
-use Rattle.words.specs.Choice.{if◌then◌else◌}
+use Rattle.words.specs.Choice.{when◌then◌else◌}
 use Rattle.words.proofs.ChoiceLaws.{and_true}
 use Rattle.words.specs.Outcome.{accepted, and_then, unless}
 use Rattle.book.specs.Book.{Sizes, Book}
@@ -34,7 +34,7 @@ format_on_bytes b z b' e =
     let a = unless-accepted (format_number b z) (accepted (bytes (fresh z))) b' e in
     ((and_true (sizes_ok z) (eqb (length b) (book_size z)) (go (sizes_ok z && eqb (length b) (book_size z)) a.0)).0, cc a.1)
   where
-    go : (t : Bool) → ◌≡◌ {A = ℕ} (if not t then 1 else 0) 0 → t ≡ true
+    go : (t : Bool) → ◌≡◌ {A = ℕ} (when not t then 1 else 0) 0 → t ≡ true
     go true k = refl
     go false k = absurd (omega arith)
 
@@ -72,7 +72,7 @@ module _ {x : Book} (form : form_number (bytes x) ≡ 0) (book : book_of (bytes 
     pool-passes : pool_number (bytes x) pool ≡ 0
     unfolding pool_number
     pool-passes =
-        ap (λ (t : Bool). if not t then 3 else 0)
+        ap (λ (t : Bool). when not t then 3 else 0)
         (eq-eqb (length pool) (pool_size (sizes_of (bytes x)).n) (long ∙ ap (λ (z : Sizes). pool_size z.n) (sym sizes-said)))
 
     pub read-on-bytes : (v k lbn : ℕ) → read_bytes (bytes x) pool v k lbn ≡ read x pool v k lbn

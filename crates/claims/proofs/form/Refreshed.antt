@@ -13,7 +13,7 @@ use Rattle.words.proofs.ChoiceLaws.{and_true, true_and}
 use Rattle.words.proofs.Each.{tab-each, at_each}
 use Rattle.words.proofs.Places.{all_get_d}
 use Rattle.words.proofs.SectionLaws.{length-tab, get_or-tab}
-use Rattle.words.specs.Choice.{if◌then◌else◌}
+use Rattle.words.specs.Choice.{when◌then◌else◌}
 use Rattle.words.specs.Lists.{all, all_zero}
 use Rattle.words.specs.Sections.{tab}
 use Rattle.book.proofs.Conditions.{slot-facts}
@@ -104,7 +104,7 @@ module _ (x : Book) (parts : BookParts x) where
       (last-low v ts w.1)
     where
       go : (own : Bool) → t.day ≤ x.day → since_of (last_day v ts) ≤ x.day
-          → since_of (if own then some t.day else last_day v ts) ≤ x.day
+          → since_of (when own then some t.day else last_day v ts) ≤ x.day
       go true h ih = h
       go false h ih = ih
 
@@ -126,7 +126,7 @@ module _ (x : Book) (parts : BookParts x) where
       go (has_before p b.records) (due-low b (last-low t.volume gone g))
       (until-low p (t ∷ gone) ts (drop t.number rs) (true_and (slot_ok x t) (all (slot_ok x) gone) w.0 g) w.1)
     where
-      go : (has : Bool) {due rest : ℕ} → due ≤ 65000 → rest ≤ 65000 → max (if has then due else 0) rest ≤ 65000
+      go : (has : Bool) {due rest : ℕ} → due ≤ 65000 → rest ≤ 65000 → max (when has then due else 0) rest ≤ 65000
       go true h k = omega arith
       go false h k = omega arith
 

@@ -6,7 +6,7 @@ use native.Mathlib.Omega.{arith}
 use lib.Dec.{leb, ltb}
 use lib.ListN.{length}
 use borrow.Author.Tests.{leb-false, ltb-false}
-use Rattle.words.specs.Choice.{if◌then◌else◌}
+use Rattle.words.specs.Choice.{when◌then◌else◌}
 use Rattle.words.proofs.Tests.{or_neither}
 use Rattle.book.specs.Book.{Book}
 use Rattle.model.specs.Days.{bad_day, not_after}
@@ -26,7 +26,7 @@ pub record MayRetire (x : Book) (v t : ℕ) : Type 0 where
 
 -- the number by its tests
 abbrev pub retire_ladder : Bool → Bool → Bool → Bool → ℕ
-retire_ladder volume day slots records = if volume then 5 else if day then 7 else if slots then 9 else if records then 10 else 0
+retire_ladder volume day slots records = when volume then 5 else when day then 7 else when slots then 9 else when records then 10 else 0
 
 ladder_zero : (a b c d : Bool) → retire_ladder a b c d ≡ 0 → (a ≡ false) × (b ≡ false) × (c ≡ false) × (d ≡ false)
 ladder_zero true b c d z = absurd (omega arith)

@@ -12,7 +12,7 @@ use lib.Seq.{get_or-set_same, get_or-set_other, take-length, drop-length, take-a
 use borrow.Author.Tests.{eqb-true, eqb-false, ne_eqb}
 use Rattle.words.proofs.Accepted.{unless-accepted, then-accepted, accepted-same}
 use Rattle.words.specs.Blocks.{unmapped}
-use Rattle.words.specs.Choice.{if◌then◌else◌}
+use Rattle.words.specs.Choice.{when◌then◌else◌}
 use Rattle.words.proofs.Appends.{all_append}
 use Rattle.words.proofs.ChoiceLaws.{true_and}
 use Rattle.words.proofs.Counting.{count_set}
@@ -135,7 +135,7 @@ module _ (x : Book) (v until : ℕ) (inside : v < volumes) (low : until ≤ 6500
     clear-fit z e = go (eqb before unmapped) refl e
       where
         go : (t : Bool) → eqb before unmapped ≡ t
-            → (if t then accepted y else unless (clear_number y before) (accepted (cleared v until k before y))) ≡ accepted z
+            → (when t then accepted y else unless (clear_number y before) (accepted (cleared v until k before y))) ≡ accepted z
             → ClearFit x v (suc k) z
         go true q e = subst (ClearFit x v (suc k)) (accepted-same y z e) (pass (eqb-true before unmapped q))
         go false q e =
@@ -143,7 +143,7 @@ module _ (x : Book) (v until : ℕ) (inside : v < volumes) (low : until ≤ 6500
             subst (ClearFit x v (suc k)) (accepted-same (cleared v until k before y) z w.1)
             (clear_next (eqb-false before unmapped q) (counted (eqb (entry_at y.entries before).count 0) refl w.0))
           where
-            counted : (t : Bool) → eqb (entry_at y.entries before).count 0 ≡ t → ◌≡◌ {A = ℕ} (if t then 13 else 0) 0
+            counted : (t : Bool) → eqb (entry_at y.entries before).count 0 ≡ t → ◌≡◌ {A = ℕ} (when t then 13 else 0) 0
                 → (entry_at y.entries before).count ≢ 0
             counted true g w = absurd (omega arith)
             counted false g w = eqb-false (entry_at y.entries before).count 0 g

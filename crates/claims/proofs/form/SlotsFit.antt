@@ -9,7 +9,7 @@ use lib.ListN.{length, take, drop, length-drop}
 use lib.Seq.{take-length, take-append-le, drop-append-le}
 use borrow.Author.Tests.{leb-true, eqb-true, le-leb, lt-ltb, eq-eqb}
 use Rattle.words.proofs.Appends.{all_append}
-use Rattle.words.specs.Choice.{if◌then◌else◌}
+use Rattle.words.specs.Choice.{when◌then◌else◌}
 use Rattle.words.proofs.ChoiceLaws.{and_true, true_and}
 use Rattle.words.specs.Lists.{all, some_of, those, last_of}
 use Rattle.words.proofs.Tests.{or_neither}
@@ -70,8 +70,8 @@ module _ (v : ℕ) where
       us = those (λ (u : Slot). eqb u.volume v) ts
 
       go : (s : Bool) → map (λ (b : Backup). b.day) bs ≡ days_in ts
-          → map (λ (b : Backup). b.day) (if s then b ∷ bs else bs)
-          ≡ map (λ (u : Slot). u.day) (if s then t ∷ us else us)
+          → map (λ (b : Backup). b.day) (when s then b ∷ bs else bs)
+          ≡ map (λ (u : Slot). u.day) (when s then t ∷ us else us)
       go true ih = ap (λ (ds : List ℕ). t.day ∷ ds) ih
       go false ih = ih
 
@@ -99,7 +99,7 @@ module _ (v : ℕ) where
       -- the days with the first slot's, by whether it is the volume's
       own : Bool → List ℕ
       own b =
-          map (λ (u : Slot). u.day) (if b then t ∷ those (λ (u : Slot). eqb u.volume v) ts
+          map (λ (u : Slot). u.day) (when b then t ∷ those (λ (u : Slot). eqb u.volume v) ts
           else those (λ (u : Slot). eqb u.volume v) ts)
 
       go : (b : Bool) → (0 < length (own b) → last_of e (own b) < d)
@@ -128,7 +128,7 @@ module _ (v : ℕ) where
       b : Backup
       b = record { volume = t.volume; day = t.day; retire = t.retire; prev = last_day t.volume gone; records = take t.number rs }
 
-      go : (s : Bool) → some_of (λ (b : Backup). b.retire) (if s then b ∷ bs else bs) ≡ false
+      go : (s : Bool) → some_of (λ (b : Backup). b.retire) (when s then b ∷ bs else bs) ≡ false
           → (some_of (λ (b : Backup). b.retire) bs ≡ false → all goes_on ts ≡ true) → ((not s || not t.retire) && all goes_on ts) ≡ true
       go true e ih = let w = or_neither t.retire (some_of (λ (b : Backup). b.retire) bs) e in rw w.0 (ih w.1)
       go false e ih = ih e

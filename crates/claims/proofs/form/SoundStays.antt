@@ -11,7 +11,7 @@ use borrow.Author.Tests.{leb-true, le-leb, eq-eqb}
 use Rattle.words.proofs.ChoiceLaws.{and_true, true_and, not_both}
 use Rattle.words.proofs.Places.{all_weaker, all-up_from, up_from-all}
 use Rattle.words.specs.Blocks.{unmapped}
-use Rattle.words.specs.Choice.{if◌then◌else◌}
+use Rattle.words.specs.Choice.{when◌then◌else◌}
 use Rattle.words.specs.Lists.{all, those, count_of, joined, differ, up_from}
 use Rattle.book.specs.Book.{volumes, Entry, Slot, Book, Sized, entry_at, retention_of}
 use Rattle.book.specs.Form.{later_ok, days_ok}
@@ -44,7 +44,7 @@ volume-days v (t ∷ ts) ok =
     us = those (λ (u : Slot). eqb u.volume v) ts
 
     go : (own : Bool) → all (leb t.day) (days_in v ts) ≡ true → never_fall (days_in v ts) ≡ true
-        → never_fall (map (λ (u : Slot). u.day) (if own then t ∷ us else us)) ≡ true
+        → never_fall (map (λ (u : Slot). u.day) (when own then t ∷ us else us)) ≡ true
     go true h ih = true_and (all (leb t.day) (days_in v ts)) (never_fall (days_in v ts)) h ih
     go false h ih = ih
 
@@ -67,7 +67,7 @@ prints-same [] [] n h k = refl
 prints-same [] (f ∷ fs) n h k = absurd (suc-ne-zero (length fs) (sym n))
 prints-same (e ∷ es) [] n h k = absurd (suc-ne-zero (length es) n)
 prints-same (e ∷ es) (f ∷ fs) n h k =
-    ap (λ (t : Bool). prints (if t then e ∷ held es else held es)) (h 0)
+    ap (λ (t : Bool). prints (when t then e ∷ held es else held es)) (h 0)
     ∙ go f.held (prints-same es fs (suc_inj n) (λ p. h (suc p)) (λ p. k (suc p)))
   where
     prints : List Entry → List (List ℕ)
@@ -77,7 +77,7 @@ prints-same (e ∷ es) (f ∷ fs) n h k =
     held gs = those (λ g. g.held) gs
 
     go : (t : Bool) → prints (held es) ≡ prints (held fs)
-        → prints (if t then e ∷ held es else held es) ≡ prints (if t then f ∷ held fs else held fs)
+        → prints (when t then e ∷ held es else held es) ≡ prints (when t then f ∷ held fs else held fs)
     go true ih = λ i. k 0 i ∷ ih i
     go false ih = ih
 

@@ -8,7 +8,7 @@ use native.Mathlib.Omega.{arith}
 use lib.ListN.{length, take, drop, length-set}
 use lib.Seq.{get_or-set_same}
 use Rattle.words.proofs.Accepted.{refused_not}
-use Rattle.words.specs.Choice.{if◌then◌else◌}
+use Rattle.words.specs.Choice.{when◌then◌else◌}
 use Rattle.words.specs.Lists.{all, same}
 use Rattle.words.specs.Outcome.{refused, accepted}
 use Rattle.words.proofs.Places.{all_set}
@@ -98,7 +98,7 @@ module _ (x : Book) (k : ℕ) (c : Change) (good : ChangeFit x.sizes.l c) (w : W
   held-placed none d e q = free-placed (find_free w.book.entries w.book.cursor) d refl q
   held-placed (some p) d e q = go (same (block_at w.pool p) c.block) q
     where
-      go : (t : Bool) → (if t then accepted (record { pbn = p; work = w }) else refused 11) ≡ accepted d → PlacedFit x k d
+      go : (t : Bool) → (when t then accepted (record { pbn = p; work = w }) else refused 11) ≡ accepted d → PlacedFit x k d
       go true q =
           let b = held-lowest w.book.entries c.print p e in
           subst (PlacedFit x k) (cc) (record { work = f; inside = rw f.entry_count at b.inside; holds = b.held })

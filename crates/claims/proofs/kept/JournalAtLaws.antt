@@ -13,7 +13,7 @@ use lib.Seq.{drop-cons, drop-drop}
 use borrow.Author.Tests.{eqb-true, eq-eqb, ne_eqb}
 use Rattle.words.proofs.Appends.{joined_append, map_append}
 use Rattle.words.proofs.ChoiceLaws.{and_true}
-use Rattle.words.specs.Choice.{if◌then◌else◌}
+use Rattle.words.specs.Choice.{when◌then◌else◌}
 use Rattle.words.specs.Lists.{first_that, joined}
 use Rattle.book.specs.Book.{Slot, Rec, Book, no_slot, slot_at, cell_at}
 use Rattle.book.specs.Form.{pairs_ok}
@@ -88,12 +88,12 @@ module _ (x : Book) (q : ℕ) where
   since_at h = ap since_of (prev_in [] x.slots x.records q h)
 
   pub last-next : (v : ℕ) → q < length x.slots
-      → last_before x (q + 1) v ≡ (if eqb (slot_at x.slots q).volume v then (slot_at x.slots q).day else last_before x q v)
+      → last_before x (q + 1) v ≡ (when eqb (slot_at x.slots q).volume v then (slot_at x.slots q).day else last_before x q v)
   last-next v h =
       rw (add-one q, gone-next [] x.slots q h) (go (eqb (slot_at x.slots q).volume v))
     where
-      go : (t : Bool) → since_of (if t then some (slot_at x.slots q).day else last_day v (gone_after [] (take q x.slots)))
-          ≡ (if t then (slot_at x.slots q).day else last_before x q v)
+      go : (t : Bool) → since_of (when t then some (slot_at x.slots q).day else last_day v (gone_after [] (take q x.slots)))
+          ≡ (when t then (slot_at x.slots q).day else last_before x q v)
       go true = refl
       go false = refl
 
@@ -134,8 +134,8 @@ first_before_append l [] qs p = refl
 first_before_append l (r ∷ rs) qs p = go (eqb r.lbn l) (first_before_append l rs qs p)
   where
     go : (t : Bool) → first_before l (rs ++ qs) p ≡ first_before l rs (first_before l qs p)
-        → before_or p (if t then some r else first_that (λ r. eqb r.lbn l) (rs ++ qs))
-        ≡ before_or (first_before l qs p) (if t then some r else first_that (λ r. eqb r.lbn l) rs)
+        → before_or p (when t then some r else first_that (λ r. eqb r.lbn l) (rs ++ qs))
+        ≡ before_or (first_before l qs p) (when t then some r else first_that (λ r. eqb r.lbn l) rs)
     go true ih = refl
     go false ih = ih
 

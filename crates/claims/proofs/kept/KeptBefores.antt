@@ -10,7 +10,7 @@ use lib.Dec.{leb, ltb, eqb}
 use lib.ListN.{length, get_or, drop, replicate, length-map}
 use borrow.Author.Tests.{eqb-true, eq-eqb, ltb-true, ltb-false}
 use Rattle.words.specs.Blocks.{unmapped}
-use Rattle.words.specs.Choice.{if◌then◌else◌}
+use Rattle.words.specs.Choice.{when◌then◌else◌}
 use Rattle.words.proofs.ChoiceLaws.{and_true, true_and, or_cases, or_l, or_r, not_both, same_test}
 use Rattle.words.proofs.Each.{each_at, all-each}
 use Rattle.words.specs.Lists.{all, up_from}
@@ -75,7 +75,7 @@ module _ (x : Book) where
           rw (takes_first p l b.records w.1) at c
 
       go : (t : Bool) → eqb b.volume v ≡ t
-          → taken_at p (retention_of x v) x.day l (if t then b ∷ slots_in v bs else slots_in v bs) ≡ true
+          → taken_at p (retention_of x v) x.day l (when t then b ∷ slots_in v bs else slots_in v bs) ≡ true
           → taken_sound x b ≡ true → (taken_at p (retention_of x v) x.day l (slots_in v bs) ≡ true
           → cell_sound x p ≡ true) → cell_sound x p ≡ true
       go false q f s ih = ih f
@@ -104,7 +104,7 @@ module _ (x : Book) where
       (held-taken bs w.1 (λ p v l hv hl n e. h p v l hv hl n (later p v l (eqb b.volume v) e)))
     where
       later : (p v l : ℕ) (t : Bool) → taken_at p (retention_of x v) x.day l (slots_in v bs) ≡ true
-          → taken_at p (retention_of x v) x.day l (if t then b ∷ slots_in v bs else slots_in v bs) ≡ true
+          → taken_at p (retention_of x v) x.day l (when t then b ∷ slots_in v bs else slots_in v bs) ≡ true
       later p v l false e = e
       later p v l true e =
           or_r (leb x.day (due_of (retention_of x v) b) && takes p l b.records)

@@ -10,7 +10,7 @@ use lib.Dec.{eqb}
 use lib.ListN.{length, get_or}
 use borrow.Author.Tests.{eqb-true, eq-eqb}
 use Rattle.words.specs.Blocks.{unmapped}
-use Rattle.words.specs.Choice.{if◌then◌else◌}
+use Rattle.words.specs.Choice.{when◌then◌else◌}
 use Rattle.words.proofs.ChoiceLaws.{and_true, true_and, or_cases, or_l, or_r, not_both}
 use Rattle.words.specs.Lists.{first_that}
 use Rattle.book.specs.Book.{Rec}
@@ -70,8 +70,8 @@ pub takes_first : (p l : ℕ) (rs : List Rec) → takes p l rs ≡ true → firs
 takes_first p l [] e = absurd (not_both false e refl)
 takes_first p l (r ∷ rs) e = go (eqb r.lbn l) e (takes_first p l rs)
   where
-    go : (t : Bool) → (if t then eqb r.before p else takes p l rs) ≡ true → (takes p l rs ≡ true → first_before l rs unmapped ≡ p)
-        → before_or unmapped (if t then some r else first_that (λ r. eqb r.lbn l) rs) ≡ p
+    go : (t : Bool) → (when t then eqb r.before p else takes p l rs) ≡ true → (takes p l rs ≡ true → first_before l rs unmapped ≡ p)
+        → before_or unmapped (when t then some r else first_that (λ r. eqb r.lbn l) rs) ≡ p
     go true f ih = eqb-true r.before p f
     go false f ih = ih f
 
@@ -79,8 +79,8 @@ pub first-takes : (p l : ℕ) (rs : List Rec) → p ≢ unmapped → first_befor
 first-takes p l [] n e = absurd (n (sym e))
 first-takes p l (r ∷ rs) n e = go (eqb r.lbn l) e (first-takes p l rs n)
   where
-    go : (t : Bool) → before_or unmapped (if t then some r else first_that (λ r. eqb r.lbn l) rs) ≡ p
+    go : (t : Bool) → before_or unmapped (when t then some r else first_that (λ r. eqb r.lbn l) rs) ≡ p
         → (first_before l rs unmapped ≡ p → takes p l rs ≡ true)
-        → (if t then eqb r.before p else takes p l rs) ≡ true
+        → (when t then eqb r.before p else takes p l rs) ≡ true
     go true f ih = eq-eqb r.before p f
     go false f ih = ih f

@@ -14,7 +14,7 @@ use lib.ListN.{get_or, set}
 use lib.Seq.{get_or-set_other}
 use borrow.Author.Tests.{eqb-true, eqb-false, eq-eqb, ne_eqb, leb-true, le-leb}
 use Rattle.words.specs.Blocks.{unmapped}
-use Rattle.words.specs.Choice.{if◌then◌else◌}
+use Rattle.words.specs.Choice.{when◌then◌else◌}
 use Rattle.book.specs.Book.{Rec}
 use Rattle.model.specs.Audit.{applied}
 use Rattle.claims.proofs.kept.Sound.{Sound}
@@ -22,7 +22,7 @@ use Rattle.claims.proofs.kept.Sound.{Sound}
 -- the first record of l has the before p
 abbrev pub takes : ℕ → ℕ → List Rec → Bool
 takes p l [] = false
-takes p l (c ∷ cs) = if eqb c.lbn l then eqb c.before p else takes p l cs
+takes p l (c ∷ cs) = when eqb c.lbn l then eqb c.before p else takes p l cs
 
 pub record Item : Type 0 where
   pub day : ℕ
@@ -69,7 +69,7 @@ unfolding Sound
 takes-was p l m [] s e = cc
 takes-was p l m (c ∷ cs) s e = go (eqb c.lbn l) refl e (takes-was p l (set m c.lbn c.after) cs s.2)
   where
-    go : (t : Bool) → eqb c.lbn l ≡ t → (if t then eqb c.before p else takes p l cs) ≡ true
+    go : (t : Bool) → eqb c.lbn l ≡ t → (when t then eqb c.before p else takes p l cs) ≡ true
         → (takes p l cs ≡ true → p ≡ get_or (set m c.lbn c.after) l unmapped) → p ≡ get_or m l unmapped
     go true f e ih = let a = eqb-true c.lbn l f in let b = eqb-true c.before p e in let z = s.1 in cc
     go false f e ih = ih e ∙ get_or-set_other m c.lbn l c.after unmapped (λ q. eqb-false c.lbn l f (sym q))
@@ -79,7 +79,7 @@ unfolding Sound
 leaves p l m [] s e h = h
 leaves p l m (c ∷ cs) s e h = go (eqb c.lbn l) refl e (leaves p l (set m c.lbn c.after) cs s.2)
   where
-    go : (t : Bool) → eqb c.lbn l ≡ t → (if t then eqb c.before p else takes p l cs) ≡ false
+    go : (t : Bool) → eqb c.lbn l ≡ t → (when t then eqb c.before p else takes p l cs) ≡ false
         → (takes p l cs ≡ false → p ≡ get_or (set m c.lbn c.after) l unmapped → p ≡ get_or (applied (set m c.lbn c.after) cs) l unmapped)
         → p ≡ get_or (applied (set m c.lbn c.after) cs) l unmapped
     go true f e ih = absurd (eqb-false c.before p e (let a = eqb-true c.lbn l f in let b = s.1 in cc))

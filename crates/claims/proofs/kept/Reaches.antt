@@ -8,7 +8,7 @@ use native.Mathlib.Omega.{arith}
 use lib.Dec.{leb, eqb}
 use lib.ListN.{length, get_or, set, length-set}
 use borrow.Author.Tests.{eqb-true, eq-eqb, ne_eqb, leb-true, leb-false, lt-leb}
-use Rattle.words.specs.Choice.{if◌then◌else◌}
+use Rattle.words.specs.Choice.{when◌then◌else◌}
 use Rattle.words.proofs.ChoiceLaws.{and_true, true_and, or_cases, or_l, or_r, and_false, and_yes, nat_le_max, not_both}
 use Rattle.words.specs.Lists.{some_of}
 use Rattle.book.specs.Book.{Rec, Book, retention_of}
@@ -27,10 +27,10 @@ reaches_by x d p b = leb d (due_of (retention_of x b.volume) b) && has_before p 
 pub until-reaches : (x : Book) (d p : ℕ) (bs : List Backup) → 0 < d → leb d (until_in x p bs) ≡ some_of (reaches_by x d p) bs
 until-reaches x d p [] h = lt-leb d 0 h
 until-reaches x d p (b ∷ bs) h =
-    nat_le_max d (if has_before p b.records then due_of (retention_of x b.volume) b else 0) (until_in x p bs)
+    nat_le_max d (when has_before p b.records then due_of (retention_of x b.volume) b else 0) (until_in x p bs)
     ∙ rw (until-reaches x d p bs h) (go (has_before p b.records))
   where
-    go : (o : Bool) → (leb d (if o then due_of (retention_of x b.volume) b else 0) || some_of (reaches_by x d p) bs)
+    go : (o : Bool) → (leb d (when o then due_of (retention_of x b.volume) b else 0) || some_of (reaches_by x d p) bs)
         ≡ ((leb d (due_of (retention_of x b.volume) b) && o) || some_of (reaches_by x d p) bs)
     go true = rw (and_yes (leb d (due_of (retention_of x b.volume) b)))
     go false = rw (lt-leb d 0 h, and_false)
@@ -59,7 +59,7 @@ takes-before : (p l : ℕ) (cs : List Rec) → takes p l cs ≡ true → has_bef
 takes-before p l [] e = e
 takes-before p l (c ∷ cs) e = go (eqb c.lbn l) e (takes-before p l cs)
   where
-    go : (t : Bool) → (if t then eqb c.before p else takes p l cs) ≡ true → (takes p l cs ≡ true → has_before p cs ≡ true)
+    go : (t : Bool) → (when t then eqb c.before p else takes p l cs) ≡ true → (takes p l cs ≡ true → has_before p cs ≡ true)
         → has_before p (c ∷ cs) ≡ true
     go true e ih = or_l (eqb c.before p) (has_before p cs) e
     go false e ih = or_r (eqb c.before p) (has_before p cs) (ih e)
@@ -92,7 +92,7 @@ taken-reaches x d p v l (b ∷ bs) e = go (eqb b.volume v) refl e (taken-reaches
         (rw q (true_and (leb d (due_of (retention_of x v) b)) (has_before p b.records) c.0 (takes-before p l b.records c.1)))
     step q (inr y) ih = or_r (reaches_by x d p b) (some_of (reaches_by x d p) bs) (ih y)
 
-    go : (t : Bool) → eqb b.volume v ≡ t → taken_at p (retention_of x v) d l (if t then b ∷ slots_in v bs else slots_in v bs) ≡ true
+    go : (t : Bool) → eqb b.volume v ≡ t → taken_at p (retention_of x v) d l (when t then b ∷ slots_in v bs else slots_in v bs) ≡ true
         → (taken_at p (retention_of x v) d l (slots_in v bs) ≡ true → some_of (reaches_by x d p) bs ≡ true)
         → some_of (reaches_by x d p) (b ∷ bs) ≡ true
     go true q e ih =
@@ -111,7 +111,7 @@ reaches-taken x d p ms (b ∷ bs) s r e =
     (reaches-taken x d p (set ms b.volume (applied (get_or ms b.volume []) b.records)) bs s.2 r.1)
   where
     keep : (v l : ℕ) → taken_at p (retention_of x v) d l (slots_in v bs) ≡ true → (t : Bool)
-        → taken_at p (retention_of x v) d l (if t then b ∷ slots_in v bs else slots_in v bs) ≡ true
+        → taken_at p (retention_of x v) d l (when t then b ∷ slots_in v bs else slots_in v bs) ≡ true
     keep v l e true = or_r (leb d (due_of (retention_of x v) b) && takes p l b.records) (taken_at p (retention_of x v) d l (slots_in v bs)) e
     keep v l e false = e
 

@@ -5,26 +5,26 @@ use mathlib.Core.Bool.{Bool, true, false, not, ◌||◌}
 use native.Mathlib.Omega.{arith}
 use lib.Dec.{ltb, eqb}
 use borrow.Author.Tests.{ltb-false, eqb-false}
-use Rattle.words.specs.Choice.{if◌then◌else◌}
+use Rattle.words.specs.Choice.{when◌then◌else◌}
 use Rattle.words.proofs.Tests.{or_neither}
 use Rattle.words.specs.Outcome.{Outcome, unless}
 
 -- no such volume, no such backup, kept, no such LBN, unmapped
 abbrev pub refusal : Bool → Bool → Bool → Bool → Bool → ℕ
 refusal a b c d e =
-    if a then 5 else
-    if b then 15 else
-    if not c then 16 else
-    if d then 17 else
-    if e then 18 else
+    when a then 5 else
+    when b then 15 else
+    when not c then 16 else
+    when d then 17 else
+    when e then 18 else
     0
 
 -- the first three of them, and then d
 abbrev pub numbers : Bool → Bool → Bool → ℕ → ℕ
 numbers a b c d =
-    if a then 5 else
-    if b then 15 else
-    if not c then 16 else
+    when a then 5 else
+    when b then 15 else
+    when not c then 16 else
     d
 
 pub numbers-then : {A : Type 0} (a b c : Bool) (d : ℕ) (o : Outcome A) → unless (numbers a b c d) o ≡ unless (numbers a b c 0) (unless d o)

@@ -10,7 +10,7 @@ use lib.ListN.{length, get_or, set, drop}
 use lib.Seq.{get_or-set_other}
 use borrow.Author.Tests.{eqb-true, eqb-false}
 use Rattle.words.specs.Blocks.{unmapped}
-use Rattle.words.specs.Choice.{if◌then◌else◌}
+use Rattle.words.specs.Choice.{when◌then◌else◌}
 use Rattle.words.specs.Lists.{first_that}
 use Rattle.book.specs.Book.{Rec}
 use Rattle.model.specs.Journal.{Backup}
@@ -31,7 +31,7 @@ undone l m (r ∷ rs) s = go (eqb r.lbn l) refl (undone l (set m r.lbn r.after) 
   where
     go : (t : Bool) → eqb r.lbn l ≡ t
         → first_before l rs (get_or (applied (set m r.lbn r.after) rs) l unmapped) ≡ get_or (set m r.lbn r.after) l unmapped
-        → before_or (get_or (applied (set m r.lbn r.after) rs) l unmapped) (if t then some r else first_that (λ r. eqb r.lbn l) rs)
+        → before_or (get_or (applied (set m r.lbn r.after) rs) l unmapped) (when t then some r else first_that (λ r. eqb r.lbn l) rs)
         ≡ get_or m l unmapped
     go true e ih = s.1 ∙ ap (λ k. get_or m k unmapped) (eqb-true r.lbn l e)
     go false e ih = ih ∙ get_or-set_other m r.lbn l r.after unmapped (λ q. eqb-false r.lbn l e (sym q))

@@ -9,7 +9,7 @@ use lib.Dec.{eqb}
 use lib.ListN.{length, get_or, set, take, drop, length-set}
 use lib.Seq.{get_or-set_same, get_or-set_other}
 use borrow.Author.Tests.{eqb-true, eqb-false}
-use Rattle.words.specs.Choice.{if◌then◌else◌}
+use Rattle.words.specs.Choice.{when◌then◌else◌}
 use Rattle.words.proofs.ChoiceLaws.{not_both}
 use Rattle.words.specs.Lists.{last_of}
 use Rattle.book.specs.Book.{Slot, Rec, Book}
@@ -74,7 +74,7 @@ slots_in-replayed v ms (b ∷ bs) h =
   where
     go : (t : Bool) → eqb b.volume v ≡ t
         → map_after (get_or (set ms b.volume (applied (get_or ms b.volume []) b.records)) v []) (slots_in v bs)
-        ≡ map_after (get_or ms v []) (if t then b ∷ slots_in v bs else slots_in v bs)
+        ≡ map_after (get_or ms v []) (when t then b ∷ slots_in v bs else slots_in v bs)
     go true e = rw (eqb-true b.volume v e, get_or-set_same)
     go false e =
         rw (get_or-set_other ms b.volume v (applied (get_or ms b.volume []) b.records) [] (λ q. eqb-false b.volume v e (sym q)))
@@ -94,8 +94,8 @@ slots_in-taken v ms (b ∷ bs) h =
     rest = taken_of v (taken_from next bs)
 
     go : (t : Bool) → eqb b.volume v ≡ t → rest ≡ taken_in (get_or next v []) (slots_in v bs)
-        → (if t then taken_by (get_or ms b.volume []) b ∷ rest else rest)
-        ≡ taken_in (get_or ms v []) (if t then b ∷ slots_in v bs else slots_in v bs)
+        → (when t then taken_by (get_or ms b.volume []) b ∷ rest else rest)
+        ≡ taken_in (get_or ms v []) (when t then b ∷ slots_in v bs else slots_in v bs)
     go true e ih =
         let q = eqb-true b.volume v e in
         let same : get_or next v [] ≡ applied (get_or ms v []) b.records = rw (q, get_or-set_same) in
@@ -114,7 +114,7 @@ slots_in-sound v ms (b ∷ bs) s =
   where
     go : (t : Bool) → eqb b.volume v ≡ t
         → Sounds (get_or (set ms b.volume (applied (get_or ms b.volume []) b.records)) v []) (slots_in v bs)
-        → Sounds (get_or ms v []) (if t then b ∷ slots_in v bs else slots_in v bs)
+        → Sounds (get_or ms v []) (when t then b ∷ slots_in v bs else slots_in v bs)
     go true e ih =
         let q = eqb-true b.volume v e in
         let k : v < length ms = rw q at s.0 in
@@ -133,7 +133,7 @@ slots_in_emptied l v ms (b ∷ bs) h s =
   where
     go : (t : Bool) → eqb b.volume v ≡ t
         → Emptied l (get_or (set ms b.volume (applied (get_or ms b.volume []) b.records)) v []) (slots_in v bs)
-        → Emptied l (get_or ms v []) (if t then b ∷ slots_in v bs else slots_in v bs)
+        → Emptied l (get_or ms v []) (when t then b ∷ slots_in v bs else slots_in v bs)
     go true e ih =
         let q = eqb-true b.volume v e in
         (rw q at s.0, rw (q, get_or-set_same) at ih)
@@ -151,7 +151,7 @@ unfolding Days
 slots_in-days v d e [] f = f
 slots_in-days v d e (b ∷ bs) f = go (eqb b.volume v) (slots_in-days v b.day e bs f.1)
   where
-    go : (t : Bool) → Days b.day (slots_in v bs) e → Days d (if t then b ∷ slots_in v bs else slots_in v bs) e
+    go : (t : Bool) → Days b.day (slots_in v bs) e → Days d (when t then b ∷ slots_in v bs else slots_in v bs) e
     go true ih = (f.0, ih)
     go false ih = days_sooner d b.day e (slots_in v bs) f.0 ih
 
@@ -168,8 +168,8 @@ journal-linked v gone (t ∷ ts) rs = go (eqb t.volume v) refl (journal-linked v
     b : Backup
     b = record { volume = t.volume; day = t.day; retire = t.retire; prev = last_day t.volume gone; records = take t.number rs }
 
-    go : (s : Bool) → eqb t.volume v ≡ s → Linked (if s then some t.day else last_day v gone) rest
-        → Linked (last_day v gone) (if s then b ∷ rest else rest)
+    go : (s : Bool) → eqb t.volume v ≡ s → Linked (when s then some t.day else last_day v gone) rest
+        → Linked (last_day v gone) (when s then b ∷ rest else rest)
     go true e ih = (ap (λ (w : ℕ). last_day w gone) (eqb-true t.volume v e), ih)
     go false e ih = ih
 
@@ -190,7 +190,7 @@ last-day v gone (t ∷ ts) rs = last-day v (t ∷ gone) ts (drop t.number rs) �
     b : Backup
     b = record { volume = t.volume; day = t.day; retire = t.retire; prev = last_day t.volume gone; records = take t.number rs }
 
-    go : (s : Bool) → last_of (since_of (if s then some t.day else last_day v gone)) (map (λ (b : Backup). b.day) rest)
-        ≡ last_of (since_of (last_day v gone)) (map (λ (b : Backup). b.day) (if s then b ∷ rest else rest))
+    go : (s : Bool) → last_of (since_of (when s then some t.day else last_day v gone)) (map (λ (b : Backup). b.day) rest)
+        ≡ last_of (since_of (last_day v gone)) (map (λ (b : Backup). b.day) (when s then b ∷ rest else rest))
     go true = refl
     go false = refl

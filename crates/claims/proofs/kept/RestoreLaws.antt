@@ -10,7 +10,7 @@ use lib.Dec.{leb, ltb, eqb}
 use borrow.Author.Tests.{le-ltb, lt-leb, ltb-false}
 use Rattle.words.proofs.Tests.{or_neither}
 use Rattle.words.specs.Blocks.{block_size, unmapped}
-use Rattle.words.specs.Choice.{if◌then◌else◌}
+use Rattle.words.specs.Choice.{when◌then◌else◌}
 use Rattle.words.specs.Lists.{some_of, up_from}
 use Rattle.words.specs.Outcome.{Outcome, refused, accepted, and_then, unless}
 use Rattle.words.specs.Sections.{flat}
@@ -41,14 +41,14 @@ module _ (l first many room : ℕ) where
       let w = or_neither far short (go (far || short) e) in
       (ltb-false l (first + many) w.0, ltb-false room (many * block_size) w.1)
     where
-      go : (t : Bool) → ◌≡◌ {A = ℕ} (if t then 21 else 0) 0 → t ≡ false
+      go : (t : Bool) → ◌≡◌ {A = ℕ} (when t then 21 else 0) 0 → t ≡ false
       go true f = absurd (omega arith)
       go false f = refl
 
 -- ---- reads that only 18 refuses
 
 abbrev pub only_unmapped : Bool → List ℕ → Outcome (List ℕ)
-only_unmapped t bytes = unless (if t then 18 else 0) (accepted bytes)
+only_unmapped t bytes = unless (when t then 18 else 0) (accepted bytes)
 
 pub reads-joined : (one : ℕ → Outcome (List ℕ)) (gone : ℕ → Bool) (block : ℕ → List ℕ) (first many : ℕ)
     → ((l : ℕ) → l < first + many → one l ≡ only_unmapped (gone l) (block l))
@@ -75,7 +75,7 @@ module _ (x : Book) (pool : List ℕ) (v k : ℕ) where
   block_of lbn = block_at pool (image x v k lbn)
 
   read-order : (lbn : ℕ) → read x pool v k lbn
-      ≡ unless (kept_number x v k) (unless (if leb x.sizes.l lbn then 17 else if gone_at lbn then 18 else 0) (accepted (block_of lbn)))
+      ≡ unless (kept_number x v k) (unless (when leb x.sizes.l lbn then 17 else when gone_at lbn then 18 else 0) (accepted (block_of lbn)))
   unfolding read read_number kept_number
   read-order lbn =
       numbers-then (no_volume x v) (eqb k 0 || ltb (backup_count x v) k) (kept (days x v) (retention_of x v) x.day k) _

@@ -8,7 +8,7 @@ use lib.Dec.{eqb}
 use lib.ListN.{length, get_or, take, drop, length-map}
 use lib.Seq.{drop-length}
 use borrow.Author.Tests.{eqb-true, ne_eqb}
-use Rattle.words.specs.Choice.{if◌then◌else◌}
+use Rattle.words.specs.Choice.{when◌then◌else◌}
 use Rattle.words.proofs.ChoiceLaws.{and_true, not_both}
 use Rattle.words.proofs.Counting.{count_most}
 use Rattle.words.proofs.Tests.{or_neither}
@@ -36,7 +36,7 @@ count_almost [] h = omega arith
 count_almost (b ∷ bs) h = go b.retire h.0 (count_almost bs h.1)
   where
     go : (t : Bool) → (t ≡ true → bs ≡ []) → length bs ≤ suc (count_of is_backup bs)
-        → suc (length bs) ≤ suc (if not t then suc (count_of is_backup bs) else count_of is_backup bs)
+        → suc (length bs) ≤ suc (when not t then suc (count_of is_backup bs) else count_of is_backup bs)
     go true e ih = let none : length bs ≡ 0 = ap length (e refl) in omega arith
     go false e ih = omega arith
 
@@ -46,7 +46,7 @@ unfolding RetiresLast
 backup-here [] k h l = absurd (omega arith)
 backup-here (b ∷ bs) k h l = go b.retire k refl h.0 l (λ j i. backup-here bs j h.1 i)
   where
-    go : (t : Bool) (k : ℕ) → b.retire ≡ t → (t ≡ true → bs ≡ []) → k < (if not t then suc (count_of is_backup bs) else count_of is_backup bs)
+    go : (t : Bool) (k : ℕ) → b.retire ≡ t → (t ≡ true → bs ≡ []) → k < (when not t then suc (count_of is_backup bs) else count_of is_backup bs)
         → ((j : ℕ) → j < count_of is_backup bs → (get_or bs j no_backup).retire ≡ false) → (get_or (b ∷ bs) k no_backup).retire ≡ false
     go true k q e l ih = let none : count_of is_backup bs ≡ 0 = ap (λ (cs : List Backup). count_of is_backup cs) (e refl) in absurd (omega arith)
     go false zero q e l ih = q
@@ -59,7 +59,7 @@ retire-here [] k e l h = absurd (omega arith)
 retire-here (b ∷ bs) k e l h = go b.retire k refl e.0 l h (λ j i. retire-here bs j e.1 i)
   where
     go : (t : Bool) (k : ℕ) → b.retire ≡ t → (t ≡ true → bs ≡ [])
-        → (if not t then suc (count_of is_backup bs) else count_of is_backup bs) ≤ k → k < suc (length bs)
+        → (when not t then suc (count_of is_backup bs) else count_of is_backup bs) ≤ k → k < suc (length bs)
         → ((j : ℕ) → count_of is_backup bs ≤ j → j < length bs → (get_or bs j no_backup).retire ≡ true) → (get_or (b ∷ bs) k no_backup).retire ≡ true
     go true zero q e l h ih = q
     go true (suc k) q e l h ih = let none : length bs ≡ 0 = ap length (e refl) in absurd (omega arith)
@@ -98,7 +98,7 @@ module _ (v : ℕ) where
       b : Backup
       b = record { volume = t.volume; day = t.day; retire = t.retire; prev = last_day t.volume gone; records = take t.number rs }
 
-      go : (own : Bool) → eqb t.volume v ≡ own → all (later_ok t) ts ≡ true → RetiresLast bs → RetiresLast (if own then b ∷ bs else bs)
+      go : (own : Bool) → eqb t.volume v ≡ own → all (later_ok t) ts ≡ true → RetiresLast bs → RetiresLast (when own then b ∷ bs else bs)
       go true e k ih = (λ r. none_after t (t ∷ gone) ts (drop t.number rs) (eqb-true t.volume v e) r k, ih)
       go false e k ih = ih
 

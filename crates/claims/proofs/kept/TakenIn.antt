@@ -10,7 +10,7 @@ use lib.Dec.{eqb}
 use lib.ListN.{length, get_or, replicate}
 use borrow.Author.Tests.{ne_eqb}
 use Rattle.words.specs.Blocks.{unmapped}
-use Rattle.words.specs.Choice.{if◌then◌else◌}
+use Rattle.words.specs.Choice.{when◌then◌else◌}
 use Rattle.words.proofs.ChoiceLaws.{not_both}
 use Rattle.words.proofs.Places.{get_or_replicated}
 use Rattle.words.specs.Lists.{some_of, count_of, last_of}
@@ -29,7 +29,7 @@ use Rattle.claims.proofs.kept.TakenLaws.{is_image, Ends}
 
 -- what a slot leaves of the volume, by whether it retires it
 abbrev what_of : Bool → List ℕ → What
-what_of out m = if out then retirement else image m
+what_of out m = when out then retirement else image m
 
 pub days_taken_in : (m : List ℕ) (bs : List Backup) → days_of (taken_in m bs) ≡ map (λ b. b.day) bs
 days_taken_in m [] = refl
@@ -45,7 +45,7 @@ count_taken_in m (b ∷ bs) = go b.retire (count_taken_in (applied m b.records) 
 
     go : (t : Bool) → length rest ≡ count_of Retirements.is_backup bs
         → length (map_with (what_of t (applied m b.records)) rest)
-        ≡ (if not t then suc (count_of Retirements.is_backup bs) else count_of Retirements.is_backup bs)
+        ≡ (when not t then suc (count_of Retirements.is_backup bs) else count_of Retirements.is_backup bs)
     go true ih = ih
     go false ih = ap suc ih
 
@@ -92,7 +92,7 @@ map_taken_in m z (b ∷ bs) k h l = go b.retire k h.0 l (λ j i. map_taken_in (a
     here = applied m b.records
 
     go : (t : Bool) (k : ℕ) → (t ≡ true → bs ≡ [])
-        → k < (if not t then suc (count_of Retirements.is_backup bs) else count_of Retirements.is_backup bs)
+        → k < (when not t then suc (count_of Retirements.is_backup bs) else count_of Retirements.is_backup bs)
         → ((j : ℕ) → j < count_of Retirements.is_backup bs → get_or (maps_of (taken_in here bs)) j z ≡ get_or (maps_of (images_of here bs)) j z)
         → get_or (map_with (what_of t here) (maps_of (taken_in here bs))) k z ≡ get_or (here ∷ maps_of (images_of here bs)) k z
     go true k e l ih =

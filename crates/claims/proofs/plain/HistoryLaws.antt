@@ -8,7 +8,7 @@ use native.Mathlib.Omega.{arith}
 use lib.Dec.{leb, ltb, eqb}
 use lib.ListN.{length, get_or, take, drop, length-append, get_or-append}
 use lib.Seq.{take-append-le, take_all, take-length, drop-append-le}
-use Rattle.words.specs.Choice.{if◌then◌else◌}
+use Rattle.words.specs.Choice.{when◌then◌else◌}
 use Rattle.words.specs.Lists.{or_else, joined}
 use Rattle.words.proofs.Appends.{map_append, joined_append}
 use Rattle.words.specs.Outcome.{accepted, unless}
@@ -33,7 +33,7 @@ last_block_append : (lbn : ℕ) (xs ys : List Change) → last_block lbn (xs ++ 
 last_block_append lbn [] ys = else_none (last_block lbn ys)
 last_block_append lbn (x ∷ xs) ys =
     rw (last_block_append lbn xs ys)
-    (sym (or_else_else (last_block lbn ys) (last_block lbn xs) (if eqb x.lbn lbn then some x.block else none)))
+    (sym (or_else_else (last_block lbn ys) (last_block lbn xs) (when eqb x.lbn lbn then some x.block else none)))
 
 module _ (h : History) (s : Sent) where
   -- an earlier backup keeps what it sent
@@ -84,7 +84,7 @@ read-was-sent l h d k lbn b e =
     (sent_block h k lbn) e
   where
     go : (t u v w : Bool) (o : Option (List ℕ))
-        → read_answer (unless (if t then 5 else if u then 15 else if v then 16 else if w then 17 else if is_none o then 18
+        → read_answer (unless (when t then 5 else when u then 15 else when v then 16 else when w then 17 else when is_none o then 18
         else 0) (accepted (block_or [] o))) ≡ block b
         → o ≡ some b
     go true u v w o e = absurd (let z : ◌≡◌ {A = ℕ} 0 1 = cc in omega arith)

@@ -8,7 +8,7 @@ use lib.Dec.{leb, ltb, eqb}
 use lib.ListN.{length}
 use borrow.Author.Tests.{lt-leb}
 use Rattle.words.specs.Blocks.{block_size, unmapped}
-use Rattle.words.specs.Choice.{if◌then◌else◌}
+use Rattle.words.specs.Choice.{when◌then◌else◌}
 use Rattle.words.specs.Lists.{some_of, up_from}
 use Rattle.words.specs.Outcome.{Outcome, refused, accepted, unless}
 use Rattle.words.specs.Sections.{flat}
@@ -36,11 +36,11 @@ answer-same (accepted b) (refused k) e = absurd (let z : ◌≡◌ {A = ℕ} 0 1
 
 -- what of a read's number is below 17
 abbrev early : ℕ → ℕ
-early n = if leb 17 n then 0 else n
+early n = when leb 17 n then 0 else n
 
 -- 17, 18 or none
 abbrev late : Bool → Bool → ℕ
-late d e = if d then 17 else if e then 18 else 0
+late d e = when d then 17 else when e then 18 else 0
 
 early-numbers : (a b c d e : Bool) → early (numbers a b c (late d e)) ≡ numbers a b c 0
 early-numbers true b c d e = refl
@@ -104,26 +104,26 @@ module _ (x : Book) (pool : List ℕ) (v k d : ℕ) (h : History)
     abbrev run : Outcome (List ℕ)
     run = only_unmapped (some_of lost (up_from first many)) (flat owed (up_from first many))
 
-    run-order : (t u : Bool) (bytes : List ℕ) → unless (if t then 21 else if u then 18 else 0) (accepted bytes)
-        ≡ unless (if t then 21 else 0) (only_unmapped u bytes)
+    run-order : (t u : Bool) (bytes : List ℕ) → unless (when t then 21 else when u then 18 else 0) (accepted bytes)
+        ≡ unless (when t then 21 else 0) (only_unmapped u bytes)
     run-order true u bytes = refl
     run-order false u bytes = refl
 
-    history_order : history_restore l h d k first many room ≡ unless sent_number (unless (if too_far then 21 else 0) run)
+    history_order : history_restore l h d k first many room ≡ unless sent_number (unless (when too_far then 21 else 0) run)
     unfolding history_restore history_run_number
     history_order =
         numbers-then (eqb h.retention 0) (eqb k 0 || ltb (length h.sent) k)
         (kept (days_noted h) h.retention d k)
-        (if too_far then 21 else if some_of lost (up_from first many) then 18 else 0)
+        (when too_far then 21 else when some_of lost (up_from first many) then 18 else 0)
         (accepted (flat owed (up_from first many)))
         ∙ ap (λ (o : Outcome (List ℕ)). unless sent_number o)
         (run-order too_far (some_of lost (up_from first many)) (flat owed (up_from first many)))
 
     pub history_restores : restore x pool v k first many room ≡ history_restore l h d k first many room
     unfolding restore run_number
-    history_restores = rw (history_order, same_kept) (go sent_number (if too_far then 21 else 0) refl refl)
+    history_restores = rw (history_order, same_kept) (go sent_number (when too_far then 21 else 0) refl refl)
       where
-        go : (m n : ℕ) → sent_number ≡ m → (if too_far then 21 else 0) ≡ n
+        go : (m n : ℕ) → sent_number ≡ m → (when too_far then 21 else 0) ≡ n
             → unless m (unless n (reads_from (read x pool v k) first many)) ≡ unless m (unless n run)
         go (suc m) n e f = refl
         go zero (suc n) e f = refl

@@ -7,7 +7,7 @@ use native.Mathlib.Omega.{arith}
 use lib.Dec.{eqb}
 use lib.ListN.{length, length-set}
 use Rattle.words.specs.Blocks.{unmapped}
-use Rattle.words.specs.Choice.{if◌then◌else◌}
+use Rattle.words.specs.Choice.{when◌then◌else◌}
 use Rattle.words.specs.Lists.{or_else}
 use Rattle.words.specs.Outcome.{accepted}
 use Rattle.words.proofs.Accepted.{then-accepted, accepted-same}
@@ -72,4 +72,4 @@ module _ (l : ℕ) (bs : List Block) (room : length bs ≤ unmapped) where
       let r = then-accepted (change_step c w) (λ x. run_changes cs x) w' e in
       let ih = run-copies cs (changed c.lbn c.block s) r.0 w' (step-copies s c w r.0 a r.1) r.2 in
       copies-same (sent_over cs (changed c.lbn c.block s)) (sent_over (c ∷ cs) s) w'
-      (λ lbn. or_else_else (last_block lbn cs) (if eqb c.lbn lbn then some c.block else none) (s lbn)) ih
+      (λ lbn. or_else_else (last_block lbn cs) (when eqb c.lbn lbn then some c.block else none) (s lbn)) ih

@@ -6,7 +6,7 @@ use mathlib.Core.List.{List, [], ◌∷◌}
 use native.Mathlib.Omega.{arith}
 use lib.Dec.{ltb, eqb, eqb-suc-zero}
 use borrow.Author.Tests.{ltb-false, eqb-true, eqb-false, ne_eqb, not-true, not-false}
-use Rattle.words.specs.Choice.{if◌then◌else◌}
+use Rattle.words.specs.Choice.{when◌then◌else◌}
 use Rattle.words.proofs.ChoiceLaws.{and_false}
 use Rattle.words.proofs.Tests.{or_neither}
 use Rattle.words.specs.Outcome.{Outcome, refused, accepted, and_then, unless}
@@ -33,14 +33,14 @@ use Rattle.claims.proofs.plain.PlainRecallsOthers.{enrol_recalls, collect_recall
 
 -- ---- what it says that no number refuses a call
 
-choice_zero : (t : Bool) (n m : ℕ) → (if t then suc n else m) ≡ 0 → (t ≡ false) × (m ≡ 0)
+choice_zero : (t : Bool) (n m : ℕ) → (when t then suc n else m) ≡ 0 → (t ≡ false) × (m ≡ 0)
 choice_zero true n m e = absurd (omega arith)
 choice_zero false n m e = (refl, e)
 
 enrol-allowed : (q : Plain) (v r : ℕ) → enrol_number q v r ≡ 0 → (v < volumes) × (retention_at q v ≡ 0)
 unfolding enrol_number
 enrol-allowed q v r e =
-    let a = or_neither (ltb 7 v) (is_enrolled q v) (choice_zero (ltb 7 v || is_enrolled q v) 4 (if bad_retention r then 6 else 0) e).0 in (
+    let a = or_neither (ltb 7 v) (is_enrolled q v) (choice_zero (ltb 7 v || is_enrolled q v) 4 (when bad_retention r then 6 else 0) e).0 in (
       omega (arith, ltb-false 7 v a.0),
       eqb-true (retention_at q v) 0 (not-false (eqb (retention_at q v) 0) a.1),
     )
@@ -51,12 +51,12 @@ collect-allowed q t e = ((good-day q.day t).0 (choice_zero (bad_day q.day t) 6 0
 
 -- backup and retire start with the same two numbers, 5 and 7
 living-allowed : (q : Plain) (v t m : ℕ)
-    → (if no_living q v then 5 else if bad_day q.day t || not_after (days_of (taken_of v q.taken)) t then 7 else m) ≡ 0
+    → (when no_living q v then 5 else when bad_day q.day t || not_after (days_of (taken_of v q.taken)) t then 7 else m) ≡ 0
     → (q.day ≤ t) × (retention_at q v ≡ 0 → ⊥) × (is_retired (taken_of v q.taken) ≡ false)
 living-allowed q v t m e =
     let bad = bad_day q.day t in
     let old = not_after (days_of (taken_of v q.taken)) t in
-    let s = choice_zero (no_living q v) 4 (if bad || old then 7 else m) e in
+    let s = choice_zero (no_living q v) 4 (when bad || old then 7 else m) e in
     let a = or_neither (ltb 7 v || not (is_enrolled q v)) (is_retired (taken_of v q.taken)) s.0 in
     let b = or_neither (ltb 7 v) (not (is_enrolled q v)) a.0 in
     let c = or_neither bad old (choice_zero (bad || old) 6 m s.1).0 in (
@@ -89,8 +89,8 @@ module _ {l d : ℕ} {q : Plain} {h : ℕ → History} (a : AllRecall l d q h) w
   }
 
   -- a test that no answer passes
-  not_noted : (v : ℕ) (f : ℕ → History) (t : Bool) → t ≡ false → AllRecall l d q (λ w. if eqb v w && t then f w else h w)
-  not_noted v f t e = still_recalls (λ w. if eqb v w && t then f w else h w) (λ w. rw (e, and_false (eqb v w)))
+  not_noted : (v : ℕ) (f : ℕ → History) (t : Bool) → t ≡ false → AllRecall l d q (λ w. when eqb v w && t then f w else h w)
+  not_noted v f t e = still_recalls (λ w. when eqb v w && t then f w else h w) (λ w. rw (e, and_false (eqb v w)))
 
   enrol-step : (v r : ℕ) → AllRecall l d (plain q (enrol v r)).next (λ w. noted w (h w) (enrol v r) (plain q (enrol v r)).answer)
   unfolding plain step_of Plain.enrol

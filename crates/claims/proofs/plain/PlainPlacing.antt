@@ -10,7 +10,7 @@ use lib.ListN.{length, get_or, take, drop, set, length-take, length-drop, length
 use lib.Seq.{get_or-set_same, get_or-set_other, get_or-take, get_or-drop}
 use borrow.Author.Tests.{eqb-true, eqb-false}
 use Rattle.words.proofs.Accepted.{refused_not, accepted-same}
-use Rattle.words.specs.Choice.{if◌then◌else◌}
+use Rattle.words.specs.Choice.{when◌then◌else◌}
 use Rattle.words.specs.Lists.{place_from, or_else, same}
 use Rattle.words.proofs.Same.{same_equal}
 use Rattle.words.proofs.FoundPlaces.{place_found}
@@ -121,7 +121,7 @@ module _ (c : Change) (w : PlainWork) where
     held-placed (some p) e a = go (same (bytes_of (get_or w.blocks p free)) c.block) refl a
       where
         go : (t : Bool) → same (bytes_of (get_or w.blocks p free)) c.block ≡ t
-            → (if t then accepted (record { pbn = p; work = w }) else refused 11) ≡ accepted d → PlacedFor c w d
+            → (when t then accepted (record { pbn = p; work = w }) else refused 11) ≡ accepted d → PlacedFor c w d
         go true s a = subst (λ (x : PlainPlaced). PlacedFor c w x) (accepted-same _ d a) (find-placed p e s)
         go false s a = absurd (refused_not 11 d a)
 

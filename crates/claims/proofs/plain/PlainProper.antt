@@ -4,7 +4,7 @@ use mathlib.Core.Bool.{Bool, true, false}
 use mathlib.Core.List.{List, [], ◌∷◌}
 use mathlib.Core.Option.{Option, none, some}
 use lib.ListN.{get_or}
-use Rattle.words.specs.Choice.{if◌then◌else◌}
+use Rattle.words.specs.Choice.{when◌then◌else◌}
 use Rattle.words.specs.Lists.{same}
 use Rattle.words.specs.Outcome.{refused, accepted}
 use Rattle.runs.specs.Changes.{Change}
@@ -20,7 +20,7 @@ place_proper c w = found (find_held w.blocks c.print)
     taken none = proper_refused 11
     taken (some p) = proper_accepted _
 
-    check : (t : Bool) (d : PlainPlaced) → Proper (if t then accepted d else refused 11)
+    check : (t : Bool) (d : PlainPlaced) → Proper (when t then accepted d else refused 11)
     check true d = proper_accepted d
     check false d = proper_refused 10
 

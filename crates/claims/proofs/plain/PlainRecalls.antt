@@ -10,7 +10,7 @@ use lib.ListN.{length, get_or, replicate, length-map, get_or-append}
 use lib.Seq.{get_or_at}
 use borrow.Author.Tests.{eqb-true}
 use Rattle.words.specs.Blocks.{unmapped}
-use Rattle.words.specs.Choice.{if◌then◌else◌}
+use Rattle.words.specs.Choice.{when◌then◌else◌}
 use Rattle.words.specs.Lists.{last_of}
 use Rattle.words.proofs.Appends.{those_append, map_append}
 use Rattle.book.specs.Book.{volumes, Sizes}
@@ -107,12 +107,12 @@ recalls_later l d t bs bs' span is h later room keeps r = record {
 pub each-taken : (l d : ℕ) (bs : List Block) (q : Plain) (h : ℕ → History) (i : Taken) (note : History → History)
     → ((x : ℕ) → Recalls l d bs (retention_at q x) (taken_of x q.taken) (h x))
     → Recalls l d bs (retention_at q i.volume) (taken_of i.volume q.taken ++ (i ∷ [])) (note (h i.volume))
-    → (x : ℕ) → Recalls l d bs (retention_at q x) (taken_of x (q.taken ++ (i ∷ []))) (if eqb i.volume x && true then note (h x) else h x)
+    → (x : ℕ) → Recalls l d bs (retention_at q x) (taken_of x (q.taken ++ (i ∷ []))) (when eqb i.volume x && true then note (h x) else h x)
 each-taken l d bs q h i note others own x =
     rw (those_append (λ (j : Taken). eqb j.volume x) q.taken (i ∷ [])) (go (eqb i.volume x) refl)
   where
     go : (s : Bool) → eqb i.volume x ≡ s
-        → Recalls l d bs (retention_at q x) (taken_of x q.taken ++ (if s then i ∷ [] else [])) (if s && true then note (h x) else h x)
+        → Recalls l d bs (retention_at q x) (taken_of x q.taken ++ (when s then i ∷ [] else [])) (when s && true then note (h x) else h x)
     go true e =
         subst (λ (x : ℕ). Recalls l d bs (retention_at q x) (taken_of x q.taken ++ (i ∷ [])) (note (h x))) (eqb-true i.volume x e) own
     go false e = rw (append-nil (taken_of x q.taken)) (others x)

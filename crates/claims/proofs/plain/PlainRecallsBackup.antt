@@ -12,7 +12,7 @@ use lib.Dec.{ltb, eqb}
 use lib.ListN.{length, get_or, length-append}
 use borrow.Author.Tests.{ltb-true, ltb-false}
 use Rattle.words.specs.Blocks.{unmapped}
-use Rattle.words.specs.Choice.{if◌then◌else◌}
+use Rattle.words.specs.Choice.{when◌then◌else◌}
 use Rattle.words.proofs.Appends.{map_append}
 use Rattle.words.specs.Outcome.{accepted}
 use Rattle.runs.specs.Changes.{Change}
@@ -156,7 +156,7 @@ module _ {l d : ℕ} {q : Plain} {h : ℕ → History} (a : AllRecall l d q h) (
     new = record { volume = v; day = t; what = image w.copy; changes = n }
 
     closed_recalls : (retention_at q v ≡ 0 → ⊥)
-        → AllRecall l t (closed q v t n w).store (λ x. if eqb v x && true then with_sent (record { day = t; changes = cs }) (h x) else h x)
+        → AllRecall l t (closed q v t n w).store (λ x. when eqb v x && true then with_sent (record { day = t; changes = cs }) (h x) else h x)
     unfolding closed at_day with_blocks with_taken
     closed_recalls used = record {
       logical = a.logical;
@@ -171,6 +171,6 @@ module _ {l d : ℕ} {q : Plain} {h : ℕ → History} (a : AllRecall l d q h) (
 
   pub backup_recalls : (t n : ℕ) (cs : List Change) (w : PlainWork) → d ≤ t → (retention_at q v ≡ 0 → ⊥)
       → run_changes cs (begun q v) ≡ accepted w
-      → AllRecall l t (closed q v t n w).store (λ x. if eqb v x && true then with_sent (record { day = t; changes = cs }) (h x) else h x)
+      → AllRecall l t (closed q v t n w).store (λ x. when eqb v x && true then with_sent (record { day = t; changes = cs }) (h x) else h x)
   backup_recalls t n cs w later used e =
       closed_recalls t n cs w later (run-copies l q.blocks a.room cs was (begun q v) w begun-copies e) used

@@ -10,7 +10,7 @@ use lib.ListN.{length, get_or, set, replicate, length-set, length-replicate, get
 use lib.Seq.{get_or-set_same, get_or-set_other}
 use borrow.Author.Tests.{ltb-true, ltb-false, eq-eqb, eqb-true, eqb-false}
 use Rattle.words.specs.Blocks.{unmapped}
-use Rattle.words.specs.Choice.{if◌then◌else◌}
+use Rattle.words.specs.Choice.{when◌then◌else◌}
 use Rattle.words.proofs.Options.{none_not}
 use Rattle.words.proofs.Places.{get_or_replicated}
 use Rattle.book.specs.Book.{volumes, Sizes}
@@ -127,7 +127,7 @@ module _ {l d : ℕ} {q : Plain} {h : ℕ → History} (a : AllRecall l d q h) w
       (none_recalls l d r q.blocks (with_enrol r (h v)) a.room refl days unsent stays)
 
   pub enrol_recalls : (v r : ℕ) → v < volumes → retention_at q v ≡ 0
-      → AllRecall l d (with_retention v r q) (λ x. if eqb v x && true then with_enrol r (h x) else h x)
+      → AllRecall l d (with_retention v r q) (λ x. when eqb v x && true then with_enrol r (h x) else h x)
   unfolding with_retention
   enrol_recalls v r inside e = record {
     logical = a.logical;
@@ -141,7 +141,7 @@ module _ {l d : ℕ} {q : Plain} {h : ℕ → History} (a : AllRecall l d q h) w
       there = rw a.volume_count inside
 
       go : (w : ℕ) (t : Bool) → eqb v w ≡ t
-          → Recalls l d q.blocks (get_or (set q.retentions v r) w 0) (taken_of w q.taken) (if t && true then with_enrol r (h w) else h w)
+          → Recalls l d q.blocks (get_or (set q.retentions v r) w 0) (taken_of w q.taken) (when t && true then with_enrol r (h w) else h w)
       go w true f =
           subst (λ (x : ℕ). Recalls l d q.blocks (get_or (set q.retentions v r) x 0) (taken_of x q.taken) (with_enrol r (h x)))
           (eqb-true v w f)

@@ -5,7 +5,7 @@ use mathlib.Core.Bool.{true, false, ◌&&◌}
 use mathlib.Core.List.{List, [], ◌∷◌, ◌++◌, map, append-nil, append_assoc}
 use lib.Dec.{eqb}
 use lib.ListN.{length}
-use Rattle.words.specs.Choice.{if◌then◌else◌}
+use Rattle.words.specs.Choice.{when◌then◌else◌}
 use Rattle.words.proofs.Appends.{some_of_append}
 use Rattle.words.proofs.ChoiceLaws.{or_r, not_both}
 use Rattle.model.specs.Plain.{Block, retirement, Taken, Plain, at_day, with_taken, retention_at, taken_of, days_of, maps_of, is_retirement}
@@ -52,7 +52,7 @@ module _ (l t v n : ℕ) (bs : List Block) (span : ℕ) (is : List Taken) (h : H
 
 pub retire_recalls : {l d : ℕ} {q : Plain} {h : ℕ → History} (a : AllRecall l d q h) (v t : ℕ) → d ≤ t → (retention_at q v ≡ 0 → ⊥)
     → is_retired (taken_of v q.taken) ≡ false
-    → AllRecall l t (retired q v t).store (λ x. if eqb v x && true then with_left t (h x) else h x)
+    → AllRecall l t (retired q v t).store (λ x. when eqb v x && true then with_left t (h x) else h x)
 unfolding retired at_day with_taken
 retire_recalls {l} {d} {q} {h} a v t later used living = record {
   logical = a.logical;

@@ -10,7 +10,7 @@ use lib.ListN.{length, get_or, set, get_or-eq_default}
 use lib.Seq.{get_or-set_same, get_or-set_other}
 use borrow.Author.Tests.{eqb-true, eqb-false, ne_eqb}
 use Rattle.words.specs.Blocks.{unmapped}
-use Rattle.words.specs.Choice.{if◌then◌else◌}
+use Rattle.words.specs.Choice.{when◌then◌else◌}
 use Rattle.words.specs.Lists.{or_else}
 use Rattle.model.specs.Plain.{Block, free, held, bytes_of}
 use Rattle.model.specs.History.{is_none, block_or}
@@ -66,12 +66,12 @@ carries_over l bs bs' m s room maps carries keeps lbn h = go (s lbn) refl
 
 -- b at LBN i, elsewhere as before
 abbrev pub changed : ℕ → List ℕ → (ℕ → Option (List ℕ)) → ℕ → Option (List ℕ)
-changed i b s lbn = or_else (if eqb i lbn then some b else none) (s lbn)
+changed i b s lbn = or_else (when eqb i lbn then some b else none) (s lbn)
 
-cell_set : (m : List ℕ) (i p lbn : ℕ) → lbn < length m → get_or (set m i p) lbn unmapped ≡ (if eqb i lbn then p else get_or m lbn unmapped)
+cell_set : (m : List ℕ) (i p lbn : ℕ) → lbn < length m → get_or (set m i p) lbn unmapped ≡ (when eqb i lbn then p else get_or m lbn unmapped)
 cell_set m i p lbn h = go (eqb i lbn) refl
   where
-    go : (t : Bool) → eqb i lbn ≡ t → get_or (set m i p) lbn unmapped ≡ (if t then p else get_or m lbn unmapped)
+    go : (t : Bool) → eqb i lbn ≡ t → get_or (set m i p) lbn unmapped ≡ (when t then p else get_or m lbn unmapped)
     go true e = rw (eqb-true i lbn e) (get_or-set_same m lbn p unmapped h)
     go false e = get_or-set_other m i lbn p unmapped (λ q. eqb-false i lbn e (sym q))
 
@@ -79,13 +79,13 @@ module _ (l : ℕ) (m : List ℕ) (s : ℕ → Option (List ℕ)) (i p : ℕ) (b
   pub maps-set : p < unmapped → Maps l m s → Maps l (set m i p) (changed i b s)
   maps-set h maps lbn k = rw (cell_set m i p lbn (omega arith)) (go (eqb i lbn))
     where
-      go : (t : Bool) → eqb (if t then p else get_or m lbn unmapped) unmapped ≡ is_none (or_else (if t then some b else none) (s lbn))
+      go : (t : Bool) → eqb (when t then p else get_or m lbn unmapped) unmapped ≡ is_none (or_else (when t then some b else none) (s lbn))
       go true = ne_eqb p unmapped (λ e. omega arith)
       go false = maps lbn k
 
   pub carries-set : (bs : List Block) → shown_at bs p ≡ some b → Carries l bs m s → Carries l bs (set m i p) (changed i b s)
   carries-set bs shows carries lbn k = rw (cell_set m i p lbn (omega arith)) (go (eqb i lbn))
     where
-      go : (t : Bool) → shown_at bs (if t then p else get_or m lbn unmapped) ≡ or_else (if t then some b else none) (s lbn)
+      go : (t : Bool) → shown_at bs (when t then p else get_or m lbn unmapped) ≡ or_else (when t then some b else none) (s lbn)
       go true = shows
       go false = carries lbn k

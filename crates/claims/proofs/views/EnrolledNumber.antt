@@ -6,7 +6,7 @@ use mathlib.Core.List.{List}
 use native.Mathlib.Omega.{arith}
 use lib.Dec.{ltb, eqb}
 use borrow.Author.Tests.{lt-ltb, le-ltb, ltb-false, eq-eqb, ne_eqb, eqb-true, eqb-false}
-use Rattle.words.specs.Choice.{if◌then◌else◌}
+use Rattle.words.specs.Choice.{when◌then◌else◌}
 use Rattle.words.proofs.ChoiceLaws.{or_l, or_r}
 use Rattle.book.specs.Book.{volumes, retention_of}
 use Rattle.book.specs.Layout.{book_of}
@@ -48,7 +48,7 @@ module _ (b : List ℕ) (v : ℕ) where
   passed-enrolled = go (eqb (form_number b) 0) (ltb 7 v) (eqb (retention_of (book_of b) v) 0) refl refl refl
     where
       go : (f a n : Bool) → eqb (form_number b) 0 ≡ f → ltb 7 v ≡ a → eqb (retention_of (book_of b) v) 0 ≡ n
-          → (if f then (if a || not (not n) then 5 else 0) else form_number b) ≡ 0 → IsEnrolled b v
+          → (when f then (when a || not (not n) then 5 else 0) else form_number b) ≡ 0 → IsEnrolled b v
       go true false false ef ea en e = record {
         form = eqb-true (form_number b) 0 ef;
         inside = omega (arith, ltb-false 7 v ea);

@@ -9,7 +9,7 @@ use lib.Dec.{leb}
 use lib.ListN.{length, get_or, drop, get_or-append}
 use lib.Seq.{get_or-append-add}
 use borrow.Author.Tests.{le-leb}
-use Rattle.words.specs.Choice.{if◌then◌else◌}
+use Rattle.words.specs.Choice.{when◌then◌else◌}
 use Rattle.words.specs.Lists.{bit, count_of}
 use Rattle.words.specs.Numbers.{num}
 use Rattle.words.proofs.NumberLaws.{two_back}
@@ -46,14 +46,14 @@ own-day (b ∷ bs) (suc k) = own-day bs k
 module _ (r d : ℕ) where
   -- a backup's row, and none for a retirement
   abbrev row_of : Bool → Backup → List Backup → List ℕ
-  row_of out b bs = if out then [] else backup_row b (days_of bs) r d
+  row_of out b bs = when out then [] else backup_row b (days_of bs) r d
 
   length-rows : (bs : List Backup) → length (backup_rows r d bs) ≡ count_of is_backup bs * 8
   length-rows [] = refl
   length-rows (b ∷ bs) = go b.retire (length-rows bs)
     where
       go : (t : Bool) → length (backup_rows r d bs) ≡ count_of is_backup bs * 8
-          → length (row_of t b bs ++ backup_rows r d bs) ≡ (if not t then suc (count_of is_backup bs) else count_of is_backup bs) * 8
+          → length (row_of t b bs ++ backup_rows r d bs) ≡ (when not t then suc (count_of is_backup bs) else count_of is_backup bs) * 8
       go true n = n
       go false n = rw suc-mul (omega arith)
 
@@ -63,7 +63,7 @@ module _ (r d : ℕ) where
   row_at [] k j ends h g = absurd (omega arith)
   row_at (b ∷ bs) k j ends h g = go b.retire k ends.0 h (λ i l. row_at bs i j ends.1 l g)
     where
-      go : (t : Bool) (k : ℕ) → (t ≡ true → bs ≡ []) → k < (if not t then suc (count_of is_backup bs) else count_of is_backup bs)
+      go : (t : Bool) (k : ℕ) → (t ≡ true → bs ≡ []) → k < (when not t then suc (count_of is_backup bs) else count_of is_backup bs)
           → ((i : ℕ) → i < count_of is_backup bs
           → num (backup_rows r d bs) (i * 8 + j) ≡ num (backup_row (get_or bs i no_backup) (drop (suc i) (days_of bs)) r d) j)
           → num (row_of t b bs ++ backup_rows r d bs) (k * 8 + j)

@@ -5,7 +5,7 @@ use mathlib.Core.Bool.{false, ◌&&◌}
 use native.Mathlib.Omega.{arith}
 use lib.Dec.{eqb}
 use borrow.Author.Tests.{eq-eqb, ne_eqb}
-use Rattle.words.specs.Choice.{if◌then◌else◌}
+use Rattle.words.specs.Choice.{when◌then◌else◌}
 use Rattle.calls.specs.Coding.{unused_zero}
 use Rattle.heads.proofs.head.unused_zero.Goals as goal
 
@@ -45,7 +45,7 @@ returns-then-kind-eq-AUDIT c =
 -- a kind that is none of the first five
 past : (k : ℕ) → (k ≡ 0 → ⊥) → (k ≡ 1 → ⊥) → (k ≡ 2 → ⊥) → (k ≡ 3 → ⊥) → (k ≡ 4 → ⊥) → (a b x d size : ℕ)
     → unused_zero k a b x d size
-    ≡ (if eqb k 5 then eqb size 0 else if eqb k 6 then eqb x 0 && eqb d 0 && eqb size 0 else false)
+    ≡ (when eqb k 5 then eqb size 0 else when eqb k 6 then eqb x 0 && eqb d 0 && eqb size 0 else false)
 unfolding unused_zero
 past k e₀ e₁ e₂ e₃ e₄ a b x d size = rw (ne_eqb k 0 e₀, ne_eqb k 1 e₁, ne_eqb k 2 e₂, ne_eqb k 3 e₃, ne_eqb k 4 e₄)
 

@@ -8,7 +8,7 @@ use lib.Dec.{eqb}
 use lib.ListN.{length}
 use borrow.Author.Tests.{not-false}
 use Rattle.words.specs.Blocks.{unmapped}
-use Rattle.words.specs.Choice.{if◌then◌else◌}
+use Rattle.words.specs.Choice.{when◌then◌else◌}
 use Rattle.words.proofs.ChoiceLaws.{failed, passed}
 use Rattle.book.specs.Book.{Entry, Book, entry_at, cell_at}
 use Rattle.book.specs.Layout.{book_of, Is}
@@ -139,6 +139,6 @@ returns c =
           ∙ name-lowered a.v a.lbn.0 a.p.0 entries x)
           refl
           (ap (λ (k : ℕ). a.t.touched + k)
-          (c.touches.ensures ∙ ap (λ (k : ℕ). if eqb k unmapped then 1 else 2) c.cell-before.ensures)),
+          (c.touches.ensures ∙ ap (λ (k : ℕ). when eqb k unmapped then 1 else 2) c.cell-before.ensures)),
       c.name_block.ensures.holds,
     )

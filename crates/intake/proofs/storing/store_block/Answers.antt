@@ -1,0 +1,78 @@
+-- The three ways of a block; the part of the pool that was lent comes back as the change's block.
+use Prim.Native.Nat.{ℕ, ◌*◌, ◌<◌}
+use mathlib.Core.Path.{◌≡◌, sym, ap, ◌∙◌}
+use mathlib.Core.List.{List}
+use mathlib.Core.Bool.{not, true, false}
+use native.Mathlib.Omega.{arith}
+use lib.ListN.{length, get_or}
+use Rattle.words.specs.Blocks.{block_size}
+use Rattle.words.proofs.ChoiceLaws.{failed, passed}
+use Rattle.words.proofs.Parts.{length_part}
+use Rattle.words.proofs.Lending.{lent, spliced}
+use Rattle.list.proofs.ReaderLaws.{length-block}
+use Rattle.book.specs.Book.{entry_at}
+use Rattle.book.specs.Layout.{book_of}
+use Rattle.model.specs.Pool.{with_block}
+use Rattle.intake.proofs.StoringLaws.{stored-old, stored-free, stored-new}
+use Rattle.intake.proofs.storing.store_block.Goals as goal
+
+pub returns-then-is_held : goal.returns-then-is_held
+returns-then-is_held c =
+    let a = c.args in
+    stored-old (book_of a.book.now).entries (book_of a.work.now).entries a.taker.now a.list.now
+    a.pool.now a.p.0 (sym c.is_held.ensures ∙ c.if-is_held.true)
+
+pub returns-then-not-is_held : goal.returns-then-not-is_held
+returns-then-not-is_held c =
+    let free : (let a = c.args in
+    (entry_at (book_of a.book.now).entries a.p.0).held ≡ false) = sym c.is_held.ensures ∙ c.if-is_held.false in
+    let a = c.args in
+    stored-free (book_of a.book.now).entries (book_of a.work.now).entries a.taker.now a.list.now
+    a.pool.now a.p.0 free (failed c.is_held-2.ensures (ap not c.if-not-is_held.true))
+
+pub overflow_cast-i : goal.overflow_cast-i
+overflow_cast-i c =
+    let free : (let a = c.args in
+    (entry_at (book_of a.book.now).entries a.p.0).held ≡ false) = sym c.is_held.ensures ∙ c.if-is_held.false in
+    let held : (let a = c.args in
+    (entry_at (book_of a.work.now).entries a.p.0).held ≡ true) = passed c.is_held-2.ensures (ap not c.if-not-is_held.false) in
+    let mark : (let a = c.args in
+    get_or a.taker.now a.p.0 0 < a.shape.changes) = c.requires.p_bound_2 free held in
+    omega (arith, mark, c.requires.holds.2.size)
+
+pub block_of-requires : goal.block_of-requires
+block_of-requires c =
+    let free : (let a = c.args in
+    (entry_at (book_of a.book.now).entries a.p.0).held ≡ false) = sym c.is_held.ensures ∙ c.if-is_held.false in
+    let held : (let a = c.args in
+    (entry_at (book_of a.work.now).entries a.p.0).held ≡ true) = passed c.is_held-2.ensures (ap not c.if-not-is_held.false) in
+    let mark : (let a = c.args in
+    get_or a.taker.now a.p.0 0 < a.shape.changes) = c.requires.p_bound_2 free held in
+    (c.requires.holds.2, mark)
+
+pub copy-requires : goal.copy-requires
+copy-requires c =
+    let free : (let a = c.args in
+    (entry_at (book_of a.book.now).entries a.p.0).held ≡ false) = sym c.is_held.ensures ∙ c.if-is_held.false in
+    let held : (let a = c.args in
+    (entry_at (book_of a.work.now).entries a.p.0).held ≡ true) = passed c.is_held-2.ensures (ap not c.if-not-is_held.false) in
+    let mark : (let a = c.args in
+    get_or a.taker.now a.p.0 0 < a.shape.changes) = c.requires.p_bound_2 free held in
+    let a = c.args in
+    let at = a.p.0 * block_size in
+    ap length (lent a.pool.now at block_size)
+    ∙ length_part a.pool.now at block_size (omega (arith, c.requires.p_bound.0, c.requires.p_bound.2))
+    ∙ sym (ap length c.block_of.ensures
+    ∙ length-block a.list.now a.shape c.requires.holds.2 _ (omega (arith, mark, c.requires.holds.2.changes)))
+
+pub returns : goal.returns
+returns c =
+    let free : (let a = c.args in
+    (entry_at (book_of a.book.now).entries a.p.0).held ≡ false) = sym c.is_held.ensures ∙ c.if-is_held.false in
+    let held : (let a = c.args in
+    (entry_at (book_of a.work.now).entries a.p.0).held ≡ true) = passed c.is_held-2.ensures (ap not c.if-not-is_held.false) in
+    let a = c.args in
+    spliced a.pool.now c.copy.new.dst (a.p.0 * block_size) block_size
+    ∙ ap (λ (m : List ℕ). with_block a.pool.now a.p.0 m) (c.copy.ensures ∙ c.block_of.ensures)
+    ∙ stored-new (book_of a.book.now).entries (book_of a.work.now).entries a.taker.now a.list.now
+    a.pool.now a.p.0 free held
