@@ -97,4 +97,5 @@ def main(root):
     print(f"respell: {len(names)} names, {changed} files changed")
 
 
-main(sys.argv[1] if len(sys.argv) > 1 else ".")
+if __name__ == "__main__":
+    main(sys.argv[1] if len(sys.argv) > 1 else ".")
