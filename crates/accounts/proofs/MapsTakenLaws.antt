@@ -1,11 +1,11 @@
 -- Laws of specs/MapsTaken.antt.
 -- The maps gone through once: the test of their cells against a table, and a count for each block that they name.
 use Prim.Native.Nat.{ℕ, ◌+◌, ◌*◌, ◌<◌}
-use mathlib.Core.Path.{◌≡◌, sym, ◌∙◌}
+use mathlib.Core.Path.{◌≡◌, sym}
 use mathlib.Core.Bool.{Bool, true, ◌&&◌}
 use mathlib.Core.List.{List}
 use native.Mathlib.Omega.{arith}
-use lib.ListN.{length, take, replicate, length-replicate, get_or-replicate}
+use lib.ListN.{take, replicate, get_or-replicate}
 use Rattle.words.specs.Lists.{each}
 use Rattle.words.proofs.Each.{each_none, each-grow}
 use Rattle.words.specs.Lists.{joined}
@@ -33,9 +33,6 @@ taking_start x cells {n} z =
       counts = counted_none (replicate pool_blocks 0);
       few = λ p h. omega (arith, get_or-replicate {A = ℕ} pool_blocks p 0 0 h);
     })
-
-pub taking_long : {x : Book} {cells : List ℕ} {v : ℕ} {good : Bool} {a : List ℕ} → MapsTaking x cells v good a → length a ≡ pool_blocks
-taking_long w = w.counts.long ∙ length-replicate {A = ℕ} pool_blocks 0
 
 module _ {b : List ℕ} (f : FormFacts b) {cells : List ℕ} {v : ℕ} {good : Bool} {a : List ℕ} where
   pub taking_row : {good' : Bool} {a' : List ℕ} → v < volumes → MapsTaking (book_of b) cells v good a

@@ -5,7 +5,7 @@ ghost use Rattle.book.specs.FormFacts.{FormFacts};
 ghost use Rattle.accounts.specs.Passes.{TakesRow, TakesMaps};
 ghost use Rattle.accounts.specs.Counts.{Counted};
 ghost use Rattle.accounts.specs.MapsTaken.{AtMost};
-ghost use Rattle.due.specs.Pool.{pool_blocks, OfPool};
+ghost use Rattle.due.specs.Pool.{pool_blocks};
 ghost use Rattle.replay.specs.Table.{row_size};
 ghost use Rattle.words.specs.Lent.{lent};
 
@@ -17,7 +17,7 @@ use words::{LBN, PBN};
 
 // The block's count rises by 1; unmapped has none.
 fn count_one(counts: &mut Table, p: PBN)
-    requires { OfPool counts.old × (p.0 < pool_blocks → get_or counts.old p.0 0 < 65535) }
+    requires { p.0 < pool_blocks → get_or counts.old p.0 0 < 65535 }
     ensures { Counted counts.old (p.0 ∷ []) counts.new }
 {
     let at = p.0 as usize;
@@ -29,18 +29,16 @@ fn count_one(counts: &mut Table, p: PBN)
 
 fn take_row(book: &[u8], cells: &Cells, counts: &mut Table, v: u16) -> bool
     requires form_facts { FormFacts book.now }
-    requires v_lt_volumes { (v < volumes) × OfPool counts.old × AtMost (v * row_size) counts.old }
+    requires v_lt_volumes { (v < volumes) × AtMost (v * row_size) counts.old }
     ensures { TakesRow book cells (lent counts) v result }
 {
     let row = (v as usize) * MAX_LBNS;
     let wide = header::cells(book);
     let mut good = true;
-    let mut l = 0;
-    while l < wide {
+    for l in 0..wide {
         let named = cell(book, v, LBN(l));
         good = good & (named.0 == cells[row + (l as usize)]);
         count_one(counts, named);
-        l += 1;
     }
     good
 }
@@ -52,11 +50,9 @@ pub fn maps_match(book: &[u8], cells: &Cells, counts: &mut Table) -> bool
 {
     *counts = [0u16; MAX_BLOCKS];
     let mut good = true;
-    let mut v = 0;
-    while v <= LAST_VOLUME {
+    for v in 0..=LAST_VOLUME {
         let same = take_row(book, cells, counts, v);
         good = good & same;
-        v += 1;
     }
     good
 }

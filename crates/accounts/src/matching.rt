@@ -24,10 +24,8 @@ pub fn entries_match(book: &[u8], counts: &Table, expiries: &Table) -> bool
 {
     let n = blocks(book);
     let mut good = true;
-    let mut p = 0;
-    while p < n {
+    for p in 0..n {
         good = good & entry_matches(book, counts, expiries, PBN(p));
-        p += 1;
     }
     good
 }

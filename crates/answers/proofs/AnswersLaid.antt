@@ -23,6 +23,6 @@ pub answered-block : (out : List ℕ) (to tag : ℕ) (bl : List ℕ) {o₂ : Lis
     → Stored out to (tag ∷ bl) o₂ (to + 1 + 512)
 answered-block out to tag bl n e = record { list = rw e (simp towards_suc); place = omega arith }
 
--- the block as it is lent
-pub lent_length : (pool : List ℕ) (p : ℕ) → p + 512 ≤ length pool → length (take (p + 512 - p) (drop p pool)) ≡ 512
-lent_length pool p h = ap length (lent pool p 512) ∙ length_part pool p 512 h
+-- a part as it is lent
+pub lent_length : (list : List ℕ) (p n : ℕ) → p + n ≤ length list → length (take (p + n - p) (drop p list)) ≡ n
+lent_length list p n h = ap length (lent list p n) ∙ length_part list p n h

@@ -10,7 +10,6 @@ use borrow.Author.Tests.{eq-eqb}
 use Rattle.words.specs.Blocks.{block_size}
 use Rattle.words.proofs.Accepted.{accepted-same, unless-accepted, then-accepted}
 use Rattle.words.proofs.ChoiceLaws.{true_and}
-use Rattle.words.specs.Lent.{Lent}
 use Rattle.words.specs.Lists.{all}
 use Rattle.words.specs.Outcome.{Outcome, refused, accepted, and_then, unless}
 use Rattle.words.proofs.Parts.{length_part}
@@ -19,7 +18,7 @@ use Rattle.book.proofs.Clauses.{book-parts}
 use Rattle.book.proofs.FormBytes.{book-form}
 use Rattle.book.specs.Layout.{book_of}
 use Rattle.model.specs.Calls.{Call, enrol, backup, collect, retire, read, audit}
-use Rattle.model.specs.OnBytes.{number_of, after, pool_number, enrol_bytes, backup_bytes, collect_bytes, retire_bytes}
+use Rattle.model.specs.OnBytes.{number_of, pool_number, enrol_bytes, backup_bytes, collect_bytes, retire_bytes}
 use Rattle.model.specs.OnBytes.{read_bytes, read_number_bytes, read_place_bytes, restore_bytes, audit_bytes}
 use Rattle.claims.specs.Claims.{restored_at}
 use Rattle.model.specs.Kept.{kept_number}
@@ -34,7 +33,6 @@ use Rattle.buffers.proofs.BuffersLaws.{pool-size}
 use Rattle.calls.specs.Asked.{Asked, listed, restore, restore_reply, reply_to, next_after, replies_of}
 use Rattle.calls.proofs.AnswerLaws.{is_whole, whole_reply}
 use Rattle.claims.proofs.form.Proper.{number-unless}
-use Rattle.restorer.specs.Promises.{Located}
 use Rattle.restorer.proofs.ReadingLaws.{number_mapped}
 
 -- the three numbers of a read that is accepted
@@ -75,24 +73,21 @@ module _ (b pool : List ℕ) (v k lbn : ℕ) where
       go zero (suc p) n x y w = refl
       go (suc f) p n x y w = refl
 
--- an accepted read's answer
-module _ (book pool : Lent (List ℕ)) (v k lbn : ℕ) (p : Lent ℕ) (n : ℕ) (e : Located book pool v k lbn p n) (z : n ≡ 0) where
-  abbrev b : List ℕ
-  b = book.entry.now
-
-  pub located_readable : Readable b pool.entry.now v k lbn
-  unfolding read_number_bytes
-  located_readable = readable b pool.entry.now v k lbn (sym e.number ∙ z)
-
-  pub located_offset : p.exit.now ≡ image (book_of b) v k lbn * 512
+-- an accepted read's answer: where its block starts
+module _ (b pool : List ℕ) (v k lbn from : ℕ) (e : accepted from ≡ read_place_bytes b pool v k lbn) where
+  number_place : (read_number_bytes b pool v k lbn ≡ 0) × (accepted (image (book_of b) v k lbn * block_size) ≡ accepted from)
   unfolding read_place_bytes
-  located_offset =
-      e.answer
-      ∙ ap (λ (j : ℕ). after (λ q. q) (unless j (accepted (image (book_of b) v k lbn * block_size))) p.entry.now)
-      (sym e.number ∙ z)
+  number_place = unless-accepted (read_number_bytes b pool v k lbn) _ from (sym e)
 
-  pub located_inside : p.exit.now + 512 ≤ length pool.entry.now
-  located_inside = let at = located_offset in omega (arith, block_inside b pool.entry.now v k lbn located_readable)
+  pub placed_readable : Readable b pool v k lbn
+  unfolding read_number_bytes
+  placed_readable = readable b pool v k lbn number_place.0
+
+  pub placed_offset : from ≡ image (book_of b) v k lbn * 512
+  placed_offset = sym (accepted-same _ from number_place.1)
+
+  pub placed_inside : from + 512 ≤ length pool
+  placed_inside = let at = placed_offset in omega (arith, block_inside b pool v k lbn placed_readable)
 
 -- ---- so every block among the answers is whole
 

@@ -67,16 +67,16 @@ module _ (spare : ℕ) (b pool : List ℕ) (v k first many : ℕ) (part part' : 
         let same = part_same out (to + 3) end (omega arith) inside part' (w.0 ∙ lent) in
         record { next = refl; answer = rw w.1 (rw same at s) }
 
-    pub restore-done : {out' : List ℕ} {r : ℕ} → n ≡ 0 → length part' ≡ length part → Stored back to (5 ∷ two many) out' r
+    pub restore-done : {out' : List ℕ} {r tag : ℕ} → n ≡ 0 → length part' ≡ length part → Stored back to (tag ∷ two many) out' r → tag ≡ 5
         → Did spare b pool (restore v k first many) out to b pool out' end
     unfolding next_after
-    restore-done z same s =
+    restore-done {tag = tag} z same s run_tag =
         let stored = part-stored out (to + 3) end (omega arith) inside part' (omega arith) in
         record {
           next = refl;
-          answer = rw (done-reply z) (record {
-            list = s.list ∙ ap (λ (x : List ℕ). sets x to (5 ∷ two many)) stored
-                ∙ sets-joined-before (5 ∷ two many) part' out to (to + 3) refl;
+          answer = rw (done-reply z, ← run_tag) (record {
+            list = s.list ∙ ap (λ (x : List ℕ). sets x to (tag ∷ two many)) stored
+                ∙ sets-joined-before (tag ∷ two many) part' out to (to + 3) refl;
             place = omega arith;
           });
         }

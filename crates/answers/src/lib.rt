@@ -1,5 +1,4 @@
-// Each call made through its exported function. Its answer in bytes is stored at `to`, and each gives the offset past
-// it.
+// Each call made, and its answer in bytes stored at `to`; each gives the offset past it.
 
 #![tactic(auto)]
 
@@ -10,57 +9,60 @@ ghost use Rattle.model.specs.Calls.{enrol, backup, collect, retire, read, audit}
 ghost use Rattle.calls.specs.Asked.{listed, restore};
 ghost use Rattle.calls.specs.Doing.{DidLent, DidSpared, DidAnySpare, DidAnyPool};
 ghost use Rattle.words.specs.Lent.{lent};
+ghost use Rattle.words.specs.Refusals.{number};
+ghost use Rattle.answers.specs.Tags.{code};
 
-use engine::audit::aspen_audit;
-use engine::backup::aspen_backup;
-use engine::collect::aspen_collect;
-use engine::enrol::aspen_enrol;
-use engine::read::aspen_read;
-use engine::restore::aspen_restore;
-use engine::retire::aspen_retire;
-use words::{BLOCK_SIZE, put_bytes, put_three, put_u16};
+use words::refusals::Refusal;
+use words::{BLOCK_SIZE, LBN, put_bytes, put_three, put_u16};
 
-const NUMBER: u8 = 0;
-
-const BACKED: u8 = 1;
-
-// One number: a collect's freed, a retire's cells.
-const GAVE: u8 = 2;
-
-const BLOCK: u8 = 3;
-
-const SOUND: u8 = 4;
-
-const RUN: u8 = 5;
+// What an answer is of: its first byte.
+#[derive(Clone, Copy)]
+enum Tag {
+    // A refusal, or 0 of a call that answers nothing else.
+    Number = 0,
+    Backed,
+    // One number: a collect's freed, a retire's cells.
+    Gave,
+    Block,
+    Sound,
+    Run,
+}
 
 // A tag and a number.
-fn tell(answers: &mut [u8], to: usize, tag: u8, v: u16) -> usize
+fn tell(answers: &mut [u8], to: usize, tag: Tag, v: u16) -> usize
     requires { to + 3 ≤ length answers.old }
-    ensures { Stored answers.old to (tag ∷ two v) answers.new result }
+    ensures { Stored answers.old to (code tag ∷ two v) answers.new result }
 {
-    answers[to] = tag;
+    answers[to] = tag as u8;
     put_u16(answers, to + 1, v);
     to + 3
+}
+
+fn tell_refusal(answers: &mut [u8], to: usize, refusal: Refusal) -> usize
+    requires { to + 3 ≤ length answers.old }
+    ensures { Stored answers.old to (0 ∷ two (number refusal)) answers.new result }
+{
+    tell(answers, to, Tag::Number, u16::from(refusal))
 }
 
 pub fn answer_enrol(book: &mut [u8], v: u16, retention: u16, answers: &mut [u8], to: usize) -> usize
     requires { to + 3 ≤ length answers.old }
     ensures { DidAnyPool (lent book) (listed (enrol v retention)) (lent answers) to result }
 {
-    let refusal = aspen_enrol(book, v, retention);
-    tell(answers, to, NUMBER, refusal)
+    match engine::enrol(book, v, retention) {
+        Ok(()) => tell(answers, to, Tag::Number, 0),
+        Err(refusal) => tell_refusal(answers, to, refusal),
+    }
 }
 
 pub fn answer_collect(book: &mut [u8], day: u16, answers: &mut [u8], to: usize) -> usize
     requires { to + 3 ≤ length answers.old }
     ensures { DidAnyPool (lent book) (listed (collect day)) (lent answers) to result }
 {
-    let mut freed = 0u16;
-    let refusal = aspen_collect(book, day, &mut freed);
-    if refusal != 0 {
-        return tell(answers, to, NUMBER, refusal);
+    match engine::collect(book, day) {
+        Ok(freed) => tell(answers, to, Tag::Gave, freed),
+        Err(refusal) => tell_refusal(answers, to, refusal),
     }
-    tell(answers, to, GAVE, freed)
 }
 
 pub fn answer_retire(
@@ -74,12 +76,10 @@ pub fn answer_retire(
     requires { to + 3 ≤ length answers.old }
     ensures { DidSpared (lent book) (lent spare) (listed (retire v day)) (lent answers) to result }
 {
-    let mut cells = 0u16;
-    let refusal = aspen_retire(book, spare, v, day, &mut cells);
-    if refusal != 0 {
-        return tell(answers, to, NUMBER, refusal);
+    match engine::retire(book, spare, v, day) {
+        Ok(cells) => tell(answers, to, Tag::Gave, cells),
+        Err(refusal) => tell_refusal(answers, to, refusal),
     }
-    tell(answers, to, GAVE, cells)
 }
 
 pub fn answer_read(
@@ -94,15 +94,14 @@ pub fn answer_read(
     requires { to + 513 ≤ length answers.old }
     ensures { DidAnySpare book pool (listed (read v number lbn)) (lent answers) to result }
 {
-    let mut at = 0u32;
-    let refusal = aspen_read(book, pool, v, number, lbn, &mut at);
-    if refusal != 0 {
-        return tell(answers, to, NUMBER, refusal);
+    match engine::offset(book, pool, v, number, LBN(lbn)) {
+        Ok(from) => {
+            answers[to] = Tag::Block as u8;
+            put_bytes(answers, to + 1, &pool[from..from + BLOCK_SIZE]);
+            to + 1 + BLOCK_SIZE
+        }
+        Err(refusal) => tell_refusal(answers, to, refusal),
     }
-    let from = at as usize;
-    answers[to] = BLOCK;
-    put_bytes(answers, to + 1, &pool[from..from + BLOCK_SIZE]);
-    to + 1 + BLOCK_SIZE
 }
 
 // The blocks go to where the answer has them.
@@ -121,24 +120,23 @@ pub fn answer_restore(
 {
     let from = to + 3;
     let end = from + (many as usize) * BLOCK_SIZE;
-    let refusal = aspen_restore(book, pool, v, number, first, many, &mut answers[from..end]);
-    if refusal != 0 {
-        return tell(answers, to, NUMBER, refusal);
+    match engine::restore(book, pool, v, number, first, many, &mut answers[from..end]) {
+        Ok(()) => {
+            tell(answers, to, Tag::Run, many);
+            end
+        }
+        Err(refusal) => tell_refusal(answers, to, refusal),
     }
-    tell(answers, to, RUN, many);
-    end
 }
 
 pub fn answer_audit(book: &[u8], answers: &mut [u8], to: usize) -> usize
     requires { to + 3 ≤ length answers.old }
     ensures { DidAnyPool book (listed audit) (lent answers) to result }
 {
-    let mut sound = 0u16;
-    let refusal = aspen_audit(book, &mut sound);
-    if refusal != 0 {
-        return tell(answers, to, NUMBER, refusal);
+    match engine::audit(book) {
+        Ok(sound) => tell(answers, to, Tag::Sound, u16::from(sound)),
+        Err(refusal) => tell_refusal(answers, to, refusal),
     }
-    tell(answers, to, SOUND, sound)
 }
 
 pub fn answer_backup(
@@ -154,24 +152,12 @@ pub fn answer_backup(
     requires { to + 7 ≤ length answers.old }
     ensures { DidLent (lent book) (lent pool) (lent spare) (listed (backup v day list.now)) (lent answers) to result }
 {
-    let mut number = 0u16;
-    let mut taken = 0u16;
-    let mut touched = 0u16;
-    let refusal = aspen_backup(
-        book,
-        pool,
-        spare,
-        v,
-        day,
-        list,
-        &mut number,
-        &mut taken,
-        &mut touched,
-    );
-    if refusal != 0 {
-        return tell(answers, to, NUMBER, refusal);
+    match engine::backup(book, pool, spare, v, day, list) {
+        Ok(backed) => {
+            answers[to] = Tag::Backed as u8;
+            put_three(answers, to + 1, backed.number, backed.taken, backed.touched);
+            to + 7
+        }
+        Err(refusal) => tell_refusal(answers, to, refusal),
     }
-    answers[to] = BACKED;
-    put_three(answers, to + 1, number, taken, touched);
-    to + 7
 }

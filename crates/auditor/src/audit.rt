@@ -3,17 +3,17 @@ ghost use Rattle.std.specs.Prelude.{◌≡◌};
 ghost use Rattle.book.specs.Layout.{told};
 ghost use Rattle.book.specs.FormFacts.{FormFacts};
 ghost use Rattle.model.specs.Audit.{audit};
-ghost use Rattle.auditor.specs.Promises.{Audited};
-ghost use Rattle.words.specs.Lent.{lent};
+ghost use Rattle.model.specs.OnBytes.{audit_bytes};
+ghost use Rattle.words.specs.Refusals.{outcome_by};
 
 use super::prints::prints_sound;
 use accounts::maps::maps_match;
 use accounts::matching::entries_match;
-use form::form_number;
-use replay::notes::CELLS;
+use replay::notes::{CELLS, Notes};
 use replay::records::take_journal;
 use words::UNMAPPED;
-use words::limits::MAX_BLOCKS;
+use words::limits::{MAX_BLOCKS, MAX_LBNS};
+use words::refusals::Refusal;
 
 // The records leave cells and expiries, the maps leave counts. That no current map names a free block follows from form
 // and the counts.
@@ -21,33 +21,28 @@ fn is_sound(book: &[u8]) -> bool
     requires { FormFacts book.now }
     ensures { result ≡ audit (told book.entry) }
 {
-    let mut cells = [UNMAPPED; CELLS];
-    let mut expiries = [0u16; MAX_BLOCKS];
-    if !take_journal(book, &mut cells, &mut expiries) {
+    let mut notes = Notes {
+        cells: [UNMAPPED; CELLS],
+        expiries: [0u16; MAX_BLOCKS],
+        stamps: [0u16; MAX_LBNS],
+    };
+    if !take_journal(book, &mut notes) {
         return false;
     }
     let mut counts = [0u16; MAX_BLOCKS];
-    if !maps_match(book, &cells, &mut counts) {
+    if !maps_match(book, &notes.cells, &mut counts) {
         return false;
     }
-    if !entries_match(book, &counts, &expiries) {
+    if !entries_match(book, &counts, &notes.expiries) {
         return false;
     }
     prints_sound(book)
 }
 
-// The number that refuses the book, or 0; then sound is 1 for yes and 0 for no.
-pub fn answer(book: &[u8], sound: &mut u16) -> u16
-    ensures { Audited book (lent sound) result }
+// Whether a book in form is sound.
+pub fn audit(book: &[u8]) -> Result<bool, Refusal>
+    ensures { outcome_by (λ s. s) result ≡ audit_bytes book.now }
 {
-    let refusal = form_number(book);
-    if refusal != 0 {
-        return refusal;
-    }
-    if is_sound(book) {
-        *sound = 1;
-    } else {
-        *sound = 0;
-    }
-    0
+    form::check(book)?;
+    Ok(is_sound(book))
 }

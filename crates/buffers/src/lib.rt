@@ -3,22 +3,19 @@
 #![tactic(auto)]
 
 ghost use Rattle.std.specs.Prelude.{◌≡◌};
+ghost use Rattle.words.specs.Refusals.{refusal_number};
 ghost use Rattle.buffers.specs.Buffers.{buffers_number};
 
 use fields::header;
-use form::form_number;
-use words::{BLOCK_SIZE, refusals};
+use words::BLOCK_SIZE;
+use words::refusals::Refusal;
 
-// Numbers 1 to 3, or 0.
-pub fn buffers_number(book: &[u8], pool: &[u8]) -> u16
-    ensures { result ≡ buffers_number book.now pool.now }
+pub fn check(book: &[u8], pool: &[u8]) -> Result<(), Refusal>
+    ensures { refusal_number result ≡ buffers_number book.now pool.now }
 {
-    let number = form_number(book);
-    if number != 0 {
-        return number;
-    }
+    form::check(book)?;
     if pool.len() != header::blocks(book) as usize * BLOCK_SIZE {
-        return refusals::BAD_POOL;
+        return Err(Refusal::BadPool);
     }
-    0
+    Ok(())
 }

@@ -6,17 +6,18 @@ ghost use Rattle.book.specs.Layout.{told, Holds};
 ghost use Rattle.book.specs.FormFacts.{FormFacts};
 ghost use Rattle.words.specs.Laying.{Stored};
 ghost use Rattle.model.specs.Views.{backups_of};
-ghost use Rattle.calendar.specs.Promises.{BackupsTold};
+ghost use Rattle.calendar.specs.Promises.{BackupsGiven};
 ghost use Rattle.calendar.specs.Own.{NextIs};
 ghost use Rattle.calendar.specs.Row.{until_from, row_from};
 ghost use Rattle.words.specs.Lent.{lent};
 
 use fields::header;
-use figures::enrolled::enrolled_number;
+use figures::enrolled;
 use figures::volume::count_backups;
 use journal::slot;
 use keeping::is_kept;
-use words::{put_three, put_u16, refusals};
+use words::refusals::Refusal;
+use words::{put_three, put_u16};
 
 const ROW_SIZE: usize = 8;
 
@@ -29,15 +30,13 @@ fn next_own(book: &[u8], v: u16, q: u16) -> u16
     ensures { NextIs (told book.entry) v q result }
 {
     let used = header::used_slots(book);
-    let mut r = q;
-    while r < used {
+    for r in q..used {
         let slot = slot::slot_at(book, r);
         if slot.volume == v {
             return r;
         }
-        r += 1;
     }
-    r
+    used.max(q)
 }
 
 // The last day on which a backup that was taken on day `taken` is kept: slot `at` is the volume's next, if any.
@@ -88,18 +87,15 @@ fn put_rows(book: &[u8], v: u16, out: &mut [u8])
     }
 }
 
-pub fn backups(book: &[u8], volume: u16, out: &mut [u8], count: &mut u16) -> u16
-    ensures { BackupsTold book volume (lent out) (lent count) result }
+// Their rows, to the front of the output. It answers how many backups there are.
+pub fn backups(book: &[u8], volume: u16, out: &mut [u8]) -> Result<u16, Refusal>
+    ensures { BackupsGiven book volume (lent out) result }
 {
-    let refusal = enrolled_number(book, volume);
-    if refusal != 0 {
-        return refusal;
-    }
+    enrolled::check(book, volume)?;
     let n = count_backups(book, volume);
     if out.len() < (n as usize) * ROW_SIZE {
-        return refusals::SHORT_OUTPUT;
+        return Err(Refusal::ShortOutput);
     }
     put_rows(book, volume, out);
-    *count = n;
-    0
+    Ok(n)
 }

@@ -14,8 +14,7 @@ use Rattle.words.proofs.ChoiceLaws.{and_true, same_test}
 use Rattle.words.specs.Numbers.{num}
 use Rattle.words.specs.Outcome.{Outcome, refused, accepted, and_then}
 use Rattle.words.specs.Sections.{part}
-use Rattle.model.specs.Calls.{enrol, backup, collect, retire, read, audit}
-use Rattle.calls.specs.Asked.{Asked, listed, restore}
+use Rattle.calls.specs.Asked.{Asked}
 use Rattle.calls.specs.Coding.{data_size, call_size, unused_zero_at, call_of, is_call, call_at, before, calls_from}
 use Rattle.calls.specs.Reading.{rest_of, Good}
 
@@ -149,42 +148,8 @@ module _ (b : List ℕ) where
             (λ t. le-leb (data_size b at) (length b - at - 14) (omega (arith, leb-true (at + call_size b at) (length b) t)))
             (λ t. le-leb (at + call_size b at) (length b) (omega (arith, leb-true (data_size b at) (length b - at - 14) t))))
 
-  -- which call it is, by its kind
-
-  module _ (at : ℕ) where
-    abbrev kind : ℕ
-    kind = get_or b at 0
-
-    pub call-enrol : kind ≡ 0 → call_at b at ≡ listed (enrol (num b (at + 2)) (num b (at + 4)))
-    unfolding call_at call_of
-    call-enrol e = rw (eq-eqb kind 0 e)
-
-    pub call-backup : (kind ≡ 0 → ⊥) → kind ≡ 1
-        → call_at b at ≡ listed (backup (num b (at + 2)) (num b (at + 4)) (part b (at + 14) (data_size b at)))
-    unfolding call_at call_of
-    call-backup m e = rw (ne_eqb kind 0 m, eq-eqb kind 1 e)
-
-    pub call-collect : (kind ≡ 0 → ⊥) → (kind ≡ 1 → ⊥) → kind ≡ 2 → call_at b at ≡ listed (collect (num b (at + 2)))
-    unfolding call_at call_of
-    call-collect m n e = rw (ne_eqb kind 0 m, ne_eqb kind 1 n, eq-eqb kind 2 e)
-
-    pub call-read : (kind ≡ 0 → ⊥) → (kind ≡ 1 → ⊥) → (kind ≡ 2 → ⊥) → kind ≡ 3
-        → call_at b at ≡ listed (read (num b (at + 2)) (num b (at + 4)) (num b (at + 6)))
-    unfolding call_at call_of
-    call-read m n o e = rw (ne_eqb kind 0 m, ne_eqb kind 1 n, ne_eqb kind 2 o, eq-eqb kind 3 e)
-
-    pub call-restore : (kind ≡ 0 → ⊥) → (kind ≡ 1 → ⊥) → (kind ≡ 2 → ⊥) → (kind ≡ 3 → ⊥) → kind ≡ 5
-        → call_at b at ≡ restore (num b (at + 2)) (num b (at + 4)) (num b (at + 6)) (num b (at + 8))
-    unfolding call_at call_of
-    call-restore m n o p e = rw (ne_eqb kind 0 m, ne_eqb kind 1 n, ne_eqb kind 2 o, ne_eqb kind 3 p, eq-eqb kind 5 e)
-
-    pub call-retire : (kind ≡ 0 → ⊥) → (kind ≡ 1 → ⊥) → (kind ≡ 2 → ⊥) → (kind ≡ 3 → ⊥) → (kind ≡ 5 → ⊥) → kind ≡ 6
-        → call_at b at ≡ listed (retire (num b (at + 2)) (num b (at + 4)))
-    unfolding call_at call_of
-    call-retire m n o p q e = rw (ne_eqb kind 0 m, ne_eqb kind 1 n, ne_eqb kind 2 o, ne_eqb kind 3 p, ne_eqb kind 5 q, eq-eqb kind 6 e)
-
-    pub call-audit : (kind ≡ 0 → ⊥) → (kind ≡ 1 → ⊥) → (kind ≡ 2 → ⊥) → (kind ≡ 3 → ⊥) → (kind ≡ 5 → ⊥) → (kind ≡ 6 → ⊥)
-        → call_at b at ≡ listed audit
-    unfolding call_at call_of
-    call-audit m n o p q r =
-        rw (ne_eqb kind 0 m, ne_eqb kind 1 n, ne_eqb kind 2 o, ne_eqb kind 3 p, ne_eqb kind 5 q, ne_eqb kind 6 r)
+  -- which call it is, by its kind and its first three arguments
+  pub call-by : (at : ℕ) {k x y z : ℕ} → k ≡ get_or b at 0 → x ≡ num b (at + 2) → y ≡ num b (at + 4) → z ≡ num b (at + 6)
+      → call_at b at ≡ call_of k x y z (num b (at + 8)) (part b (at + 14) (data_size b at))
+  unfolding call_at
+  call-by at e f g h = rw (e, f, g, h)

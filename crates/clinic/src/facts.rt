@@ -1,92 +1,72 @@
 // What the book has: blocks, counts, expiries, the cursor, and whether it is sound.
-ghost use Rattle.std.specs.Prelude.{◌≡◌, IfOk, false};
+ghost use Rattle.std.specs.Prelude.{◌≡◌, true};
 ghost use Rattle.book.specs.Layout.{Holds};
 
-use engine::audit::aspen_audit;
+use crate::calls::{CELLS, Letters};
 use entries::entry;
 use fields::{header, map};
-use samples::{UNCHANGED, number, word};
+use samples::UNCHANGED;
 use std::io;
 use words::limits::LAST_VOLUME;
 use words::{LBN, PBN, UNMAPPED};
 
 // The readers are asked only of a book in form.
-fn out_of_form(rt: &impl Print, book: &[u8]) -> io::Result<bool>
-    ensures { IfOk result (λ out. out ≡ false → Holds book.now) }
+fn in_form(book: &[u8]) -> bool
+    ensures { result ≡ true → Holds book.now }
 {
-    if form::form_number(book) == 0 {
-        return Ok(false);
-    }
-    word(rt, b"; out of form")?;
-    Ok(true)
+    form::check(book).is_ok()
 }
 
-// The block of an LBN that the list changes.
-fn cell(rt: &impl Print, book: &[u8], volume: u16, lbn: u16, tag: u8) -> io::Result<()> {
-    if tag == UNCHANGED {
-        return Ok(());
+fn cell(rt: &impl Print, lbn: u16, block: PBN) -> io::Result<()> {
+    if block.0 == UNMAPPED {
+        return print!(rt; "; LBN {lbn} unmapped");
     }
-    if out_of_form(rt, book)? {
-        return Ok(());
-    }
+    print!(rt; "; LBN {lbn} in block {}", block.0)
+}
+
+// The blocks of the LBNs that the list changes.
+pub fn cells(rt: &impl Print, book: &[u8], volume: u16, tags: &Letters) -> io::Result<()> {
     if volume > LAST_VOLUME {
         return Ok(());
     }
-    if lbn >= header::cells(book) {
+    if !in_form(book) {
         return Ok(());
     }
-    let p = map::cell(book, volume, LBN(lbn));
-    number(rt, b"; LBN ", lbn)?;
-    if p.0 == UNMAPPED {
-        return word(rt, b" unmapped");
+    for lbn in 0..header::cells(book).min(CELLS) {
+        if tags[usize::from(lbn)] != UNCHANGED {
+            cell(rt, lbn, map::cell(book, volume, LBN(lbn)))?;
+        }
     }
-    number(rt, b" in block ", p.0)
+    Ok(())
 }
 
-pub fn cells(rt: &impl Print, book: &[u8], volume: u16, tags: &[u8; 4]) -> io::Result<()> {
-    cell(rt, book, volume, 0, tags[0])?;
-    cell(rt, book, volume, 1, tags[1])?;
-    cell(rt, book, volume, 2, tags[2])?;
-    cell(rt, book, volume, 3, tags[3])
-}
-
-fn block(rt: &impl Print, book: &[u8], p: u16) -> io::Result<()> {
-    if out_of_form(rt, book)? {
+// Block 0 is the one that the cases follow.
+fn block(rt: &impl Print, book: &[u8]) -> io::Result<()>
+    requires { Holds book.now }
+{
+    if header::blocks(book) == 0 {
         return Ok(());
     }
-    if p >= header::blocks(book) {
-        return Ok(());
-    }
-    let count = entry::count(book, PBN(p));
-    let expiry = entry::expiry(book, PBN(p));
-    number(rt, b"; block ", p)?;
-    number(rt, b" has count ", count)?;
-    number(rt, b", expiry ", expiry)
-}
-
-fn cursor(rt: &impl Print, book: &[u8]) -> io::Result<()> {
-    if out_of_form(rt, book)? {
-        return Ok(());
-    }
-    number(rt, b"; cursor ", header::cursor(book))
+    let count = entry::count(book, PBN(0));
+    let expiry = entry::expiry(book, PBN(0));
+    print!(rt; "; block 0 has count {count}, expiry {expiry}")
 }
 
 fn audit(rt: &impl Print, book: &[u8]) -> io::Result<()> {
-    let mut sound = 0u16;
-    let refusal = aspen_audit(book, &mut sound);
-    if refusal != 0 {
-        number(rt, b"; audit refused ", refusal)
-    } else if sound == 1 {
-        word(rt, b"; audit yes")
-    } else {
-        word(rt, b"; audit no")
+    match engine::audit(book) {
+        Ok(true) => println!(rt; "; audit yes"),
+        Ok(false) => println!(rt; "; audit no"),
+        Err(refusal) => println!(rt; "; audit refused {}", u16::from(refusal)),
     }
 }
 
-// The end of a line. Block 0 is the one that the cases follow.
+// The end of a line.
 pub fn state(rt: &impl Print, book: &[u8]) -> io::Result<()> {
-    block(rt, book, 0)?;
-    cursor(rt, book)?;
-    audit(rt, book)?;
-    word(rt, b"\n")
+    if in_form(book) {
+        block(rt, book)?;
+        print!(rt; "; cursor {}", header::cursor(book))?;
+    } else {
+        print!(rt; "; out of form")?;
+    }
+    audit(rt, book)
 }

@@ -7,46 +7,38 @@
 mod calls;
 mod facts;
 
-use calls::{BOOK_SIZE, POOL_SIZE, backup, collect, forged, read};
-use samples::word;
+use calls::Clinic;
+use samples::Turn;
 use std::io;
 
-fn a_to_d(
-    rt: &impl Print,
-    book: &mut [u8; BOOK_SIZE],
-    pool: &mut [u8; POOL_SIZE],
-) -> io::Result<()> {
-    backup(rt, b'a', book, pool, 0, 5, b"AB--")?;
-    backup(rt, b'b', book, pool, 1, 6, b"---A")?;
-    backup(rt, b'c', book, pool, 0, 8, b"C---")?;
-    backup(rt, b'd', book, pool, 1, 9, b"---B")?;
-    samples::page(rt, book)
+fn a_to_d(rt: &impl Print, clinic: &mut Clinic) -> io::Result<()> {
+    clinic.backup(rt, 'a', Turn { volume: 0, day: 5 }, b"AB--")?;
+    clinic.backup(rt, 'b', Turn { volume: 1, day: 6 }, b"---A")?;
+    clinic.backup(rt, 'c', Turn { volume: 0, day: 8 }, b"C---")?;
+    clinic.backup(rt, 'd', Turn { volume: 1, day: 9 }, b"---B")?;
+    clinic.page(rt)
 }
 
-fn e_to_g(rt: &impl Print, book: &mut [u8; BOOK_SIZE], pool: &[u8; POOL_SIZE]) -> io::Result<()> {
-    collect(rt, b'e', book, 18)?;
-    read(rt, book, pool, 0, 1, 0, b'A')?;
-    word(rt, b"f.")?;
-    read(rt, book, pool, 1, 1, 3, b'A')?;
-    collect(rt, b'g', book, 19)?;
-    read(rt, book, pool, 0, 1, 0, b'A')
+fn e_to_g(rt: &impl Print, clinic: &mut Clinic) -> io::Result<()> {
+    clinic.collect(rt, 'e', 18)?;
+    clinic.read(rt, 0, 1, 0, b'A')?;
+    print!(rt; "f.")?;
+    clinic.read(rt, 1, 1, 3, b'A')?;
+    clinic.collect(rt, 'g', 19)?;
+    clinic.read(rt, 0, 1, 0, b'A')
 }
 
-fn h_to_j(
-    rt: &impl Print,
-    book: &mut [u8; BOOK_SIZE],
-    pool: &mut [u8; POOL_SIZE],
-) -> io::Result<()> {
-    backup(rt, b'h', book, pool, 0, 20, b"--DE")?;
-    backup(rt, b'i', book, pool, 1, 21, b"F---")?;
-    forged(rt, b'j', book, pool, 1, 21, b"B---", b"F---")
+fn h_to_j(rt: &impl Print, clinic: &mut Clinic) -> io::Result<()> {
+    let last = Turn { volume: 1, day: 21 };
+    clinic.backup(rt, 'h', Turn { volume: 0, day: 20 }, b"--DE")?;
+    clinic.backup(rt, 'i', last, b"F---")?;
+    clinic.forged(rt, 'j', last, b"B---", b"F---")
 }
 
 fn main(rt: HostRuntime) -> io::Result<()> {
-    let mut book = [0u8; BOOK_SIZE];
-    let mut pool = [0u8; POOL_SIZE];
-    calls::start(&rt, &mut book)?;
-    a_to_d(&rt, &mut book, &mut pool)?;
-    e_to_g(&rt, &mut book, &pool)?;
-    h_to_j(&rt, &mut book, &mut pool)
+    let mut clinic = Clinic::new();
+    clinic.start(&rt)?;
+    a_to_d(&rt, &mut clinic)?;
+    e_to_g(&rt, &mut clinic)?;
+    h_to_j(&rt, &mut clinic)
 }

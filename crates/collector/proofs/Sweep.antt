@@ -56,9 +56,7 @@ module _ (b : List ℕ) (t p : ℕ) where
 
 -- the pass from book b₀ on day t has come to block p, and has freed so many
 pub record Sweeping (b₀ : List ℕ) (t : ℕ) (b : List ℕ) (freed p : ℕ) : Type 0 where
-  pub inside : p ≤ (book_of b₀).sizes.n
   pub few : freed ≤ p
-  pub len : length b ≡ length b₀
   pub book : Is b (swept_to (book_of b₀) t p)
   pub count : freed ≡ count_of (is_over t) (take p (book_of b₀).entries)
 
@@ -69,9 +67,7 @@ module _ {b₀ : List ℕ} (t : ℕ) (h : Holds b₀) where
   pub sweeping_start : Sweeping b₀ t b₀ 0 0
   sweeping_start =
       record {
-        inside = omega arith;
         few = omega arith;
-        len = refl;
         book = record
             { holds = h; book = swept_none (book_of b₀) t };
         count = refl;
@@ -81,16 +77,13 @@ module _ {b₀ : List ℕ} (t : ℕ) (h : Holds b₀) where
     pub sweeping_more : {b' : List ℕ} {freed' : ℕ} {r : Bool} → p < (book_of b₀).sizes.n
         → r ≡ is_over t (entry_at (book_of b).entries p)
         → Is b' (with_entry (swept_entry t) p (book_of b))
-        → length b' ≡ length b
         → freed' ≡ freed + bit r
         → Sweeping b₀ t b' freed' (p + 1)
-    sweeping_more {r = r} l o i e f =
+    sweeping_more {r = r} l o i f =
         let k : p < length (book_of b₀).entries = omega (arith, h.sized.entries) in
         let same : r ≡ is_over t (entry_at (book_of b₀).entries p) = o ∙ rw (s.book.book, swept_at (book_of b₀) t p) in
         record {
-          inside = omega arith;
           few = omega (arith, s.few, bit_le r);
-          len = e ∙ s.len;
           book = rw (s.book.book, swept-more (book_of b₀) t p k) at i;
           count = f ∙ rw (same, s.count, add-one p) (sym (count-more (is_over t) (book_of b₀).entries p free_entry k));
         }

@@ -5,14 +5,14 @@ ghost use Rattle.book.specs.Book.{entry_at};
 ghost use Rattle.book.specs.Layout.{book_of, told, Holds, Is};
 ghost use Rattle.book.specs.Next.{with_entry, with_entries};
 ghost use Rattle.model.specs.Collect.{is_over, swept_entry};
-ghost use Rattle.collector.specs.Promises.{Swept};
+ghost use Rattle.collector.specs.Promises.{Collects};
 ghost use Rattle.words.specs.Lent.{lent};
 
 use entries::entry;
 use fields::header;
-use form::form_number;
+use words::PBN;
 use words::limits::MAX_DAY;
-use words::{PBN, refusals};
+use words::refusals::Refusal;
 
 // The block is held, no map names it, and its last day is past.
 fn is_over(book: &[u8], p: PBN, day: u16) -> bool
@@ -46,33 +46,27 @@ fn sweep(book: &mut [u8], day: u16) -> u16
 {
     let n = header::blocks(book);
     let mut freed: u16 = 0;
-    let mut p: u16 = 0;
-    while p < n {
+    for p in 0..n {
         if free_over(book, PBN(p), day) {
             freed += 1;
         }
-        p += 1;
     }
     freed
 }
 
-// The call: freed is how many blocks became free.
-pub fn collect(book: &mut [u8], day: u16, freed: &mut u16) -> u16
-    ensures { Swept (lent book) day (lent freed) result }
+// The call: it answers how many blocks became free.
+pub fn collect(book: &mut [u8], day: u16) -> Result<u16, Refusal>
+    ensures { Collects (lent book) day result }
 {
-    let in_form = form_number(book);
-    if in_form != 0 {
-        return in_form;
-    }
+    form::check(book)?;
     if day > MAX_DAY {
-        return refusals::BAD_DAY;
+        return Err(Refusal::BadDay);
     }
     let today = header::day(book);
     if day < today {
-        return refusals::BAD_DAY;
+        return Err(Refusal::BadDay);
     }
-    let count = sweep(book, day);
+    let freed = sweep(book, day);
     header::set_day(book, day);
-    *freed = count;
-    0
+    Ok(freed)
 }

@@ -10,14 +10,15 @@ ghost use Rattle.book.specs.Next.{sizes_in};
 ghost use Rattle.model.specs.Convert.{is_narrow};
 ghost use Rattle.convert.specs.Promises.{WrittenInTwo, WrittenInOne, WrittenInThree};
 ghost use Rattle.words.specs.Lent.{lent};
+ghost use Rattle.words.specs.Refusals.{refusal_number};
 
 use entries::entry;
-use fields::header::{J_OFFSET, L_OFFSET, N_OFFSET, S_OFFSET, blocks};
-use fields::sizes::size_as;
-use form::form_as;
+use fields::header::blocks;
+use fields::sizes::Sizes;
 use refresh::refresh;
 use rewriter::rewrite;
-use words::{PBN, refusals, u16_at};
+use words::PBN;
+use words::refusals::Refusal;
 
 // The largest count of layout 1.
 const NARROW_COUNT: u16 = 255;
@@ -27,11 +28,7 @@ fn size_in(book: &[u8], layout: u16) -> usize
     requires { header_size ≤ length book.now }
     ensures { result ≡ book_size (sizes_in layout (sizes_of book.now)) }
 {
-    let n = u16_at(book, N_OFFSET);
-    let l = u16_at(book, L_OFFSET);
-    let s = u16_at(book, S_OFFSET);
-    let j = u16_at(book, J_OFFSET);
-    size_as(layout, n, l, s, j)
+    Sizes::of(book).size_as(layout)
 }
 
 // Whether layout 1 has room for each count.
@@ -41,58 +38,47 @@ fn all_narrow(book: &[u8]) -> bool
 {
     let n = blocks(book);
     let mut good = true;
-    let mut p = 0;
-    while p < n {
+    for p in 0..n {
         good = good & (entry::count(book, PBN(p)) <= NARROW_COUNT);
-        p += 1;
     }
     good
 }
 
-pub fn convert_1_2(book: &[u8], out: &mut [u8]) -> u16
-    ensures { WrittenInTwo book (lent out) result }
+pub fn convert_1_2(book: &[u8], out: &mut [u8]) -> Result<(), Refusal>
+    ensures { WrittenInTwo book (lent out) (refusal_number result) }
 {
-    let refusal = form_as(book, 1);
-    if refusal != 0 {
-        return refusal;
-    }
+    form::check_as(book, 1)?;
     if out.len() < size_in(book, 2) {
-        return refusals::SHORT_SPARE;
+        return Err(Refusal::ShortSpare);
     }
     rewrite(book, 1, 2, out);
-    0
+    Ok(())
 }
 
-pub fn convert_2_1(book: &[u8], out: &mut [u8]) -> u16
-    ensures { WrittenInOne book (lent out) result }
+pub fn convert_2_1(book: &[u8], out: &mut [u8]) -> Result<(), Refusal>
+    ensures { WrittenInOne book (lent out) (refusal_number result) }
 {
-    let refusal = form_as(book, 2);
-    if refusal != 0 {
-        return refusal;
-    }
+    form::check_as(book, 2)?;
     if out.len() < size_in(book, 1) {
-        return refusals::SHORT_SPARE;
+        return Err(Refusal::ShortSpare);
     }
     if !all_narrow(book) {
-        return refusals::COUNT_WIDE;
+        return Err(Refusal::CountWide);
     }
     rewrite(book, 2, 1, out);
-    0
+    Ok(())
 }
 
 // The book is written first, and its expiries are worked out there. What follows it in the output stays.
-pub fn convert_2_3(book: &[u8], out: &mut [u8]) -> u16
-    ensures { WrittenInThree book (lent out) result }
+pub fn convert_2_3(book: &[u8], out: &mut [u8]) -> Result<(), Refusal>
+    ensures { WrittenInThree book (lent out) (refusal_number result) }
 {
-    let in_form = form_as(book, 2);
-    if in_form != 0 {
-        return in_form;
-    }
+    form::check_as(book, 2)?;
     let len = size_in(book, 3);
     if out.len() < len {
-        return refusals::SHORT_SPARE;
+        return Err(Refusal::ShortSpare);
     }
     rewrite(book, 2, 3, out);
     refresh(&mut out[..len]);
-    0
+    Ok(())
 }

@@ -1,6 +1,6 @@
 -- Laws of specs/Counts.antt.
 -- The counts of the entries as the code has them, one entry after the other.
-use Prim.Native.Nat.{ℕ, ◌+◌, ◌≤◌, ◌<◌}
+use Prim.Native.Nat.{ℕ, ◌+◌, ◌<◌}
 use mathlib.Core.Path.{◌≡◌, refl, sym, ap, ◌∙◌}
 use mathlib.Core.Bool.{Bool, true, false, not, ◌&&◌}
 use mathlib.Core.List.{List, map}
@@ -8,7 +8,6 @@ use native.Mathlib.Numerals.{add-one}
 use native.Mathlib.Omega.{arith}
 use lib.Dec.{eqb}
 use lib.ListN.{length, take}
-use lib.Seq.{take_all}
 use borrow.Author.Tests.{eq-eqb, ne_eqb}
 use Rattle.words.specs.Lists.{sum}
 use Rattle.words.proofs.Prefixes.{bit-one, count-take}
@@ -53,9 +52,6 @@ few-more t h c n b f =
       references = omega (arith, f.references);
     }
 
-pub few-less : {t : Counts} (m n : ℕ) → m ≤ n → Few m t → Few n t
-few-less m n h f = record { held = omega arith; free = omega arith; waiting = omega arith; references = omega arith }
-
 -- ---- the entries before p, and the one at p
 
 counts-more : (es : List Entry) (p : ℕ) → p < length es
@@ -87,6 +83,3 @@ pub passing_more : {es : List Entry} {p : ℕ} {t t' : Counts} {h : Bool} {c : �
     → h ≡ (entry_at es p).held → c ≡ (entry_at es p).count → t' ≡ counted t h c → Passing es p t → Passing es (p + 1) t'
 passing_more {es} {p} {t} {t'} {h} {c} b s u v e l =
     record { counts = e ∙ rw (l.counts, u, v) (sym (counts-more es p b)); few = rw e (few-more t h c p s l.few) }
-
-pub passing_all : {es : List Entry} {p : ℕ} {t : Counts} → length es ≤ p → Passing es p t → t ≡ counts_of es
-passing_all {es} {p} h l = l.counts ∙ ap counts_of (take_all p es h)

@@ -4,7 +4,20 @@ use Rattle.words.specs.Choice.{when◌then◌else◌}
 use Rattle.words.specs.Lent.{Lent}
 use Rattle.book.specs.Layout.{told}
 use Rattle.book.specs.Form.{form_number}
+use Rattle.book.specs.Book.{Book}
+use Rattle.counter.specs.declared.count.Counted.{Counted}
 use Rattle.counter.specs.Sums
+
+-- the four numbers of a book
+abbrev pub counted_up : Book → Counted
+counted_up x = record {
+  blocks = Sums.blocks x;
+  held = Sums.held x.entries;
+  waiting = Sums.waiting x.entries;
+  references = Sums.references x.entries;
+}
+
+-- ---- the same for C
 
 -- an answer is written only where nothing refuses
 abbrev pub answered : List ℕ → ℕ → ℕ → ℕ

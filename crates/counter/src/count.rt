@@ -1,29 +1,34 @@
 // What a book's entries come to, for callers that print their own page.
-ghost use Rattle.counter.specs.Counted.{CountedUp};
-ghost use Rattle.words.specs.Lent.{lent};
+ghost use Rattle.std.specs.Prelude.{◌≡◌};
+ghost use Rattle.words.specs.Outcome.{accepted, unless};
+ghost use Rattle.words.specs.Refusals.{outcome_by};
+ghost use Rattle.book.specs.Form.{form_number};
+ghost use Rattle.book.specs.Layout.{told};
+ghost use Rattle.counter.specs.Counted.{counted_up};
 
 use super::counts::count_entries;
-use form::form_number;
+use fields::header;
+use words::refusals::Refusal;
 
-// The number that refuses the book, or 0; then the four answers are written. Unlike the program tally, it takes books
-// of every length.
-pub fn count(
-    book: &[u8],
-    blocks: &mut u16,
-    held: &mut u16,
-    waiting: &mut u16,
-    references: &mut u32,
-) -> u16
-    ensures { CountedUp book (lent blocks) (lent held) (lent waiting) (lent references) result }
+// How many blocks a book has, how many are held, and held with count 0, and the sum of the counts.
+#[derive(Clone, Copy)]
+pub struct Counted {
+    pub blocks: u16,
+    pub held: u16,
+    pub waiting: u16,
+    pub references: u32,
+}
+
+// Unlike the program tally, it takes books of every length.
+pub fn count(book: &[u8]) -> Result<Counted, Refusal>
+    ensures { outcome_by (λ c. c) result ≡ unless (form_number book.now) (accepted (counted_up (told book.entry))) }
 {
-    let refusal = form_number(book);
-    if refusal != 0 {
-        return refusal;
-    }
+    form::check(book)?;
     let t = count_entries(book);
-    *blocks = fields::header::blocks(book);
-    *held = t.held as u16;
-    *waiting = t.waiting as u16;
-    *references = t.references;
-    0
+    Ok(Counted {
+        blocks: header::blocks(book),
+        held: t.held as u16,
+        waiting: t.waiting as u16,
+        references: t.references,
+    })
 }

@@ -57,10 +57,8 @@ pub fn count_entries(book: &[u8]) -> Counts
         waiting: 0,
         references: 0,
     };
-    let mut p = 0;
-    while p < n {
+    for p in 0..n {
         t = count_entry(t, entry::is_held(book, PBN(p)), entry::count(book, PBN(p)));
-        p += 1;
     }
     t
 }

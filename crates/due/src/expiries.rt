@@ -8,7 +8,6 @@ ghost use Rattle.model.specs.Journal.{journal};
 ghost use Rattle.model.specs.JournalAt.{backup_at};
 ghost use Rattle.due.specs.Expiries.{Raised, until_one, until_each};
 ghost use Rattle.due.specs.Lasts.{LastsAre, due_in};
-ghost use Rattle.due.specs.Pool.{OfPool};
 
 use super::lasts::{Lasts, due_day};
 use fields::header::used_slots;
@@ -20,7 +19,6 @@ use words::limits::{MAX_BLOCKS, Table};
 
 // The block's expiry becomes the larger of itself and `until`; unmapped has none.
 pub fn raise(expiries: &mut Table, p: PBN, until: u16)
-    requires { OfPool expiries.old }
     ensures { Raised expiries.old (until_one until p.0) expiries.new }
 {
     let at = p.0 as usize;
@@ -36,22 +34,20 @@ pub fn raise(expiries: &mut Table, p: PBN, until: u16)
 // The befores of the records of one backup, from one up to another.
 fn raise_befores(book: &[u8], expiries: &mut Table, until: u16, from: u16, end: u16)
     requires holds { Holds book.now }
-    requires of_pool { OfPool expiries.old × (from ≤ end) × (end ≤ length (told book).records) }
+    requires from_le_end { (from ≤ end) × (end ≤ length (told book).records) }
     ensures { Raised expiries.old (until_each until (slice from end (told book.entry).records))
         expiries.new }
 {
-    let mut q = from;
-    while q < end {
+    for q in from..end {
         let change = record_at(book, q);
         raise(expiries, change.before, until);
-        q += 1;
     }
 }
 
 // The befores of the backup of slot q, whose day is then its volume's last one.
 fn gather_slot(book: &[u8], expiries: &mut Table, lasts: &mut Lasts, q: u16)
     requires holds { Holds book.now × BookParts (told book) }
-    requires q_in_bounds { (q < length (told book).slots) × OfPool expiries.old × LastsAre (told book) q lasts.old }
+    requires q_in_bounds { (q < length (told book).slots) × LastsAre (told book) q lasts.old }
     ensures raised { Raised expiries.old
         (until_each (due_in (told book.entry) (backup_at (told book.entry) q))
         (backup_at (told book.entry) q).records) expiries.new }
@@ -65,16 +61,13 @@ fn gather_slot(book: &[u8], expiries: &mut Table, lasts: &mut Lasts, q: u16)
 
 // The befores of the whole journal. The book has counts of two bytes, and may be of an older layout.
 pub fn gather(book: &[u8], expiries: &mut Table)
-    requires holds { Holds book.now × BookParts (told book) }
-    requires of_pool { OfPool expiries.old }
+    requires { Holds book.now × BookParts (told book) }
     ensures { Raised expiries.old
         (λ p. until_in (told book.entry) p (journal (told book.entry))) expiries.new }
 {
     let mut lasts = [0u16; VOLUMES];
     let used = used_slots(book);
-    let mut q = 0;
-    while q < used {
+    for q in 0..used {
         gather_slot(book, expiries, &mut lasts, q);
-        q += 1;
     }
 }

@@ -2,9 +2,11 @@
 ghost use Rattle.auditor.specs.Promises.{Audited};
 ghost use Rattle.words.specs.Lent.{lent};
 
+use super::answer::told;
+
 #[unsafe(no_mangle)]
 pub extern "C" fn aspen_audit(book: &[u8], sound: &mut u16) -> u16
     ensures { Audited book (lent sound) result }
 {
-    engine::audit::aspen_audit(book, sound)
+    told(engine::audit(book).map(u16::from), sound)
 }

@@ -16,5 +16,13 @@ pub extern "C" fn aspen_backup(
 ) -> u16
     ensures { BackedUp (lent book) (lent pool) (lent spare) volume day list (lent number) (lent taken) (lent touched) result }
 {
-    engine::backup::aspen_backup(book, pool, spare, volume, day, list, number, taken, touched)
+    match engine::backup(book, pool, spare, volume, day, list) {
+        Ok(told) => {
+            *number = told.number;
+            *taken = told.taken;
+            *touched = told.touched;
+            0
+        }
+        Err(refusal) => u16::from(refusal),
+    }
 }

@@ -12,5 +12,14 @@ pub extern "C" fn aspen_count(
 ) -> u16
     ensures { CountedUp book (lent blocks) (lent held) (lent waiting) (lent references) result }
 {
-    engine::count::aspen_count(book, blocks, held, waiting, references)
+    match engine::count(book) {
+        Ok(told) => {
+            *blocks = told.blocks;
+            *held = told.held;
+            *waiting = told.waiting;
+            *references = told.references;
+            0
+        }
+        Err(refusal) => u16::from(refusal),
+    }
 }

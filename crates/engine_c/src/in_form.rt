@@ -2,9 +2,11 @@
 ghost use Rattle.std.specs.Prelude.{◌≡◌};
 ghost use Rattle.book.specs.Form.{form_number};
 
+use super::answer::number;
+
 #[unsafe(no_mangle)]
 pub extern "C" fn aspen_form(book: &[u8]) -> u16
     ensures { result ≡ form_number book.now }
 {
-    engine::in_form::aspen_form(book)
+    number(engine::check(book))
 }

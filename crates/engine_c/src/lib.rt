@@ -1,7 +1,9 @@
-// The calls of the box (document 01, "The calls") for C: each is the function of that name in `engine`, under its clauses.
+// The calls of the box (document 01, "The calls") for C: each is that of `engine`, with numbers for refusals and answers
+// where the caller wants them.
 
 #![tactic(auto)]
 
+mod answer;
 mod audit;
 mod backup;
 mod collect;

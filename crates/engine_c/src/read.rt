@@ -1,6 +1,9 @@
-// Read: a block of a backup. Rattle callers get the block itself, C callers its offset in the pool.
+// Read: a block of a backup, by its offset in the pool.
 ghost use Rattle.restorer.specs.Promises.{Located};
 ghost use Rattle.words.specs.Lent.{lent};
+
+use super::answer::told;
+use words::LBN;
 
 // The block of an accepted read is 512 bytes of the pool from `at` on.
 #[unsafe(no_mangle)]
@@ -14,5 +17,6 @@ pub extern "C" fn aspen_read(
 ) -> u16
     ensures { Located book pool volume number lbn (lent at) result }
 {
-    engine::read::aspen_read(book, pool, volume, number, lbn, at)
+    let answer = engine::offset(book, pool, volume, number, LBN(lbn));
+    told(answer.map(|from| from as u32), at)
 }

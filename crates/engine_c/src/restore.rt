@@ -2,6 +2,8 @@
 ghost use Rattle.recover.specs.Promises.{Restored};
 ghost use Rattle.words.specs.Lent.{lent};
 
+use super::answer;
+
 #[unsafe(no_mangle)]
 pub extern "C" fn aspen_restore(
     book: &[u8],
@@ -14,5 +16,5 @@ pub extern "C" fn aspen_restore(
 ) -> u16
     ensures { Restored book pool volume number first many (lent out) result }
 {
-    engine::restore::aspen_restore(book, pool, volume, number, first, many, out)
+    answer::number(engine::restore(book, pool, volume, number, first, many, out))
 }

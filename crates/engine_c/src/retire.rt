@@ -2,6 +2,8 @@
 ghost use Rattle.retirer.specs.Promises.{RetiredBy};
 ghost use Rattle.words.specs.Lent.{lent};
 
+use super::answer::told;
+
 #[unsafe(no_mangle)]
 pub extern "C" fn aspen_retire(
     book: &mut [u8],
@@ -12,5 +14,5 @@ pub extern "C" fn aspen_retire(
 ) -> u16
     ensures { RetiredBy (lent book) (lent spare) volume day (lent cells) result }
 {
-    engine::retire::aspen_retire(book, spare, volume, day, cells)
+    told(engine::retire(book, spare, volume, day), cells)
 }

@@ -12,14 +12,31 @@ pub extern "C" fn aspen_sizes(
 ) -> u16
     ensures { SizesTold book (lent blocks) (lent cells) (lent slots) (lent records) result }
 {
-    engine::sizes::aspen_sizes(book, blocks, cells, slots, records)
+    match engine::sizes(book) {
+        Ok(told) => {
+            *blocks = told.n;
+            *cells = told.l;
+            *slots = told.s;
+            *records = told.j;
+            0
+        }
+        Err(refusal) => u16::from(refusal),
+    }
 }
 
 #[unsafe(no_mangle)]
 pub extern "C" fn aspen_used(book: &[u8], slots: &mut u16, records: &mut u16, day: &mut u16) -> u16
     ensures { UsedTold book (lent slots) (lent records) (lent day) result }
 {
-    engine::sizes::aspen_used(book, slots, records, day)
+    match engine::used(book) {
+        Ok(told) => {
+            *slots = told.slots;
+            *records = told.records;
+            *day = told.day;
+            0
+        }
+        Err(refusal) => u16::from(refusal),
+    }
 }
 
 #[unsafe(no_mangle)]
@@ -32,5 +49,13 @@ pub extern "C" fn aspen_volume(
 ) -> u16
     ensures { VolumeTold book volume (lent retention) (lent backups) (lent retired) result }
 {
-    engine::sizes::aspen_volume(book, volume, retention, backups, retired)
+    match engine::volume(book, volume) {
+        Ok(told) => {
+            *retention = told.retention;
+            *backups = told.backups;
+            *retired = told.retired;
+            0
+        }
+        Err(refusal) => u16::from(refusal),
+    }
 }

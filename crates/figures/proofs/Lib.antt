@@ -1,3 +1,2 @@
 pub mod Passed
-pub mod HeaderExits
-pub mod VolumeExits
+pub mod Exits

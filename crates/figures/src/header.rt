@@ -1,41 +1,36 @@
 // The sizes of a book, and how much of it is used.
-ghost use Rattle.figures.specs.Promises.{SizesTold, UsedTold};
-ghost use Rattle.words.specs.Lent.{lent};
+ghost use Rattle.std.specs.Prelude.{◌≡◌};
+ghost use Rattle.words.specs.Refusals.{outcome_by};
+ghost use Rattle.model.specs.Views.{sizes_bytes, used_bytes};
+ghost use Rattle.figures.specs.Told.{sizes_told, used_told};
 
 use fields::header;
-use form::form_number;
-
-// Pool blocks, logical blocks of a volume, backup slots and journal slots.
-pub fn sizes(
-    book: &[u8],
-    blocks: &mut u16,
-    cells: &mut u16,
-    slots: &mut u16,
-    records: &mut u16,
-) -> u16
-    ensures { SizesTold book (lent blocks) (lent cells) (lent slots) (lent records) result }
-{
-    let refusal = form_number(book);
-    if refusal != 0 {
-        return refusal;
-    }
-    *blocks = header::blocks(book);
-    *cells = header::cells(book);
-    *slots = header::slots(book);
-    *records = header::journal(book);
-    0
-}
+use fields::sizes::Sizes;
+use words::refusals::Refusal;
 
 // Slots and records used, and the book's day.
-pub fn used(book: &[u8], slots: &mut u16, records: &mut u16, day: &mut u16) -> u16
-    ensures { UsedTold book (lent slots) (lent records) (lent day) result }
+#[derive(Clone, Copy)]
+pub struct Usage {
+    pub slots: u16,
+    pub records: u16,
+    pub day: u16,
+}
+
+pub fn sizes(book: &[u8]) -> Result<Sizes, Refusal>
+    ensures { outcome_by sizes_told result ≡ sizes_bytes book.now }
 {
-    let refusal = form_number(book);
-    if refusal != 0 {
-        return refusal;
-    }
-    *slots = header::used_slots(book);
-    *records = header::used_records(book);
-    *day = header::day(book);
-    0
+    form::check(book)?;
+    let sizes = Sizes::of(book);
+    Ok(sizes)
+}
+
+pub fn used(book: &[u8]) -> Result<Usage, Refusal>
+    ensures { outcome_by used_told result ≡ used_bytes book.now }
+{
+    form::check(book)?;
+    Ok(Usage {
+        slots: header::used_slots(book),
+        records: header::used_records(book),
+        day: header::day(book),
+    })
 }

@@ -1,9 +1,8 @@
 -- What a search of the pool answers, by the block that it finds.
-use Rattle.std.specs.Prelude.{ℕ}
-use Rattle.std.proofs.Math.Option.{Option, none, some}
-use Rattle.finder.specs.declared.finding.Found.{Found}
-use Rattle.finder.specs.declared.finding.Found.TheVariants.{At, Nothing}
+use Rattle.std.specs.Prelude.{ℕ, Option, Some, None}
+use Rattle.std.proofs.Math.Option.{Option as Found, none, some}
+use Rattle.words.specs.declared.PBN.{PBN}
 
-abbrev pub found_of : Option ℕ → Found
-found_of none = Nothing
-found_of (some p) = At (record { 0 = p })
+abbrev pub found_of : Found ℕ → Option PBN
+found_of none = None
+found_of (some p) = Some (record { 0 = p })

@@ -11,12 +11,10 @@ pub fn agreeing(a: &[u8], b: &[u8]) -> usize
     requires { (length a.now ≡ print_size) × (length b.now ≡ print_size) }
     ensures { result ≡ agreeing a.now b.now }
 {
-    let mut i = PRINT_SIZE;
-    while 0 < i {
-        if a[i - 1] != b[i - 1] {
-            return PRINT_SIZE - i;
+    for i in (0..PRINT_SIZE).rev() {
+        if a[i] != b[i] {
+            return PRINT_SIZE - 1 - i;
         }
-        i -= 1;
     }
     PRINT_SIZE
 }

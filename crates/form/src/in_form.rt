@@ -4,6 +4,7 @@ ghost use Rattle.book.specs.Layout.{header_size, entry_offset, slots_from, sizes
 ghost use Rattle.book.specs.Form.{layout_as, form_as, form_number};
 ghost use Rattle.book.specs.FormFacts.{Laid};
 ghost use Rattle.form.specs.Passes.{blocks_ok, slots_ok, journal_ok};
+ghost use Rattle.words.specs.Refusals.{refusal_number};
 ghost use Rattle.sections.specs.Checks.{head_ok, entries_ok, HeadIn};
 
 use fields::header::{
@@ -11,13 +12,14 @@ use fields::header::{
     NARROW_LAYOUT, S_OFFSET, U_OFFSET, ZERO_OFFSET,
 };
 use fields::offsets::{ENTRIES_FROM, REC_SIZE, SLOT_SIZE, VOLUMES};
-use fields::sizes::{entries_size, size_as, sizes_ok};
+use fields::sizes::{Sizes, entries_size};
 use sections::blocks::{entries_ok, maps_ok, narrow_entries_ok, retentions_ok};
 use sections::zeros::zeros;
 use slots::journal::used_slots_ok;
 use slots::records::used_records_ok;
 use words::limits::MAX_DAY;
-use words::{refusals, u16_at};
+use words::refusals::Refusal;
+use words::u16_at;
 
 fn layout_ok(b: &[u8], layout: u16) -> bool
     ensures { result ≡ layout_as layout b.now }
@@ -25,11 +27,8 @@ fn layout_ok(b: &[u8], layout: u16) -> bool
     if b.len() < HEADER_SIZE {
         return false;
     }
-    let n = u16_at(b, N_OFFSET);
-    let l = u16_at(b, L_OFFSET);
-    let s = u16_at(b, S_OFFSET);
-    let j = u16_at(b, J_OFFSET);
-    (u16_at(b, 0) == layout) & sizes_ok(n, l, s, j) & (b.len() == size_as(layout, n, l, s, j))
+    let sizes = Sizes::of(b);
+    (u16_at(b, 0) == layout) & sizes.in_range() & (b.len() == sizes.size_as(layout))
 }
 
 // What the header holds beside the layout number and the sizes.
@@ -108,32 +107,32 @@ fn journal_ok(b: &[u8], layout: u16) -> bool
     ) & zeros(b, from + used * REC_SIZE, b.len())
 }
 
-// 0 for a book of this layout in form; 1 where its length, layout number or sizes break the layout, 2 where it is
-// otherwise out of form.
-pub fn form_as(book: &[u8], layout: u16) -> u16
-    ensures { result ≡ form_as layout book.now }
+// Whether it is a book of this layout in form: 1 where its length, layout number or sizes break the layout, 2 where it
+// is otherwise out of form.
+pub fn check_as(book: &[u8], layout: u16) -> Result<(), Refusal>
+    ensures { refusal_number result ≡ form_as layout book.now }
 {
     if !layout_ok(book, layout) {
-        return refusals::BAD_LAYOUT;
+        return Err(Refusal::BadLayout);
     }
     if !head_ok(book) {
-        return refusals::BAD_FORM;
+        return Err(Refusal::BadForm);
     }
     if !blocks_ok(book, layout) {
-        return refusals::BAD_FORM;
+        return Err(Refusal::BadForm);
     }
     if !slots_ok(book, layout) {
-        return refusals::BAD_FORM;
+        return Err(Refusal::BadForm);
     }
     if !journal_ok(book, layout) {
-        return refusals::BAD_FORM;
+        return Err(Refusal::BadForm);
     }
-    0
+    Ok(())
 }
 
 // As a book of today's layout.
-pub fn form_number(book: &[u8]) -> u16
-    ensures { result ≡ form_number book.now }
+pub fn check(book: &[u8]) -> Result<(), Refusal>
+    ensures { refusal_number result ≡ form_number book.now }
 {
-    form_as(book, LAYOUT)
+    check_as(book, LAYOUT)
 }

@@ -4,4 +4,4 @@
 
 mod in_form;
 
-pub use in_form::{form_as, form_number};
+pub use in_form::{check, check_as};

@@ -1,12 +1,16 @@
 // What refuses a list of calls, before anything is played.
 ghost use Rattle.std.specs.Prelude.{◌≡◌, ◌≤◌};
+ghost use Rattle.words.specs.Refusals.{refusal_number};
 ghost use Rattle.model.specs.OnBytes.{number_of};
 ghost use Rattle.calls.specs.Answers.{longest_of};
 ghost use Rattle.calls.specs.Bound.{most_answer, added_to};
 ghost use Rattle.calls.specs.Promises.{room_of, playable};
+ghost use Rattle.heads.specs.Kinds.{code};
 
-use super::head::{BACKUP, READ, RESTORE, call_end, is_call};
-use words::{BLOCK_SIZE, refusals, u16_at};
+use super::head::{call_end, is_call, kind_of};
+use super::kind::Kind;
+use words::refusals::Refusal;
+use words::{BLOCK_SIZE, u16_at};
 
 // The most bytes of answers: their length is told in 32 bits.
 const MOST_ROOM: usize = 4294967295;
@@ -21,19 +25,15 @@ pub fn room_of(n: usize) -> usize
 }
 
 // The bytes of the longest answer that a call of this kind can have, whose last argument is d.
-fn longest(kind: u8, d: u16) -> usize
-    ensures { (result ≡ longest_of kind d) × (result ≤ most_answer) }
+fn longest(kind: Kind, d: u16) -> usize
+    ensures { (result ≡ longest_of (code kind) d) × (result ≤ most_answer) }
 {
-    if kind == BACKUP {
-        return 7;
+    match kind {
+        Kind::Backup => 7,
+        Kind::Read => 1 + BLOCK_SIZE,
+        Kind::Restore => 3 + (d as usize) * BLOCK_SIZE,
+        Kind::Enrol | Kind::Collect | Kind::Audit | Kind::Retire => 3,
     }
-    if kind == READ {
-        return 1 + BLOCK_SIZE;
-    }
-    if kind == RESTORE {
-        return 3 + (d as usize) * BLOCK_SIZE;
-    }
-    3
 }
 
 // A sum that stops once it passes the room.
@@ -47,23 +47,23 @@ fn added(room: usize, most: usize, more: usize) -> usize
     most
 }
 
-// Number 19 where the bytes are no list of calls, 20 where the room is less than their longest answers, or 0.
-pub fn check(calls: &[u8], room: usize) -> u16
+// Number 19 where the bytes are no list of calls, 20 where the room is less than their longest answers.
+pub fn check(calls: &[u8], room: usize) -> Result<(), Refusal>
     requires { room ≤ 4294967295 }
-    ensures { result ≡ number_of (playable calls.now room) }
+    ensures { refusal_number result ≡ number_of (playable calls.now room) }
 {
     let mut at = 0;
     let mut most = 0;
     while at < calls.len() {
         if !is_call(calls, at) {
-            return refusals::BAD_INPUT;
+            return Err(Refusal::BadInput);
         }
         let d = u16_at(calls, at + 8);
-        most = added(room, most, longest(calls[at], d));
+        most = added(room, most, longest(kind_of(calls, at), d));
         at = call_end(calls, at);
     }
     if room < most {
-        return refusals::SHORT_OUTPUT;
+        return Err(Refusal::ShortOutput);
     }
-    0
+    Ok(())
 }

@@ -1,24 +1,12 @@
 // A call in bytes: its head, and whether it is one.
-ghost use Rattle.std.specs.Prelude.{◌≡◌, true, ◌+◌, ◌<◌, ◌≤◌, length};
+ghost use Rattle.std.specs.Prelude.{◌≡◌, true, ◌+◌, ◌<◌, ◌≤◌, length, get_or};
 ghost use Rattle.calls.specs.Coding.{head_size, data_size, call_size, unused_zero, unused_zero_at, is_call};
+ghost use Rattle.heads.specs.Kinds.{code};
 
+use super::kind::Kind;
 use words::u16_at;
 
 pub const HEAD_SIZE: usize = 14;
-
-pub const ENROL: u8 = 0;
-
-pub const BACKUP: u8 = 1;
-
-pub const COLLECT: u8 = 2;
-
-pub const READ: u8 = 3;
-
-pub const AUDIT: u8 = 4;
-
-pub const RESTORE: u8 = 5;
-
-pub const RETIRE: u8 = 6;
 
 // How many bytes of data the call at `at` has.
 pub fn data_size(calls: &[u8], at: usize) -> usize
@@ -29,31 +17,18 @@ pub fn data_size(calls: &[u8], at: usize) -> usize
 }
 
 // What the kind doesn't use is zero.
-fn unused_zero(kind: u8, a: u16, b: u16, c: u16, d: u16, size: usize) -> bool
-    ensures { result ≡ unused_zero kind a b c d size }
+fn unused_zero(kind: Kind, a: u16, b: u16, c: u16, d: u16, size: usize) -> bool
+    ensures { result ≡ unused_zero (code kind) a b c d size }
 {
-    if kind == ENROL {
-        return (c == 0) & (d == 0) & (size == 0);
+    match kind {
+        Kind::Enrol => (c == 0) & (d == 0) & (size == 0),
+        Kind::Backup => (c == 0) & (d == 0),
+        Kind::Collect => (b == 0) & (c == 0) & (d == 0) & (size == 0),
+        Kind::Read => (d == 0) & (size == 0),
+        Kind::Audit => (a == 0) & (b == 0) & (c == 0) & (d == 0) & (size == 0),
+        Kind::Restore => size == 0,
+        Kind::Retire => (c == 0) & (d == 0) & (size == 0),
     }
-    if kind == BACKUP {
-        return (c == 0) & (d == 0);
-    }
-    if kind == COLLECT {
-        return (b == 0) & (c == 0) & (d == 0) & (size == 0);
-    }
-    if kind == READ {
-        return (d == 0) & (size == 0);
-    }
-    if kind == AUDIT {
-        return (a == 0) & (b == 0) & (c == 0) & (d == 0) & (size == 0);
-    }
-    if kind == RESTORE {
-        return size == 0;
-    }
-    if kind == RETIRE {
-        return (c == 0) & (d == 0) & (size == 0);
-    }
-    false
 }
 
 fn unused_zero_at(calls: &[u8], at: usize) -> bool
@@ -65,7 +40,10 @@ fn unused_zero_at(calls: &[u8], at: usize) -> bool
     let c = u16_at(calls, at + 6);
     let d = u16_at(calls, at + 8);
     let size = data_size(calls, at);
-    unused_zero(calls[at], a, b, c, d, size)
+    match Kind::try_from(calls[at]) {
+        Ok(kind) => unused_zero(kind, a, b, c, d, size),
+        Err(_) => false,
+    }
 }
 
 // Whether a call stands at `at`, head and data.
@@ -83,6 +61,17 @@ pub fn is_call(calls: &[u8], at: usize) -> bool
         return false;
     }
     data_size(calls, at) <= calls.len() - at - HEAD_SIZE
+}
+
+// The kind of the call at `at`.
+pub fn kind_of(calls: &[u8], at: usize) -> Kind
+    requires { is_call calls.now at ≡ true }
+    ensures { code result ≡ get_or calls.now at 0 }
+{
+    let Ok(kind) = Kind::try_from(calls[at]) else {
+        unreachable!()
+    };
+    kind
 }
 
 // The offset past the call at `at`.

@@ -4,3 +4,4 @@
 
 pub mod checking;
 pub mod head;
+pub mod kind;

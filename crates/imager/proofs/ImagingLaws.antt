@@ -8,7 +8,7 @@ use mathlib.Core.Option.{some}
 use native.Mathlib.Omega.{arith}
 use lib.Dec.{eqb}
 use lib.ListN.{length, get_or, set, length-set}
-use lib.Seq.{slice, slice_empty, slice-cons, get_or-set_same, get_or-set_other}
+use lib.Seq.{slice, slice-cons, get_or-set_same, get_or-set_other}
 use borrow.Author.Count.{below_more}
 use borrow.Author.Tests.{eq-eqb, ne_eqb, eqb-true, eqb-false}
 use Rattle.words.proofs.Parts.{drop-take}
@@ -32,9 +32,6 @@ pub record Copied (x : Book) (v l : ℕ) (a : List ℕ) : Type 0 where
   pub cells : (k : ℕ) → k < l → get_or a k 0 ≡ cell_at x.maps v k
 
 module _ (x : Book) (v : ℕ) where
-  pub copied_none : {a : List ℕ} → length a ≡ image_size → Copied x v 0 a
-  copied_none n = record { long = n; cells = λ k h. absurd (omega arith) }
-
   pub copied_more : {a : List ℕ} {l p : ℕ} → Copied x v l a → l < image_size → p ≡ cell_at x.maps v l → Copied x v (l + 1) (set a l p)
   copied_more {a} {l} {p} c h e = record {
     long = length-set a l p ∙ c.long;
@@ -70,9 +67,6 @@ module _ (x : Book) where
       go l false e ih = get_or-set_other a' r.lbn l r.before 0 (λ q. eqb-false r.lbn l e (sym q)) ∙ ih
 
   module _ {a : List ℕ} (rs : List Rec) (end : ℕ) where
-    pub undone_start : Undone x (slice end end rs) a a
-    undone_start = rw (slice_empty end rs) undone_none
-
     -- the record before those that are taken back
     pub undone_more : {a' : List ℕ} {q : ℕ} {r : Record} → 0 < q → q ≤ end → end ≤ length rs → RecordIs (rec_at rs (q - 1)) r
         → r.lbn.0 < length a' → Undone x (slice q end rs) a a' → Undone x (slice (q - 1) end rs) a (set a' r.lbn.0 r.before.0)

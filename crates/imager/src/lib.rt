@@ -3,14 +3,14 @@
 
 #![tactic(auto)]
 
-ghost use Rattle.std.specs.Prelude.{◌≡◌, ◌<◌, ◌≤◌, length};
+ghost use Rattle.std.specs.Prelude.{◌<◌, ◌≤◌, length};
 ghost use Rattle.std.proofs.Math.Seq.{slice};
 ghost use Rattle.book.specs.Book.{volumes};
 ghost use Rattle.book.specs.Layout.{told, Holds};
 ghost use Rattle.book.specs.FormFacts.{FormFacts};
 ghost use Rattle.model.specs.Read.{records_of};
 ghost use Rattle.model.specs.JournalAt.{own_at};
-ghost use Rattle.imager.specs.Imaging.{image_size, Imaged, Undone};
+ghost use Rattle.imager.specs.Imaging.{Imaged, Undone};
 
 use fields::{header, map};
 use journal::{record, slot};
@@ -23,28 +23,24 @@ pub type Image = [u16; MAX_LBNS];
 // The volume's current map: nothing is taken back yet.
 fn current_map(book: &[u8], v: u16, image: &mut Image)
     requires holds { Holds book.now }
-    requires v_lt_volumes { (v < volumes) × (length image.old ≡ image_size) }
+    requires v_lt_volumes { v < volumes }
     ensures { Imaged (told book.entry) v (length (told book.entry).slots) image.new }
 {
     let cells = header::cells(book);
-    let mut l = 0;
-    while l < cells {
+    for l in 0..cells {
         let p = map::cell(book, v, LBN(l));
         image[l as usize] = p.0;
-        l += 1;
     }
 }
 
 // The records from `first` up to `end`, taken back from the last to the first.
 fn undo_records(book: &[u8], first: u16, end: u16, image: &mut Image)
     requires form_facts { FormFacts book.now }
-    requires first_le_end { (first ≤ end) × (end ≤ length (told book).records) × (length image.old ≡ image_size) }
+    requires first_le_end { (first ≤ end) × (end ≤ length (told book).records) }
     ensures { Undone (told book.entry) (slice first end (told book.entry).records) image.old
         image.new }
 {
-    let mut q = end;
-    while q > first {
-        q -= 1;
+    for q in (first..end).rev() {
         let record = record::record_at(book, q);
         image[record.lbn.0 as usize] = record.before.0;
     }
@@ -53,7 +49,7 @@ fn undo_records(book: &[u8], first: u16, end: u16, image: &mut Image)
 // The records of slot q, where it is the volume's.
 fn undo_slot(book: &[u8], v: u16, q: u16, image: &mut Image)
     requires form_facts { FormFacts book.now }
-    requires q_in_bounds { (q < length (told book).slots) × (length image.old ≡ image_size) }
+    requires q_in_bounds { q < length (told book).slots }
     ensures { Undone (told book.entry) (records_of (own_at (told book.entry) v q)) image.old
         image.new }
 {
@@ -69,13 +65,12 @@ fn undo_slot(book: &[u8], v: u16, q: u16, image: &mut Image)
 // What the volume had before its backups in the slots from `at` on.
 pub fn image_of(book: &[u8], v: u16, at: u16, image: &mut Image)
     requires form_facts { FormFacts book.now }
-    requires v_lt_volumes { (v < volumes) × (length image.old ≡ image_size) }
+    requires v_lt_volumes { v < volumes }
     ensures { Imaged (told book.entry) v at image.new }
 {
     current_map(book, v, image);
-    let mut q = header::used_slots(book);
-    while q > at {
-        q -= 1;
+    let used = header::used_slots(book);
+    for q in (at..used).rev() {
         undo_slot(book, v, q, image);
     }
 }

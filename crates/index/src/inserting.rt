@@ -7,35 +7,35 @@ ghost use Rattle.book.specs.Next.{held_as, with_entry};
 ghost use Rattle.finder.specs.Indexed.{Indexed};
 
 use entries::entry;
+use finder::Index;
 use finder::bucket::bucket_of;
 use words::PBN;
-use words::limits::Table;
 
 // A free block becomes held with this fingerprint; its count and expiry stay. It goes after the last block of its
 // bucket below it, so that a lookup still finds the lowest.
-pub fn hold(book: &mut [u8], heads: &mut Table, nexts: &mut Table, p: PBN, print: &[u8])
+pub fn hold(book: &mut [u8], index: &mut Index, p: PBN, print: &[u8])
     requires holds { Holds book.old }
     requires p_bound { (p.0 < (book_of book.old).sizes.n) × ((entry_at (book_of book.old).entries p.0).held ≡ false) }
     requires print_len { length print.now ≡ print_size }
-    requires indexed { Indexed (book_of book.old).entries heads.old nexts.old }
+    requires indexed { Indexed (book_of book.old).entries index.old.heads index.old.nexts }
     ensures is { Is book.new (with_entry (held_as print.now) p.0 (book_of book.old)) }
-    ensures indexed_2 { Indexed (book_of book.new).entries heads.new nexts.new }
+    ensures indexed_2 { Indexed (book_of book.new).entries index.new.heads index.new.nexts }
 {
     entry::hold(book, p, print);
     let at = p.0 as usize;
     let home = bucket_of(print);
-    let first = heads[home];
+    let first = index.heads[home];
     if p.0 < first {
-        nexts[at] = first;
-        heads[home] = p.0;
+        index.nexts[at] = first;
+        index.heads[home] = p.0;
         return;
     }
     let mut q = first as usize;
-    let mut next = nexts[q];
+    let mut next = index.nexts[q];
     while next < p.0 {
         q = next as usize;
-        next = nexts[q];
+        next = index.nexts[q];
     }
-    nexts[at] = next;
-    nexts[q] = p.0;
+    index.nexts[at] = next;
+    index.nexts[q] = p.0;
 }

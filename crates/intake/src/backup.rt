@@ -3,29 +3,27 @@ ghost use Rattle.std.specs.Prelude.{◌≡◌, ◌<◌, length};
 ghost use Rattle.book.specs.Book.{volumes};
 ghost use Rattle.book.specs.Layout.{book_of, told, Holds, Is};
 ghost use Rattle.book.specs.FormFacts.{FormFacts};
-ghost use Rattle.mover.specs.Stepping.{step_number};
 ghost use Rattle.placer.specs.Working.{Job};
-ghost use Rattle.intake.specs.Promises.{BackedUp};
+ghost use Rattle.intake.specs.Promises.{BacksUp};
 ghost use Rattle.intake.specs.Closing.{closed_book, WorkedBy};
 ghost use Rattle.words.specs.Lent.{lent};
 
 use super::storing::{copy, store_all};
 use fields::header;
 use journal::slot;
+use list::ChangeList;
 use mover::changing::run_changes;
-use mover::moving::Step;
-use pairs::Shape;
-use permit::allowing::{Allowed, allow, allowed_number};
+use permit::allowing::allow;
+use placer::placing::Tally;
 use words::limits::MAX_BLOCKS;
+use words::refusals::Refusal;
 
-// The number of changes that stopped.
-fn step_number(step: Step) -> u16
-    ensures { result ≡ step_number step }
-{
-    match step {
-        Step::Next(_) => 0,
-        Step::Stop(k) => k,
-    }
+// A backup's number, the blocks that it took from the free ones, and the entries that it touched.
+#[derive(Clone, Copy)]
+pub struct Backed {
+    pub number: u16,
+    pub taken: u16,
+    pub touched: u16,
 }
 
 // The slot of the backup is added, and its day becomes the book's.
@@ -44,29 +42,25 @@ fn work_through(
     book: &[u8],
     pool: &mut [u8],
     work: &mut [u8],
-    list: &[u8],
-    shape: Shape,
+    list: ChangeList,
     v: u16,
     day: u16,
     until: u16,
-) -> Step
+) -> Result<Tally, Refusal>
     requires form_facts { FormFacts book.now × (work.old ≡ book.now) }
-    requires job { Job (told book) pool.old list.now shape × (v < volumes) }
+    requires job { Job (told book) pool.old list × (v < volumes) }
     requires book_len_bound { length (told book).slots < (told book).sizes.s }
-    ensures { WorkedBy book (lent pool) (lent work) list v day until result }
+    ensures { WorkedBy book (lent pool) (lent work) list.entry.bytes.now v day until result }
 {
     let mut taker = [0u16; MAX_BLOCKS];
-    let step = run_changes(book, pool, work, list, shape, &mut taker, v, until);
-    let Step::Next(t) = step else {
-        return step;
-    };
-    store_all(book, work, pool, list, shape, &taker);
+    let t = run_changes(book, pool, work, list, &mut taker, v, until)?;
+    store_all(book, work, pool, list, &taker);
     let first = header::used_records(book);
-    close(work, v, day, first, shape.changes);
-    Step::Next(t)
+    close(work, v, day, first, list.shape.changes);
+    Ok(t)
 }
 
-// A change list becomes a backup; number, taken and touched are its answers.
+// A change list becomes a backup.
 pub fn backup(
     book: &mut [u8],
     pool: &mut [u8],
@@ -74,26 +68,18 @@ pub fn backup(
     volume: u16,
     day: u16,
     list: &[u8],
-    number: &mut u16,
-    taken: &mut u16,
-    touched: &mut u16,
-) -> u16
-    ensures { BackedUp (lent book) (lent pool) (lent spare) volume day list (lent number) (lent taken) (lent touched) result }
+) -> Result<Backed, Refusal>
+    ensures { BacksUp (lent book) (lent pool) (lent spare) volume day list result }
 {
-    let allowed = allow(book, pool, spare.len(), volume, day, list);
-    let Allowed::Go(plan) = allowed else {
-        return allowed_number(allowed);
-    };
+    let plan = allow(book, pool, spare.len(), volume, day, list)?;
     let len = book.len();
     let work = &mut spare[..len];
     copy(work, book);
-    let step = work_through(book, pool, work, list, plan.shape, volume, day, plan.until);
-    let Step::Next(t) = step else {
-        return step_number(step);
-    };
+    let t = work_through(book, pool, work, plan.list, volume, day, plan.until)?;
     copy(book, work);
-    *number = plan.number;
-    *taken = t.taken;
-    *touched = t.touched;
-    0
+    Ok(Backed {
+        number: plan.number,
+        taken: t.taken,
+        touched: t.touched,
+    })
 }

@@ -9,7 +9,7 @@ ghost use Rattle.journal.specs.Struct.{SlotIs};
 use fields::header;
 use fields::header::B_OFFSET;
 use fields::offsets::slot_offset;
-use words::{put_three, put_u16, u16_at, wide};
+use words::{put_three, put_u16, u16_at};
 
 // A used slot: a backup of a volume on a day, or the day on which the volume was retired, and its records.
 #[derive(Clone, Copy)]
@@ -28,7 +28,7 @@ pub fn slot_at(book: &[u8], q: u16) -> Slot
 {
     let at = slot_offset(book, q);
     Slot {
-        volume: wide(book[at]),
+        volume: u16::from(book[at]),
         retire: book[at + 1] == 1,
         day: u16_at(book, at + 2),
         first: u16_at(book, at + 4),

@@ -11,6 +11,7 @@ use lib.Dec.{leb}
 use lib.ListN.{length, get_or, drop, length-map, drop_of_length-le}
 use lib.Seq.{drop-drop}
 use borrow.Author.Tests.{le-leb, lt-leb}
+use Rattle.std.proofs.Common.{Some, None}
 use Rattle.words.proofs.Ranges.{below_or_not}
 use Rattle.book.specs.Book.{Book, slot_at}
 use Rattle.journal.specs.Struct.{SlotIs}
@@ -21,7 +22,7 @@ use Rattle.model.specs.JournalAt.{no_backup, backup_at, own_from}
 use Rattle.claims.proofs.kept.JournalAtLaws.{day-at, from_start, from-own, from-other, from_end}
 use Rattle.claims.proofs.kept.RetireAt.{retire-at}
 use Rattle.keeping.specs.declared.After.{After}
-use Rattle.keeping.specs.After.{AfterIs, kept_from}
+use Rattle.keeping.specs.After.{KthIs, AfterIs, kept_from}
 
 abbrev day_of : Backup → ℕ
 day_of b = b.day
@@ -112,28 +113,34 @@ module _ (x : Book) (v k : ℕ) where
 
     -- the volume's next slot, and none of the k left
     pub skipped_stop : (s : Slot) → SlotIs (slot_at x.slots q) s → s.volume ≡ v → left ≡ 0
-        → AfterIs x v k (record { missing = left; taken = t; retire = out; at = q })
+        → AfterIs x v k (Some (record { taken = t; retire = out; at = q }))
     skipped_stop s i e z =
         let n = p.number in
         record {
-          missing = omega arith;
-          taken = taken-end;
-          retire = retire-end;
+          enough = omega arith;
+          taken = λ j f. taken-end j f z;
+          retire = λ j f. retire-end j f z;
           later = p.rest k (omega arith);
           own = λ h. sym i.volume ∙ e;
         }
 
-    pub skipped_end : (used : ℕ) → used ≡ length x.slots → used ≤ q
-        → AfterIs x v k (record { missing = left; taken = t; retire = out; at = used })
+    -- no slot is left
+    all_passed : length x.slots ≤ q → length (days x v) + left ≡ k
+    all_passed h = let n = rw (from_end x v q h) at p.number in omega arith
+
+    pub skipped_short : length x.slots ≤ q → 0 < left → AfterIs x v k None
+    skipped_short h l = let n = all_passed h in omega arith
+
+    pub skipped_end : (used : ℕ) → used ≡ length x.slots → used ≤ q → left ≡ 0
+        → AfterIs x v k (Some (record { taken = t; retire = out; at = used }))
     unfolding days
-    skipped_end used u h =
-        let end = from_end x v q (omega arith) in
-        let n = rw end at p.number in
+    skipped_end used u h z =
+        let n = all_passed (omega arith) in
         let l = length-map (slots_of x v) day_of in
         record {
-          missing = omega arith;
-          taken = taken-end;
-          retire = retire-end;
+          enough = omega arith;
+          taken = λ j f. taken-end j f z;
+          retire = λ j f. retire-end j f z;
           later = drop_of_length-le (slots_of x v) {i = k} (omega arith) ∙ sym (from_end x v used (omega arith));
           own = λ i. absurd (omega arith);
         }
@@ -163,9 +170,9 @@ drop-map f zero xs = refl
 drop-map f (suc k) [] = refl
 drop-map f (suc k) (x ∷ xs) = drop-map f k xs
 
-pub kept-after : (x : Book) (v k r : ℕ) (a : After) → (k ≡ 0 → ⊥) → AfterIs x v k a → a.missing ≡ 0
+pub kept-after : (x : Book) (v k r : ℕ) (a : After) → (k ≡ 0 → ⊥) → KthIs x v k a
     → kept (days x v) r x.day k ≡ kept_from x a.taken a.at r
 unfolding kept days
-kept-after x v zero r a some h m = absurd (some refl)
-kept-after x v (suc k) r a some h m =
-    rw (drop-map day_of (suc k) (slots_of x v), h.later, ← (h.taken k refl m)) (kept_from_lem x v a.taken a.at r h.own)
+kept-after x v zero r a some h = absurd (some refl)
+kept-after x v (suc k) r a some h =
+    rw (drop-map day_of (suc k) (slots_of x v), h.later, ← (h.taken k refl)) (kept_from_lem x v a.taken a.at r h.own)

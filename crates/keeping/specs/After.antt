@@ -1,17 +1,22 @@
 -- A volume's slots after its k-th, as a walk over the slots finds them, and whether the backup in that one is kept.
-use Rattle.std.specs.Prelude.{ℕ, suc, ◌+◌, ◌-◌, ◌<◌, ◌≡◌, Bool, ◌||◌, leb, length, get_or, drop}
+use Rattle.std.specs.Prelude.{ℕ, suc, ◌+◌, ◌<◌, ◌≤◌, ◌≡◌, Bool, ◌||◌, leb, length, get_or, drop, Option, Some, None}
 use Rattle.book.specs.Book.{Book, slot_at}
 use Rattle.model.specs.Journal.{slots_of, days}
 use Rattle.model.specs.JournalAt.{no_backup, own_from}
 use Rattle.keeping.specs.declared.After.{After}
 
--- what the code answers
-pub record AfterIs (x : Book) (v k : ℕ) (r : After) : Type 0 where
-  pub missing : r.missing ≡ k - length (days x v)
-  pub taken : (j : ℕ) → suc j ≡ k → r.missing ≡ 0 → r.taken ≡ get_or (days x v) j 0
-  pub retire : (j : ℕ) → suc j ≡ k → r.missing ≡ 0 → r.retire ≡ (get_or (slots_of x v) j no_backup).retire
+-- what the code answers where the volume has a k-th slot
+pub record KthIs (x : Book) (v k : ℕ) (r : After) : Type 0 where
+  pub enough : k ≤ length (days x v)
+  pub taken : (j : ℕ) → suc j ≡ k → r.taken ≡ get_or (days x v) j 0
+  pub retire : (j : ℕ) → suc j ≡ k → r.retire ≡ (get_or (slots_of x v) j no_backup).retire
   pub later : drop k (slots_of x v) ≡ own_from x v r.at
   pub own : r.at < length x.slots → (slot_at x.slots r.at).volume ≡ v
+
+-- what it answers
+abbrev pub AfterIs : Book → ℕ → ℕ → Option After → Type 0
+AfterIs x v k None = length (days x v) < k
+AfterIs x v k (Some r) = KthIs x v k r
 
 -- ---- kept
 

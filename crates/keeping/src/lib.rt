@@ -11,28 +11,18 @@ ghost use Rattle.keeping.specs.Kept.{KeptIs};
 use fields::header;
 use journal::slot;
 use words::limits::LAST_VOLUME;
-use words::refusals;
+use words::refusals::Refusal;
 
-// A volume's slots after its k-th. Slot `at` is the first of them; where there is none, `at` is past the used slots. The
-// volume lacks `missing` slots to have a k-th; where it has one, `taken` is that slot's day, and `retire` whether it
-// retires the volume.
+// A volume's slots after its k-th, where it has one: `taken` is that slot's day, and `retire` whether it retires the
+// volume. Slot `at` is the first after it; where there is none, `at` is past the used slots.
 #[derive(Clone, Copy)]
 pub struct After {
-    pub missing: u16,
     pub taken: u16,
     pub retire: bool,
     pub at: u16,
 }
 
-// A backup that is there and kept: its volume's later backups are in the slots from this one on. Else the number of the
-// refusal.
-#[derive(Clone, Copy)]
-pub enum Kept {
-    Before(u16),
-    Refused(u16),
-}
-
-pub fn backups_after(book: &[u8], v: u16, k: u16) -> After
+pub fn backups_after(book: &[u8], v: u16, k: u16) -> Option<After>
     requires { Holds book.now }
     ensures { AfterIs (told book.entry) v k result }
 {
@@ -40,30 +30,29 @@ pub fn backups_after(book: &[u8], v: u16, k: u16) -> After
     let mut missing = k;
     let mut taken = 0;
     let mut retire = false;
-    let mut q = 0;
-    while q < used {
+    for q in 0..used {
         let slot = slot::slot_at(book, q);
         if slot.volume == v {
             if missing == 0 {
-                return After {
-                    missing,
+                return Some(After {
                     taken,
                     retire,
                     at: q,
-                };
+                });
             }
             missing -= 1;
             taken = slot.day;
             retire = slot.retire;
         }
-        q += 1;
     }
-    After {
-        missing,
+    if missing != 0 {
+        return None;
+    }
+    Some(After {
         taken,
         retire,
         at: used,
-    }
+    })
 }
 
 // Whether a backup that was taken on day `taken` is kept, where the volume keeps each for `days` days. Slot `at` is the
@@ -78,32 +67,29 @@ pub fn is_kept(book: &[u8], taken: u16, at: u16, days: u16) -> bool
     (taken as u32) + (days as u32) >= (header::day(book) as u32)
 }
 
-// Numbers 5, 15 and 16.
-pub fn kept_backup(book: &[u8], v: u16, k: u16) -> Kept
+// Where a backup is there and kept, the slot from which on its volume's later backups are. Else numbers 5, 15 and 16.
+pub fn kept_backup(book: &[u8], v: u16, k: u16) -> Result<u16, Refusal>
     requires { FormFacts book.now }
     ensures { KeptIs (told book.entry) v k result }
 {
     if v > LAST_VOLUME {
-        return Kept::Refused(refusals::BAD_VOLUME);
+        return Err(Refusal::BadVolume);
     }
     let days = header::retention(book, v);
     if days == 0 {
-        return Kept::Refused(refusals::BAD_VOLUME);
+        return Err(Refusal::BadVolume);
     }
     if k == 0 {
-        return Kept::Refused(refusals::NO_BACKUP);
+        return Err(Refusal::NoBackup);
     }
-    let after = backups_after(book, v, k);
-    if after.missing != 0 {
-        return Kept::Refused(refusals::NO_BACKUP);
-    }
+    let after = backups_after(book, v, k).ok_or(Refusal::NoBackup)?;
     // a retirement is its volume's last slot, and has no number
     if after.retire {
-        return Kept::Refused(refusals::NO_BACKUP);
+        return Err(Refusal::NoBackup);
     }
     let at = after.at;
     if !is_kept(book, after.taken, at, days) {
-        return Kept::Refused(refusals::NOT_KEPT);
+        return Err(Refusal::NotKept);
     }
-    Kept::Before(at)
+    Ok(at)
 }

@@ -4,18 +4,18 @@ use mathlib.Core.Path.{◌≡◌, ap}
 use mathlib.Core.List.{List}
 use native.Mathlib.Omega.{arith}
 use lib.ListN.{length}
+use Rattle.std.proofs.Common.{Some}
 use Rattle.words.specs.Blocks.{block_size, print_size}
 use Rattle.runs.specs.Changes.{pair_count, change_count, list_size, change_at}
 use Rattle.runs.proofs.Laws as runs
 use Rattle.pairs.specs.Answers.{shape_of, checked_of}
 use Rattle.pairs.proofs.AnswerLaws.{good-number, good-shape}
 use Rattle.pairs.specs.declared.Shape.{Shape}
-use Rattle.pairs.specs.declared.Checked.TheVariants.{Good}
 use Rattle.list.specs.Readers.{Whole}
 
 -- ---- the check's answer
 module _ (L : ℕ) (b : List ℕ) where
-  pub good-whole : (s : Shape) → L ≤ 65535 → checked_of L b ≡ Good s → Whole b s
+  pub good-whole : (s : Shape) → L ≤ 65535 → checked_of L b ≡ Some s → Whole b s
   unfolding shape_of list_size
   good-whole s h e =
       let good = good-number L b s e in

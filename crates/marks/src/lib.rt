@@ -70,10 +70,8 @@ pub fn count_marks(marks: &[u8]) -> Tally
         changes: 0,
         row: 0,
     };
-    let mut passed = 0;
-    while passed < marks.len() {
-        t = count_mark(t, marks[passed]);
-        passed += 1;
+    for mark in marks {
+        t = count_mark(t, *mark);
     }
     count_mark(t, 0)
 }
@@ -102,11 +100,9 @@ pub fn put_runs(list: &mut [u8], at: usize, marks: &[u8]) -> usize
     ensures { Stored list.old at (pairs_of marks.now) list.new result }
 {
     let mut p = Progress { at, row: 0 };
-    let mut lbn = 0;
-    while lbn < marks.len() {
-        p = put_mark(list, p, lbn as u16, marks[lbn]);
-        lbn += 1;
+    for (lbn, mark) in marks.iter().enumerate() {
+        p = put_mark(list, p, lbn as u16, *mark);
     }
-    let end = put_mark(list, p, lbn as u16, 0);
+    let end = put_mark(list, p, marks.len() as u16, 0);
     end.at
 }

@@ -9,12 +9,15 @@ use lib.Dec.{ltb, eqb}
 use lib.ListN.{length, get_or, set, drop, length-append, drop_of_length-le}
 use lib.Seq.{drop-cons}
 use borrow.Author.Tests.{lt-ltb}
+use Rattle.std.specs.Prelude.{Result, Ok, Err}
 use Rattle.words.proofs.Accepted.{unless-accepted}
 use Rattle.words.specs.Blocks.{unmapped}
 use Rattle.words.proofs.ChoiceLaws.{or_l}
 use Rattle.words.specs.Lent.{Lent}
 use Rattle.words.specs.Lists.{all}
 use Rattle.words.specs.Outcome.{refused, accepted}
+use Rattle.words.specs.Refusals.{number}
+use Rattle.words.specs.declared.refusals.Refusal.{Refusal}
 use Rattle.words.proofs.Places.{all_get_d, all_set}
 use Rattle.words.specs.declared.PBN.{PBN}
 use Rattle.runs.specs.Changes.{Change, change_count, change_at, changes}
@@ -26,18 +29,15 @@ use Rattle.book.specs.Next.{with_entries, with_maps, with_record}
 use Rattle.claims.proofs.agreement.Moving.{moved-held}
 use Rattle.model.specs.Backup.{Work, Placed, place, lower, name_block, move_number, moved, move_to, change_step, run_changes}
 use Rattle.finder.specs.Indexed.{Indexed}
+use Rattle.finder.specs.declared.finding.Index.{Index}
 use Rattle.placer.proofs.Indexing.{moved_indexed}
 use Rattle.mover.proofs.MoveLaws.{at_most_two}
 use Rattle.placer.proofs.PlaceLaws.{PlacedAt}
 use Rattle.placer.proofs.PoolLaws.{same-now}
 use Rattle.mover.specs.Stepping.{MovedBy, SteppedBy, StillIndexed, no_tally, RanBy}
-use Rattle.placer.specs.Placing.{work_from, work_to, PlacedBy, placed_number}
+use Rattle.placer.specs.Placing.{work_from, work_to}
 use Rattle.placer.specs.Working.{pool_now, work_at, work_of, Standing}
 use Rattle.placer.specs.declared.placing.Tally.{Tally}
-use Rattle.placer.specs.declared.placing.Placement.{Placement as Answer}
-use Rattle.placer.specs.declared.placing.Placement.TheVariants.{At, Refused}
-use Rattle.mover.specs.declared.moving.Step.{Step}
-use Rattle.mover.specs.declared.moving.Step.TheVariants.{Next, Stop}
 
 -- ---- what steps 3 and 4 leave
 
@@ -95,39 +95,23 @@ module _ (v until lbn : ℕ) (d : Placed) (w : Work) where
       )
 
 -- .. and what it leaves of the index
-pub move_indexed : (work heads nexts : Lent (List ℕ)) (v lbn p until : ℕ) (t : Tally) (r : Step) (moved : Lent (List ℕ))
-    → MovedBy moved v lbn p until t r → Indexed (told moved.entry).entries heads.exit.now nexts.exit.now
-    → work.exit.now ≡ moved.exit.now → StillIndexed work heads nexts r
+pub move_indexed : (work : Lent (List ℕ)) (index : Lent Index) (v lbn p until : ℕ) (t : Tally) (r : Result Tally Refusal) (moved : Lent (List ℕ))
+    → MovedBy moved v lbn p until t r → Indexed (told moved.entry).entries index.exit.now.heads index.exit.now.nexts
+    → work.exit.now ≡ moved.exit.now → StillIndexed work index r
 unfolding MovedBy StillIndexed name_block with_entries with_maps with_record
-move_indexed work heads nexts v lbn p until t (Next t') moved m i same =
+move_indexed work index v lbn p until t (Ok t') moved m i same =
     let y = told moved.entry in
     let g = move_gives v until lbn (record { pbn = p; work = work_at y [] t }) (work_at (told moved.exit) [] t') (m.0 []) in
     let e = ap (λ (y : Book). y.entries) g.0 in
     rw (same, e) (moved_indexed until (cell_at y.maps v lbn) p y.entries i)
-move_indexed work heads nexts v lbn p until t (Stop k) moved m i same = tt
-
--- ---- what the steps answered, once it is known which answer it is
-
-module _ (book pool work list taker : Lent (List ℕ)) (i : ℕ) (t : Tally) where
-  pub placed_as : {r r' : Answer} → r ≡ r' → PlacedBy book pool work list taker i t r → PlacedBy book pool work list taker i t r'
-  placed_as e h = rw e at h
-
-  pub stepped_as : (v until : ℕ) {r r' : Step} → r ≡ r' → SteppedBy book pool work list taker v until i t r
-      → SteppedBy book pool work list taker v until i t r'
-  stepped_as v until e h = rw e at h
-
-pub indexed_as : (work heads nexts : Lent (List ℕ)) {r r' : Step} → r ≡ r' → StillIndexed work heads nexts r
-    → StillIndexed work heads nexts r'
-indexed_as work heads nexts e h = rw e at h
+move_indexed work index v lbn p until t (Err e) moved m i same = tt
 
 -- ---- a change
 
 -- a change that isn't placed is refused with the number of that
-pub change_unplaced : (v until : ℕ) (c : Change) (w : Work) (r : Answer) (k n : ℕ) → r ≡ Refused k → n ≡ placed_number r
-    → place c w ≡ refused k → change_step v until c w ≡ refused n
+pub change_unplaced : (v until : ℕ) (c : Change) (w : Work) (k : ℕ) → place c w ≡ refused k → change_step v until c w ≡ refused k
 unfolding change_step
-change_unplaced v until c w (At p u) k n e f h = absurd (let z : ◌≡◌ {A = ℕ} 0 1 = cc in omega arith)
-change_unplaced v until c w (Refused m) k n e f h = let q : n ≡ k = f ∙ cc e in rw (h, q)
+change_unplaced v until c w k h = rw h
 
 module _ (x : Book) (pool list : List ℕ) (v until i : ℕ) (b taker : List ℕ) (t : Tally) where
   -- the model's change, once the block is known
@@ -140,37 +124,34 @@ module _ (x : Book) (pool list : List ℕ) (v until i : ℕ) (b taker : List ℕ
       rw h.0 (ap (λ (ms : List (List ℕ)). move_to v until (change_at list i).lbn (cell_at ms v (change_at list i).lbn)
       (record { pbn = p.0; work = work_of x pool list (book_of b₁) taker₁ u })) (sym h.1))
 
-module _ (book pool work list taker : Lent (List ℕ)) (v until i : ℕ) (t : Tally) where
+module _ (book pool work : Lent (List ℕ)) (list : List ℕ) (taker : Lent (List ℕ)) (v until i : ℕ) (t : Tally) where
   abbrev x : Book
   x = told book.entry
 
-  abbrev changed : List ℕ
-  changed = list.entry.now
-
   -- a change that is placed goes as its move goes
-  pub change_by : (p : PBN) (u : Tally) (r : Step) (moved : Lent (List ℕ)) → MovedBy moved v (change_at changed i).lbn p.0 until u r
-      → PlacedAt x pool.entry.now changed i work.entry.now taker.entry.now t p u moved.entry.now taker.exit.now
+  pub change_by : (p : PBN) (u : Tally) (r : Result Tally Refusal) (moved : Lent (List ℕ)) → MovedBy moved v (change_at list i).lbn p.0 until u r
+      → PlacedAt x pool.entry.now list i work.entry.now taker.entry.now t p u moved.entry.now taker.exit.now
       → work.exit.now ≡ moved.exit.now → SteppedBy book pool work list taker v until i t r
   unfolding SteppedBy MovedBy
-  change_by p u (Next t') moved m h same =
+  change_by p u (Ok t') moved m h same =
       let b₁ = moved.entry.now in
       let b₂ = moved.exit.now in
       let taker₁ = taker.exit.now in
-      let P = pool_now x.entries (book_of b₁).entries taker₁ changed pool.entry.now in
-      let d : Placed = record { pbn = p.0; work = work_of x pool.entry.now changed (book_of b₁) taker₁ u } in
-      let g = move_gives v until (change_at changed i).lbn d (work_at (book_of b₂) P t') (m.0 P) in
-      let kept : P ≡ pool_now x.entries (book_of b₂).entries taker₁ changed pool.entry.now =
-      same-now x.entries (book_of b₁).entries (book_of b₂).entries taker₁ changed pool.entry.now
-      (λ q. ap (λ (y : Book). (entry_at y.entries q).held) g.0 ∙ named-held v until (change_at changed i).lbn p.0 (book_of b₁) q) in
+      let P = pool_now x.entries (book_of b₁).entries taker₁ list pool.entry.now in
+      let d : Placed = record { pbn = p.0; work = work_of x pool.entry.now list (book_of b₁) taker₁ u } in
+      let g = move_gives v until (change_at list i).lbn d (work_at (book_of b₂) P t') (m.0 P) in
+      let kept : P ≡ pool_now x.entries (book_of b₂).entries taker₁ list pool.entry.now =
+      same-now x.entries (book_of b₁).entries (book_of b₂).entries taker₁ list pool.entry.now
+      (λ q. ap (λ (y : Book). (entry_at y.entries q).held) g.0 ∙ named-held v until (change_at list i).lbn p.0 (book_of b₁) q) in
       rw same (
-        change_placed x pool.entry.now changed v until i work.entry.now taker.entry.now t p u b₁ taker₁ h
+        change_placed x pool.entry.now list v until i work.entry.now taker.entry.now t p u b₁ taker₁ h
             ∙ m.0 P ∙ ap (λ (P : List ℕ). accepted (work_at (book_of b₂) P t')) kept,
         m.1,
-        rw g.0 (named-standing v until (change_at changed i).lbn p.0 (book_of b₁) x taker₁ u t' i h.2 h.4 g.1 g.2),
+        rw g.0 (named-standing v until (change_at list i).lbn p.0 (book_of b₁) x taker₁ u t' i h.2 h.4 g.1 g.2),
       )
-  change_by p u (Stop k) moved m h same =
-      let P = pool_now x.entries (told moved.entry).entries taker.exit.now changed pool.entry.now in
-      change_placed x pool.entry.now changed v until i work.entry.now taker.entry.now t p u
+  change_by p u (Err e) moved m h same =
+      let P = pool_now x.entries (told moved.entry).entries taker.exit.now list pool.entry.now in
+      change_placed x pool.entry.now list v until i work.entry.now taker.entry.now t p u
       moved.entry.now taker.exit.now h ∙ m P
 
 -- ---- one change after another
@@ -193,19 +174,18 @@ module _ (v until : ℕ) (list : List ℕ) (i : ℕ) (w : Work) where
   run_end : change_count list ≤ i → run_changes v until (drop i (changes list)) w ≡ accepted w
   run_end h = rw (drop_of_length-le (changes list) {i = i} (rw length-changes h))
 
-module _ (book pool work list taker : Lent (List ℕ)) (v until : ℕ) where
+module _ (book pool work : Lent (List ℕ)) (list : List ℕ) (taker : Lent (List ℕ)) (v until : ℕ) where
   -- the whole run stops at change i, or has no change left
   module _ (i : ℕ) (w : Work)
-      (l : run_changes v until (changes list.entry.now) (work_from book pool work list taker no_tally)
-      ≡ run_changes v until (drop i (changes list.entry.now)) w) where
-    pub run-refused : (r : Step) (k : ℕ) → i < change_count list.entry.now → r ≡ Stop k
-        → change_step v until (change_at list.entry.now i) w ≡ refused k → RanBy book pool work list taker v until r
+      (l : run_changes v until (changes list) (work_from book pool work list taker no_tally)
+      ≡ run_changes v until (drop i (changes list)) w) where
+    pub run-refused : (e : Refusal) → i < change_count list
+        → change_step v until (change_at list i) w ≡ refused (number e) → RanBy book pool work list taker v until (Err e)
     unfolding RanBy
-    run-refused (Next t') k h e s = absurd (let z : ◌≡◌ {A = ℕ} 0 1 = cc in omega arith)
-    run-refused (Stop m) k h e s = let q : m ≡ k = cc e in rw q (l ∙ run-stop v until list.entry.now i w k h s)
+    run-refused e h s = l ∙ run-stop v until list i w (number e) h s
 
-    pub run-done : (t : Tally) → w ≡ work_to book pool work list taker t → i ≡ change_count list.entry.now → Holds work.exit.now
-        → Standing (told book.entry) (told work.exit) taker.exit.now t i i → RanBy book pool work list taker v until (Next t)
+    pub run-done : (t : Tally) → w ≡ work_to book pool work list taker t → i ≡ change_count list → Holds work.exit.now
+        → Standing (told book.entry) (told work.exit) taker.exit.now t i i → RanBy book pool work list taker v until (Ok t)
     unfolding RanBy
     run-done t same e h s =
-        (l ∙ run_end v until list.entry.now i w (omega arith) ∙ ap (λ (w : Work). accepted w) same, h, rw e at s)
+        (l ∙ run_end v until list i w (omega arith) ∙ ap (λ (w : Work). accepted w) same, h, rw e at s)

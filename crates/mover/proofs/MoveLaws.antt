@@ -1,6 +1,6 @@
 -- Laws of steps 3 and 4: what the writers of a book leave is what the model says.
 use Prim.Native.Nat.{ℕ, zero, suc, ◌+◌, ◌-◌, ◌≤◌, ◌<◌, max}
-use mathlib.Core.Path.{◌≡◌, refl, ap, ◌∙◌}
+use mathlib.Core.Path.{◌≡◌, refl, sym, ap, ◌∙◌}
 use mathlib.Core.Bool.{Bool, true, false, not, ◌&&◌}
 use mathlib.Core.List.{List, [], ◌∷◌}
 use mathlib.Core.Logic.{◌⊎◌}
@@ -9,12 +9,17 @@ use native.Mathlib.Omega.{arith}
 use lib.Dec.{eqb}
 use lib.ListN.{length, get_or, set}
 use lib.Seq.{get_or-set_same}
-use borrow.Author.Tests.{eq-eqb, ne_eqb, not-true, not-false}
+use borrow.Author.Tests.{eq-eqb, ne_eqb}
+use Rattle.std.specs.Prelude.{⊤, Ok, Err}
 use Rattle.words.specs.Blocks.{unmapped}
 use Rattle.words.specs.Choice.{when◌then◌else◌}
 use Rattle.words.specs.Lent.{Lent}
 use Rattle.words.specs.Lists.{all}
 use Rattle.words.specs.Outcome.{refused, accepted}
+use Rattle.words.specs.Refusals.{number}
+use Rattle.words.specs.declared.refusals.Refusal.{Refusal}
+use Rattle.words.specs.declared.refusals.Refusal.TheVariants.{CountZero}
+use Rattle.words.proofs.Refused.{number-not_zero}
 use Rattle.words.proofs.Places.{all_get_d}
 use Rattle.book.specs.Book.{Entry, Book, free_entry, entry_at, cell_at}
 use Rattle.book.proofs.Conditions.{pbn-cases}
@@ -25,7 +30,7 @@ use Rattle.book.specs.Next.{with_entries, with_entry, with_cell, with_record, co
 use Rattle.claims.proofs.form.Bounds.{unmapped-ok}
 use Rattle.model.specs.Backup.{lowered, lower, raised, name_block, move_number, moved, move_to}
 use Rattle.placer.specs.Working.{work_at}
-use Rattle.mover.specs.Stepping.{LoweredBy}
+use Rattle.mover.specs.Stepping.{zero_number, LoweredBy}
 use Rattle.placer.specs.declared.placing.Tally.{Tally}
 
 set_twice : {A : Type 0} (xs : List A) (p : ℕ) (y z : A) → set (set xs p y) p z ≡ set xs p z
@@ -35,20 +40,21 @@ set_twice {A} (x ∷ xs) (suc p) y z = ap (λ (r : List A). x ∷ r) (set_twice 
 
 -- ---- step 3
 
-module _ (work : Lent (List ℕ)) (before until : ℕ) where
+module _ (work : Lent (List ℕ)) (before until : ℕ) {u : ⊤} where
   abbrev b : List ℕ
   b = work.entry.now
 
-  pub lower-none : work.exit.now ≡ b → before ≡ unmapped → Holds b → LoweredBy work before until true
+  pub lower-none : work.exit.now ≡ b → before ≡ unmapped → Holds b → LoweredBy work before until (Ok u)
   unfolding lower with_entries
   lower-none same e h = record {
-    goes = rw (eq-eqb before unmapped e);
+    number = rw (eq-eqb before unmapped e);
     book = λ _. rw same (record { holds = h; book = rw (eq-eqb before unmapped e) });
   }
 
-  pub lower-zero : (before ≡ unmapped → ⊥) → (entry_at (book_of b).entries before).count ≡ 0 → LoweredBy work before until false
+  pub lower-zero : (before ≡ unmapped → ⊥) → (entry_at (book_of b).entries before).count ≡ 0
+      → LoweredBy work before until (Err CountZero)
   lower-zero e z = record {
-    goes = rw (ne_eqb before unmapped e, eq-eqb (entry_at (book_of b).entries before).count 0 z);
+    number = rw (ne_eqb before unmapped e, eq-eqb (entry_at (book_of b).entries before).count 0 z);
     book = λ f. absurd (let z : ◌≡◌ {A = ℕ} 0 1 = cc in omega arith);
   }
 
@@ -64,7 +70,7 @@ module _ (work : Lent (List ℕ)) (before until : ℕ) where
     abbrev down : Entry
     down = count_as ((entry_at (book_of b).entries before).count - 1) (entry_at (book_of b).entries before)
 
-    goes_on : true ≡ not (not (eqb before unmapped) && eqb (entry_at (book_of b).entries before).count 0)
+    goes_on : zero_number (book_of b).entries before ≡ 0
     goes_on = rw (ne_eqb before unmapped e, ne_eqb (entry_at (book_of b).entries before).count 0 z)
 
     -- the entry between the two writers
@@ -77,20 +83,20 @@ module _ (work : Lent (List ℕ)) (before until : ℕ) where
     unfolding count_as
     expiry-down = ap (λ (x : Entry). x.expiry) entry-down
 
-    pub lower_late : work.exit.now ≡ b₁ → until ≤ (entry_at (book_of b₁).entries before).expiry → LoweredBy work before until true
+    pub lower_late : work.exit.now ≡ b₁ → until ≤ (entry_at (book_of b₁).entries before).expiry → LoweredBy work before until (Ok u)
     unfolding lower lowered count_as expiry_as
     lower_late same k = record {
-      goes = goes_on;
+      number = sym goes_on;
       book =
           λ _. rw same (is_same (let m : max own.expiry until ≡ own.expiry = omega (arith, expiry-down)
           in rw (ne_eqb before unmapped e, m)) i);
     }
 
     pub lower-early : (entry_at (book_of b₁).entries before).expiry < until
-        → Is work.exit.now (with_entry (expiry_as until) before (book_of b₁)) → LoweredBy work before until true
+        → Is work.exit.now (with_entry (expiry_as until) before (book_of b₁)) → LoweredBy work before until (Ok u)
     unfolding lower lowered with_entries
     lower-early k j = record {
-      goes = goes_on;
+      number = sym goes_on;
       book = λ _.
           is_same (let m : max own.expiry until ≡ until = omega (arith, expiry-down) in
           rw (ne_eqb before unmapped e, m, get_or-set_same es before down free_entry h, set_twice es before down (expiry_as until down)))
@@ -111,23 +117,32 @@ named v lbn p count before b b₁ b₂ b₃ e f i j k =
 
 -- ---- both
 
+-- number 13, by its test
+refuses : (t : Bool) (e : Refusal) → number e ≡ (when t then 13 else 0) → (t ≡ true) × (number e ≡ 13)
+refuses true e h = (refl, h)
+refuses false e h = absurd (number-not_zero e h)
+
+lets : (t : Bool) → ◌≡◌ {A = ℕ} (when t then 13 else 0) 0 → t ≡ false
+lets true h = absurd (omega arith)
+lets false h = refl
+
 module _ (v until lbn p : ℕ) (x : Book) (pool : List ℕ) (t : Tally) where
   abbrev before : ℕ
   before = cell_at x.maps v lbn
 
-  pub move-zero : not (not (eqb (cell_at x.maps v lbn) unmapped) && eqb (entry_at x.entries (cell_at x.maps v lbn)).count 0) ≡ false
-      → move_to v until lbn (cell_at x.maps v lbn) (record { pbn = p; work = work_at x pool t }) ≡ refused 13
+  pub move-zero : (e : Refusal) → number e ≡ zero_number x.entries (cell_at x.maps v lbn)
+      → move_to v until lbn (cell_at x.maps v lbn) (record { pbn = p; work = work_at x pool t }) ≡ refused (number e)
   unfolding move_to move_number
-  move-zero e = rw (not-false (not (eqb before unmapped) && eqb (entry_at x.entries before).count 0) e)
+  move-zero e h =
+      let r = refuses (not (eqb before unmapped) && eqb (entry_at x.entries before).count 0) e h in rw (r.0, r.1)
 
-  module _ (e : not (not (eqb (cell_at x.maps v lbn) unmapped)
-      && eqb (entry_at x.entries (cell_at x.maps v lbn)).count 0) ≡ true) where
+  module _ (e : zero_number x.entries (cell_at x.maps v lbn) ≡ 0) where
     pub move-full : (entry_at (lower until (cell_at x.maps v lbn) x.entries) p).count ≡ 65535
         → move_to v until lbn (cell_at x.maps v lbn) (record { pbn = p; work = work_at x pool t }) ≡ refused 14
     unfolding move_to move_number
     move-full f =
         rw (
-          not-true (not (eqb before unmapped) && eqb (entry_at x.entries before).count 0) e,
+          lets (not (eqb before unmapped) && eqb (entry_at x.entries before).count 0) e,
           eq-eqb
               (entry_at (lower until before x.entries) p).count 65535 f,
         )
@@ -139,7 +154,7 @@ module _ (v until lbn p : ℕ) (x : Book) (pool : List ℕ) (t : Tally) where
     unfolding move_to move_number moved
     move-goes f y t' g k l =
         rw (
-          not-true (not (eqb before unmapped) && eqb (entry_at x.entries before).count 0) e,
+          lets (not (eqb before unmapped) && eqb (entry_at x.entries before).count 0) e,
           ne_eqb
               (entry_at (lower until before x.entries) p).count 65535 f,
           g,

@@ -15,14 +15,8 @@ use fields::map;
 use journal::record;
 use placer::placing::Tally;
 use words::limits::MAX_COUNT;
-use words::{LBN, PBN, UNMAPPED, refusals};
-
-// What a change answers: what is counted after it, or the number of its refusal.
-#[derive(Clone, Copy)]
-pub enum Step {
-    Next(Tally),
-    Stop(u16),
-}
+use words::refusals::Refusal;
+use words::{LBN, PBN, UNMAPPED};
 
 // The entries that a change touches: its block's, and that of the before where there is one.
 fn touches(before: PBN) -> u16
@@ -32,23 +26,23 @@ fn touches(before: PBN) -> u16
 }
 
 // The before's count falls by 1, and it is kept until this day at least. Not where its count is 0.
-pub fn lower(work: &mut [u8], before: PBN, until: u16) -> bool
+pub fn lower(work: &mut [u8], before: PBN, until: u16) -> Result<(), Refusal>
     requires holds { Holds work.old }
     requires fact { (before.0 < (book_of work.old).sizes.n) ⊎ (before.0 ≡ unmapped) }
     ensures { LoweredBy (lent work) before.0 until result }
 {
     if before.0 == UNMAPPED {
-        return true;
+        return Ok(());
     }
     let count = entry::count(work, before);
     if count == 0 {
-        return false;
+        return Err(Refusal::CountZero);
     }
     entry::set_count(work, before, count - 1);
     if entry::expiry(work, before) < until {
         entry::set_expiry(work, before, until);
     }
-    true
+    Ok(())
 }
 
 // The block's count rises by 1, the map names it, a record is added.
@@ -66,8 +60,15 @@ fn name_block(work: &mut [u8], v: u16, lbn: LBN, before: PBN, p: PBN, count: u16
     record::append_record(work, lbn, before, p);
 }
 
-// Volume v's cell at an LBN goes to block p.
-pub fn move_to(work: &mut [u8], v: u16, lbn: LBN, p: PBN, until: u16, t: Tally) -> Step
+// Volume v's cell at an LBN goes to block p. It answers what is counted then.
+pub fn move_to(
+    work: &mut [u8],
+    v: u16,
+    lbn: LBN,
+    p: PBN,
+    until: u16,
+    t: Tally,
+) -> Result<Tally, Refusal>
     requires holds { Holds work.old }
     requires v_lt_volumes { (v < volumes) × (lbn.0 < (book_of work.old).sizes.l) × (p.0 < (book_of work.old).sizes.n) }
     requires work_len_bound { (length (book_of work.old).records < (book_of work.old).sizes.j) × (t.touched < 65000) }
@@ -75,16 +76,14 @@ pub fn move_to(work: &mut [u8], v: u16, lbn: LBN, p: PBN, until: u16, t: Tally) 
     ensures { MovedBy (lent work) v lbn.0 p.0 until t result }
 {
     let before = map::cell(work, v, lbn);
-    if !lower(work, before, until) {
-        return Step::Stop(refusals::COUNT_ZERO);
-    }
+    lower(work, before, until)?;
     let count = entry::count(work, p);
     // Only a damaged book has such a count: eight maps of 1,024 cells name a block 8,192 times at most.
     if count == MAX_COUNT {
-        return Step::Stop(refusals::COUNT_FULL);
+        return Err(Refusal::CountFull);
     }
     name_block(work, v, lbn, before, p, count);
     let taken = t.taken;
     let touched = t.touched + touches(before);
-    Step::Next(Tally { taken, touched })
+    Ok(Tally { taken, touched })
 }

@@ -6,27 +6,26 @@ mod line;
 
 ghost use Rattle.std.specs.Prelude.{◌≡◌, ◌≤◌, length, take};
 ghost use Rattle.words.specs.Laying.{Stored};
+ghost use Rattle.words.specs.Refusals.{refusal_number};
 ghost use Rattle.pages.specs.Tally.{tally_number, tally_page};
 ghost use Rattle.pages.specs.Pages.{counts_page, page_room};
 
 use counter::counts::{Counts, count_entries};
-use form::form_number;
 use line::put_line;
-use words::refusals;
+use words::refusals::Refusal;
 
 const LONGEST: usize = 65536;
 
 // Bytes that have room for any page.
 pub const PAGE_ROOM: usize = 80;
 
-// The number that refuses the input, or 0.
-fn refusal(input: &[u8]) -> u32
-    ensures { result ≡ tally_number input.now }
+fn check(input: &[u8]) -> Result<(), Refusal>
+    ensures { refusal_number result ≡ tally_number input.now }
 {
     if input.len() > LONGEST {
-        return refusals::BAD_LAYOUT as u32;
+        return Err(Refusal::BadLayout);
     }
-    form_number(input) as u32
+    form::check(input)
 }
 
 // The five lines of a book of n blocks, to the front of the page. It answers their length.
@@ -47,9 +46,8 @@ pub fn tally(input: &[u8], page: &mut [u8; PAGE_ROOM]) -> usize
     ensures value { result ≡ length (tally_page input.now) }
     ensures upper_bound { result ≤ page_room }
 {
-    let number = refusal(input);
-    if number != 0 {
-        return put_line(page, 0, b"refused", number);
+    if let Err(refusal) = check(input) {
+        return put_line(page, 0, b"refused", u32::from(u16::from(refusal)));
     }
     let n = fields::header::blocks(input);
     put_counts(page, n, count_entries(input))

@@ -6,41 +6,40 @@ use mathlib.Core.List.{List}
 use lib.Dec.{ltb, eqb}
 use lib.ListN.{length}
 use borrow.Author.Tests.{eqb-true, eq-eqb, ne_eqb}
+use Rattle.std.proofs.Common.{Option, Some, None}
 use Rattle.words.specs.Choice.{when◌then◌else◌}
 use Rattle.runs.specs.Changes.{pair_count, pairs, change_count, list_size, pairs_fit, list_number}
 use Rattle.runs.proofs.Number.{Accepted, ladder, number_ladder, accepted-number, number-accepted}
 use Rattle.pairs.specs.Answers.{shape_of, checked_of}
 use Rattle.pairs.specs.declared.Shape.{Shape}
-use Rattle.pairs.specs.declared.Checked.{Checked}
-use Rattle.pairs.specs.declared.Checked.TheVariants.{Good, Refused}
 
 -- document 01's number for each case of the answer
-abbrev pub checked_number : Checked → ℕ
-checked_number (Good s) = 0
-checked_number Refused = 8
+abbrev pub checked_number : Option Shape → ℕ
+checked_number (Some s) = 0
+checked_number None = 8
 
 module _ (L : ℕ) (b : List ℕ) where
   -- the check's answer
-  abbrev answer : Bool → Checked
-  answer t = when t then Good (shape_of b) else Refused
+  abbrev answer : Bool → Option Shape
+  answer t = when t then Some (shape_of b) else None
 
   pub accepted-good : (e n : ℕ) → Accepted L b → e ≡ pair_count b → n ≡ change_count b
-      → checked_of L b ≡ Good (record { pairs = e; changes = n })
+      → checked_of L b ≡ Some (record { pairs = e; changes = n })
   unfolding checked_of shape_of
   accepted-good e n a p q =
       rw (p, q) (ap answer (eq-eqb (list_number L b) 0 (accepted-number L b a)))
 
-  pub unaccepted_refused : (Accepted L b → ⊥) → checked_of L b ≡ Refused
+  pub unaccepted_refused : (Accepted L b → ⊥) → checked_of L b ≡ None
   unfolding checked_of
   unaccepted_refused h = ap answer (ne_eqb (list_number L b) 0 (λ e. h (number-accepted L b e)))
 
-  pub good-accepted : (s : Shape) → checked_of L b ≡ Good s → Accepted L b × (s ≡ shape_of b)
+  pub good-accepted : (s : Shape) → checked_of L b ≡ Some s → Accepted L b × (s ≡ shape_of b)
   unfolding checked_of
   good-accepted s e =
       let g = go (eqb (list_number L b) 0) e in
       (number-accepted L b (eqb-true (list_number L b) 0 g.0), g.1)
     where
-      go : (t : Bool) → answer t ≡ Good s → (t ≡ true) × (s ≡ shape_of b)
+      go : (t : Bool) → answer t ≡ Some s → (t ≡ true) × (s ≡ shape_of b)
       go true q = (refl, cc)
       go false q = (cc, cc)
 

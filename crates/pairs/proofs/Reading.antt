@@ -7,12 +7,12 @@ use native.Mathlib.Numerals.{add-one}
 use native.Mathlib.Omega.{arith}
 use lib.ListN.{drop, drop_of_length-le}
 use lib.Seq.{drop-cons}
+use Rattle.std.proofs.Common.{Some, None}
 use Rattle.words.specs.Choice.{when◌then◌else◌}
 use Rattle.words.specs.Lists.{sum}
 use Rattle.runs.specs.Changes.{Pair, pair_count, pair_at, pairs, lengths, change_count, pair_fits, pairs_fit}
 use Rattle.pairs.specs.Answers.{counted_of}
 use Rattle.runs.proofs.Pairs.{length_pairs, get_or-pairs, fit-sum}
-use Rattle.pairs.specs.declared.Counted.TheVariants.{Fit, Unfit}
 
 module _ (b : List ℕ) where
   drop-pairs : (i : ℕ) → i < pair_count b → drop i (pairs b) ≡ pair_at b i ∷ drop (i + 1) (pairs b)
@@ -42,30 +42,30 @@ module _ (b : List ℕ) (i first many : ℕ) (h : i < pair_count b) (p : first �
 
 -- what the pairs come to
 module _ (L : ℕ) (b : List ℕ) where
-  pub counted-fit : pairs_fit L 0 (pairs b) ≡ true → counted_of L b ≡ Fit (change_count b)
+  pub counted-fit : pairs_fit L 0 (pairs b) ≡ true → counted_of L b ≡ Some (change_count b)
   unfolding counted_of
-  counted-fit e = ap (λ (t : Bool). when t then Fit (change_count b) else Unfit) e
+  counted-fit e = ap (λ (t : Bool). when t then Some (change_count b) else None) e
 
-  pub counted_unfit : pairs_fit L 0 (pairs b) ≡ false → counted_of L b ≡ Unfit
+  pub counted_unfit : pairs_fit L 0 (pairs b) ≡ false → counted_of L b ≡ None
   unfolding counted_of
-  counted_unfit e = ap (λ (t : Bool). when t then Fit (change_count b) else Unfit) e
+  counted_unfit e = ap (λ (t : Bool). when t then Some (change_count b) else None) e
 
-  pub fit-counted : (n : ℕ) → counted_of L b ≡ Fit n → (pairs_fit L 0 (pairs b) ≡ true) × (n ≡ change_count b)
+  pub fit-counted : (n : ℕ) → counted_of L b ≡ Some n → (pairs_fit L 0 (pairs b) ≡ true) × (n ≡ change_count b)
   unfolding counted_of
   fit-counted n e = go (pairs_fit L 0 (pairs b)) e
     where
-      go : (t : Bool) → (when t then Fit (change_count b) else Unfit) ≡ Fit n → (t ≡ true) × (n ≡ change_count b)
+      go : (t : Bool) → (when t then Some (change_count b) else None) ≡ Some n → (t ≡ true) × (n ≡ change_count b)
       go true q = (refl, cc)
       go false q = (cc, cc)
 
-  pub counted-within : (n : ℕ) → counted_of L b ≡ Fit n → n ≤ L
+  pub counted-within : (n : ℕ) → counted_of L b ≡ Some n → n ≤ L
   unfolding change_count
   counted-within n e = let f = fit-counted n e in omega (arith, fit-sum L 0 (pairs b) zero-le f.0)
 
-  pub unfit_counted : counted_of L b ≡ Unfit → pairs_fit L 0 (pairs b) ≡ false
+  pub unfit_counted : counted_of L b ≡ None → pairs_fit L 0 (pairs b) ≡ false
   unfolding counted_of
   unfit_counted e = go (pairs_fit L 0 (pairs b)) e
     where
-      go : (t : Bool) → (when t then Fit (change_count b) else Unfit) ≡ Unfit → t ≡ false
+      go : (t : Bool) → (when t then Some (change_count b) else None) ≡ None → t ≡ false
       go true q = cc
       go false q = refl

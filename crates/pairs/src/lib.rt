@@ -18,20 +18,6 @@ pub struct Shape {
     pub changes: u16,
 }
 
-// What the check of a list answers.
-#[derive(Clone, Copy)]
-pub enum Checked {
-    Good(Shape),
-    Refused,
-}
-
-// What the pairs of a list say: how many blocks changed, unless one of them doesn't fit.
-#[derive(Clone, Copy)]
-enum Counted {
-    Fit(usize),
-    Unfit,
-}
-
 // Whether a pair is of some blocks and not too many, starts at `end` or later, and doesn't pass l.
 fn pair_fits(end: usize, first: usize, many: usize, l: usize) -> bool
     requires { (first ≤ 65535) × (many ≤ 65535) }
@@ -49,47 +35,42 @@ fn pair_fits(end: usize, first: usize, many: usize, l: usize) -> bool
     first + many <= l
 }
 
-// The number of changed blocks, from pairs that lie within the bytes.
-fn count_changes(list: &[u8], pairs: usize, l: usize) -> Counted
+// The number of changed blocks, from pairs that lie within the bytes, unless one of them doesn't fit.
+fn count_changes(list: &[u8], pairs: usize, l: usize) -> Option<usize>
     requires { (pairs ≡ pair_count list.now) × (2 + pairs * pair_size ≤ length list.now) × (l ≤ 65535) }
     ensures { result ≡ counted_of l list.now }
 {
-    let mut i = 0;
     let mut end = 0;
     let mut changes = 0;
-    while i < pairs {
+    for i in 0..pairs {
         let first = u16_at(list, 2 + i * PAIR_SIZE) as usize;
         let many = u16_at(list, 2 + i * PAIR_SIZE + 2) as usize;
         if !pair_fits(end, first, many, l) {
-            return Counted::Unfit;
+            return None;
         }
         end = first + many;
         changes += many;
-        i += 1;
     }
-    Counted::Fit(changes)
+    Some(changes)
 }
 
-// Whether the bytes are a change list for volumes of l blocks.
-pub fn check(list: &[u8], l: u16) -> Checked
+// The numbers of the list, where the bytes are a change list for volumes of l blocks.
+pub fn check(list: &[u8], l: u16) -> Option<Shape>
     ensures { result ≡ checked_of l list.now }
 {
     if list.len() < 2 {
-        return Checked::Refused;
+        return None;
     }
     let pairs = u16_at(list, 0);
     let prints_from = 2 + pairs as usize * PAIR_SIZE;
     if list.len() < prints_from {
-        return Checked::Refused;
+        return None;
     }
-    let counted = count_changes(list, pairs as usize, l as usize);
-    let Counted::Fit(changes) = counted else {
-        return Checked::Refused;
-    };
+    let changes = count_changes(list, pairs as usize, l as usize)?;
     if list.len() != prints_from + changes * (PRINT_SIZE + BLOCK_SIZE) {
-        return Checked::Refused;
+        return None;
     }
-    Checked::Good(Shape {
+    Some(Shape {
         pairs,
         changes: changes as u16,
     })

@@ -4,14 +4,16 @@ use mathlib.Core.Path.{◌≡◌, refl, sym, ap, ◌∙◌}
 use mathlib.Core.Bool.{Bool, true, false}
 use mathlib.Core.List.{List, [], ◌∷◌}
 use native.Mathlib.Omega.{arith}
-use lib.Dec.{leb, eqb}
+use lib.Dec.{eqb}
 use lib.ListN.{length, length-map}
 use borrow.Author.Tests.{lt-ltb, le-ltb, le-leb, lt-leb, eq-eqb, ne_eqb, ltb-false}
-use Rattle.words.proofs.Accepted.{unless-refused}
+use Rattle.words.proofs.Refused.{unless-number, unless-refusal}
 use Rattle.words.specs.Blocks.{block_size}
 use Rattle.words.specs.Choice.{when◌then◌else◌}
 use Rattle.words.specs.Lists.{those, last_of}
 use Rattle.words.specs.Outcome.{Outcome, refused, accepted, and_then, unless}
+use Rattle.words.specs.Refusals.{number}
+use Rattle.words.specs.declared.refusals.Refusal.{Refusal}
 use Rattle.runs.specs.Changes.{change_count, changes, list_number}
 use Rattle.book.specs.Book.{Book, retention_of}
 use Rattle.book.specs.Layout.{book_of}
@@ -23,7 +25,7 @@ use Rattle.claims.proofs.kept.JournalAtLaws.{length-journal}
 use Rattle.model.specs.OnBytes.{spare_number, BackedBytes, backed_bytes, backup_bytes}
 use Rattle.buffers.specs.Buffers.{buffers_number}
 use Rattle.buffers.proofs.BuffersLaws.{or-first, or-zero, if_zero, unless-or, buffers_facts, buffers_order}
-use Rattle.permit.specs.Allowing.{lent_number, day_refused, room_number, goes_on}
+use Rattle.permit.specs.Allowing.{lent_number, day_refused, day_number, room_number, goes_on}
 
 -- ---- numbers 1 to 4
 
@@ -50,6 +52,14 @@ module _ (b pool : List ℕ) (spare : ℕ) where
 
 -- ---- numbers 5 to 10, in order
 
+-- a number that refuses is the ladder's, whatever comes after it
+pub first : (b : Bool) (j k : ℕ) → ((when b then j else 0) ≡ 0 → ⊥) → (when b then j else k) ≡ (when b then j else 0)
+first true j k n = refl
+first false j k n = absurd (n refl)
+
+pub day-taken : (x : Book) (v t : ℕ) → day_number x v t ≡ 0 → day_refused x v t ≡ false
+day-taken x v t e = if_zero (day_refused x v t) 6 e
+
 module _ (x : Book) (v t : ℕ) (list : List ℕ) where
   pub five-above : 7 < v → backup_number x v t list ≡ 5
   unfolding backup_number no_living no_volume
@@ -70,39 +80,44 @@ module _ (x : Book) (v t : ℕ) (list : List ℕ) where
         unfolding no_living no_volume
         there = rw (le-ltb 7 v high, ne_eqb (retention_of x v) 0 own, living)
 
-        pub seven : day_refused x v t ≡ true → backup_number x v t list ≡ 7
+        pub seven : (day_number x v t ≡ 0 → ⊥) → backup_number x v t list ≡ day_number x v t
         unfolding backup_number day_refused
-        seven e = rw (there, e)
+        seven n = rw there (first (day_refused x v t) 7 _ n)
 
-        module _ (day : day_refused x v t ≡ false) where
+        module _ (day : day_number x v t ≡ 0) where
           pub eight : list_number x.sizes.l list ≡ 8 → backup_number x v t list ≡ 8
           unfolding backup_number day_refused
-          eight e = rw (there, day, e)
+          eight e = rw (there, day-taken x v t day, e)
 
           pub by-room : list_number x.sizes.l list ≡ 0 → backup_number x v t list ≡ room_number x (change_count list)
           unfolding backup_number day_refused room_number
-          by-room e = rw (there, day, e)
+          by-room e = rw (there, day-taken x v t day, e)
 
 -- ---- number 7, with the volume's backups
 
 module _ (x : Book) (v t : ℕ) where
-  pub day-late : 60000 < t → true ≡ day_refused x v t
+  pub day-late : 60000 < t → 7 ≡ day_number x v t
   unfolding day_refused bad_day
   day-late h = rw (lt-ltb 60000 t h)
 
   module _ (late : t ≤ 60000) where
-    pub day-early : t < x.day → true ≡ day_refused x v t
+    pub day-early : t < x.day → 7 ≡ day_number x v t
     unfolding day_refused bad_day
     day-early h = rw (le-ltb 60000 t late, lt-ltb t x.day h)
 
     module _ (early : x.day ≤ t) where
-      pub day-first : length (days x v) ≡ 0 → false ≡ day_refused x v t
+      pub day-first : length (days x v) ≡ 0 → 0 ≡ day_number x v t
       unfolding day_refused bad_day not_after
       day-first e = rw (le-ltb 60000 t late, le-ltb t x.day early, eq-eqb (length (days x v)) 0 e)
 
-      pub day-next : (length (days x v) ≡ 0 → ⊥) → leb t (last_of 0 (days x v)) ≡ day_refused x v t
-      unfolding day_refused bad_day not_after
-      day-next n = rw (le-ltb 60000 t late, le-ltb t x.day early, ne_eqb (length (days x v)) 0 n)
+      module _ (some : length (days x v) ≡ 0 → ⊥) where
+        pub day-again : t ≤ last_of 0 (days x v) → 7 ≡ day_number x v t
+        unfolding day_refused bad_day not_after
+        day-again h = rw (le-ltb 60000 t late, le-ltb t x.day early, ne_eqb (length (days x v)) 0 some, le-leb t _ h)
+
+        pub day-next : last_of 0 (days x v) < t → 0 ≡ day_number x v t
+        unfolding day_refused bad_day not_after
+        day-next h = rw (le-ltb 60000 t late, le-ltb t x.day early, ne_eqb (length (days x v)) 0 some, lt-leb t _ h)
 
 -- ---- numbers 9 and 10
 
@@ -137,17 +152,17 @@ module _ (b pool : List ℕ) (spare v t : ℕ) (list : List ℕ) where
   unfolding backup_bytes lent_number
   by-lent = buffers_order b pool (unless (spare_number b spare) inner) ∙ unless-or (buffers_number b pool) (spare_number b spare) inner
 
-  pub lent-refused : (k : ℕ) → k ≡ lent_number b pool spare → (k ≡ 0 → ⊥) → backup_bytes b pool spare v t list ≡ refused k
-  lent-refused k e n = by-lent ∙ rw (← e) (unless-refused k inner n)
+  pub lent-refused : (e : Refusal) → number e ≡ lent_number b pool spare → backup_bytes b pool spare v t list ≡ refused (number e)
+  lent-refused e h = by-lent ∙ unless-refusal e inner h
 
   module _ (e : lent_number b pool spare ≡ 0) where
-    pub number-refused : (k : ℕ) → backup_number (book_of b) v t list ≡ k → (k ≡ 0 → ⊥) → backup_bytes b pool spare v t list ≡ refused k
+    pub number-refused : (r : Refusal) → backup_number (book_of b) v t list ≡ number r → backup_bytes b pool spare v t list ≡ refused (number r)
     unfolding backup
-    number-refused k f n =
+    number-refused r f =
         by-lent ∙ rw (e, f)
         (ap (λ (o : Outcome Backed). and_then o (λ (d : Backed). accepted (backed_bytes d)))
-        (unless-refused k (and_then (run_changes v (until_next (book_of b) v) (changes list) (begun (book_of b) pool))
-        (λ (w : Work). accepted (closed (book_of b) v t (change_count list) w))) n))
+        (unless-number r (and_then (run_changes v (until_next (book_of b) v) (changes list) (begun (book_of b) pool))
+        (λ (w : Work). accepted (closed (book_of b) v t (change_count list) w)))))
 
     pub goes_on_lem : backup_number (book_of b) v t list ≡ 0 → backup_bytes b pool spare v t list ≡ goes_on (book_of b) pool v t list
     unfolding backup

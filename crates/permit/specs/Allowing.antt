@@ -1,5 +1,5 @@
 -- Numbers 1 to 10 of a backup, as the code checks them, and what it knows when none refuses.
-use Rattle.std.specs.Prelude.{ℕ, suc, ◌+◌, ◌≤◌, ◌<◌, ◌≡◌, Bool, ◌||◌, List, leb, ltb, length}
+use Rattle.std.specs.Prelude.{ℕ, suc, ◌+◌, ◌≤◌, ◌<◌, ◌≡◌, Bool, ◌||◌, List, leb, ltb, length, Result, Ok, Err}
 use Rattle.words.specs.Choice.{when◌then◌else◌}
 use Rattle.words.specs.Lent.{Lent}
 use Rattle.words.specs.Outcome.{Outcome, refused, accepted, and_then}
@@ -14,8 +14,8 @@ use Rattle.model.specs.OnBytes.{spare_number, BackedBytes, backed_bytes, backup_
 use Rattle.buffers.specs.Buffers.{or_number, buffers_number}
 use Rattle.placer.specs.Working.{Job}
 use Rattle.permit.specs.declared.allowing.Plan.{Plan}
-use Rattle.permit.specs.declared.allowing.Allowed.{Allowed}
-use Rattle.permit.specs.declared.allowing.Allowed.TheVariants.{Go, Refused}
+use Rattle.words.specs.Refusals.{number}
+use Rattle.words.specs.declared.refusals.Refusal.{Refusal}
 
 -- numbers 1 to 4
 unfoldable pub lent_number : List ℕ → List ℕ → ℕ → ℕ
@@ -24,6 +24,9 @@ lent_number b pool spare = or_number (buffers_number b pool) (spare_number b spa
 -- number 7
 unfoldable pub day_refused : Book → ℕ → ℕ → Bool
 day_refused x v t = bad_day x.day t || not_after (days x v) t
+
+abbrev pub day_number : Book → ℕ → ℕ → ℕ
+day_number x v t = when day_refused x v t then 7 else 0
 
 -- numbers 9 and 10, for n changes
 unfoldable pub room_number : Book → ℕ → ℕ
@@ -42,19 +45,15 @@ pub record Ready (b pool : List ℕ) (spare v t : ℕ) (list : List ℕ) (plan :
   pub spared : length b ≤ spare
   pub volume : v < volumes
   pub last : t ≤ 60000
-  pub job : Job (book_of b) pool list plan.shape
+  pub same : plan.list.bytes.now ≡ list
+  pub job : Job (book_of b) pool plan.list
   pub room : length (book_of b).slots < (book_of b).sizes.s
   pub until : plan.until ≡ until_next (book_of b) v
   pub number : plan.number ≡ suc (backup_count (book_of b) v)
   pub goes : backup_bytes b pool spare v t list ≡ goes_on (book_of b) pool v t list
 
-unfoldable pub AllowedBy : (book pool : Lent (List ℕ)) → (spare v t : ℕ) → Lent (List ℕ) → Allowed → Type 0
-AllowedBy book pool spare v t list (Go plan) =
+unfoldable pub AllowedBy : (book pool : Lent (List ℕ)) → (spare v t : ℕ) → Lent (List ℕ) → Result Plan Refusal → Type 0
+AllowedBy book pool spare v t list (Ok plan) =
     Ready book.entry.now pool.entry.now spare v t list.entry.now plan
-AllowedBy book pool spare v t list (Refused k) =
-    backup_bytes book.entry.now pool.entry.now spare v t list.entry.now ≡ refused k
-
--- document 01's number of an answer
-abbrev pub allowed_number : Allowed → ℕ
-allowed_number (Go plan) = 0
-allowed_number (Refused k) = k
+AllowedBy book pool spare v t list (Err e) =
+    backup_bytes book.entry.now pool.entry.now spare v t list.entry.now ≡ refused (number e)

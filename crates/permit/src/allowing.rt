@@ -1,122 +1,101 @@
 // Numbers 1 to 10 of a backup.
 ghost use Rattle.std.specs.Prelude.{◌≡◌};
 ghost use Rattle.book.specs.Layout.{told, Holds};
-ghost use Rattle.permit.specs.Allowing.{lent_number, day_refused, room_number, AllowedBy, allowed_number};
+ghost use Rattle.words.specs.Refusals.{refusal_number};
+ghost use Rattle.permit.specs.Allowing.{lent_number, day_number, room_number, AllowedBy};
 ghost use Rattle.permit.specs.Backups.{BackupsAre};
 
 use super::backups::{Backups, backups_of};
-use buffers::buffers_number;
 use fields::header;
-use pairs::{Checked, Shape};
+use list::ChangeList;
 use words::limits::{LAST_VOLUME, MAX_DAY};
-use words::refusals;
+use words::refusals::Refusal;
 
-// What a backup goes by once it is allowed: its list's numbers, the day until which it keeps what it replaces, and its
-// own number.
+// What a backup goes by once it is allowed: its list, the day until which it keeps what it replaces, and its own number.
 #[derive(Clone, Copy)]
-pub struct Plan {
-    pub shape: Shape,
+pub struct Plan<'a> {
+    pub list: ChangeList<'a>,
     pub until: u16,
     pub number: u16,
 }
 
-#[derive(Clone, Copy)]
-pub enum Allowed {
-    Go(Plan),
-    Refused(u16),
-}
-
-// Numbers 1 to 4, or 0.
-fn lent_number(book: &[u8], pool: &[u8], spare: usize) -> u16
-    ensures { result ≡ lent_number book.now pool.now spare }
+// Numbers 1 to 4.
+fn check_lent(book: &[u8], pool: &[u8], spare: usize) -> Result<(), Refusal>
+    ensures { refusal_number result ≡ lent_number book.now pool.now spare }
 {
-    let number = buffers_number(book, pool);
-    if number != 0 {
-        return number;
-    }
+    buffers::check(book, pool)?;
     if spare < book.len() {
-        return refusals::SHORT_SPARE;
+        return Err(Refusal::ShortSpare);
     }
-    0
+    Ok(())
 }
 
-// Number 7: whether the day can't be that of the volume's next slot.
-pub fn bad_day(book: &[u8], v: u16, day: u16, backups: Backups) -> bool
+// Number 7, where the day can't be that of the volume's next slot.
+pub fn check_day(book: &[u8], v: u16, day: u16, backups: Backups) -> Result<(), Refusal>
     requires holds { Holds book.now }
     requires backups_are { BackupsAre (told book) v backups }
-    ensures { result ≡ day_refused (told book.entry) v day }
+    ensures { refusal_number result ≡ day_number (told book.entry) v day }
 {
     if MAX_DAY < day {
-        return true;
+        return Err(Refusal::BadDay);
     }
     if day < header::day(book) {
-        return true;
+        return Err(Refusal::BadDay);
     }
     if backups.count == 0 {
-        return false;
+        return Ok(());
     }
-    day <= backups.last
+    if day <= backups.last {
+        return Err(Refusal::BadDay);
+    }
+    Ok(())
 }
 
-// Numbers 9 and 10 for so many changes, or 0.
-pub fn room(book: &[u8], changes: u16) -> u16
+// Numbers 9 and 10 for so many changes.
+pub fn check_room(book: &[u8], changes: u16) -> Result<(), Refusal>
     requires { Holds book.now }
-    ensures { result ≡ room_number (told book.entry) changes }
+    ensures { refusal_number result ≡ room_number (told book.entry) changes }
 {
     if header::slots(book) <= header::used_slots(book) {
-        return refusals::NO_SLOT;
+        return Err(Refusal::NoSlot);
     }
     if (header::journal(book) as usize) < header::used_records(book) as usize + changes as usize {
-        return refusals::NO_RECORD;
+        return Err(Refusal::NoRecord);
     }
-    0
+    Ok(())
 }
 
-pub fn allow(book: &[u8], pool: &[u8], spare: usize, v: u16, day: u16, list: &[u8]) -> Allowed
-    ensures { AllowedBy book pool spare v day list result }
+pub fn allow<'a>(
+    book: &[u8],
+    pool: &[u8],
+    spare: usize,
+    v: u16,
+    day: u16,
+    bytes: &'a [u8],
+) -> Result<Plan<'a>, Refusal>
+    ensures { AllowedBy book pool spare v day bytes result }
 {
-    let refusal = lent_number(book, pool, spare);
-    if refusal != 0 {
-        return Allowed::Refused(refusal);
-    }
+    check_lent(book, pool, spare)?;
     if LAST_VOLUME < v {
-        return Allowed::Refused(refusals::BAD_VOLUME);
+        return Err(Refusal::BadVolume);
     }
     let days = header::retention(book, v);
     if days == 0 {
-        return Allowed::Refused(refusals::BAD_VOLUME);
+        return Err(Refusal::BadVolume);
     }
     let backups = backups_of(book, v);
     if backups.retired {
-        return Allowed::Refused(refusals::BAD_VOLUME);
+        return Err(Refusal::BadVolume);
     }
-    if bad_day(book, v, day, backups) {
-        return Allowed::Refused(refusals::BAD_DAY);
-    }
-    let checked = pairs::check(list, header::cells(book));
-    let Checked::Good(shape) = checked else {
-        return Allowed::Refused(refusals::BAD_LIST);
-    };
-    let full = room(book, shape.changes);
-    if full != 0 {
-        return Allowed::Refused(full);
-    }
+    check_day(book, v, day, backups)?;
+    let list = ChangeList::open(bytes, header::cells(book)).ok_or(Refusal::BadList)?;
+    check_room(book, list.shape.changes)?;
     let last = backups.last;
     let until = last + days;
     let number = backups.count + 1;
-    Allowed::Go(Plan {
-        shape,
+    Ok(Plan {
+        list,
         until,
         number,
     })
-}
-
-// The number of a backup that isn't allowed.
-pub fn allowed_number(allowed: Allowed) -> u16
-    ensures { result ≡ allowed_number allowed }
-{
-    match allowed {
-        Allowed::Go(_) => 0,
-        Allowed::Refused(k) => k,
-    }
 }

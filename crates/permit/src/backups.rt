@@ -22,15 +22,13 @@ pub fn backups_of(book: &[u8], v: u16) -> Backups
     let mut count = 0;
     let mut last = 0;
     let mut retired = false;
-    let mut q = 0;
-    while q < used {
+    for q in 0..used {
         let slot = slot::slot_at(book, q);
         if slot.volume == v {
             count += 1;
             last = slot.day;
             retired = retired | slot.retire;
         }
-        q += 1;
     }
     Backups {
         count,

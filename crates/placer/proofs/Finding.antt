@@ -1,9 +1,10 @@
 -- The search for a free block, place by place, and what both searches of a backup find.
 use Prim.Native.Nat.{ℕ, ◌+◌, ◌<◌}
-use mathlib.Core.Path.{◌≡◌, refl, sym, ap, ◌∙◌}
+use mathlib.Core.Path.{◌≡◌, refl}
 use mathlib.Core.Bool.{true, false, ◌&&◌}
 use mathlib.Core.List.{List}
-use mathlib.Core.Option.{Option, none, some}
+use mathlib.Core.Option.{Option as Found, none, some}
+use Rattle.std.specs.Prelude.{Option, Some, MatchOption}
 use native.Mathlib.Omega.{arith}
 use lib.ListN.{length, take, drop, length-take, length-drop}
 use lib.Seq.{get_or-take, get_or-drop}
@@ -15,7 +16,6 @@ use Rattle.words.specs.declared.PBN.{PBN}
 use Rattle.book.specs.Book.{Entry, free_entry, entry_at, is_free}
 use Rattle.model.specs.Backup.{find_held, find_free}
 use Rattle.finder.specs.Answers.{found_of}
-use Rattle.finder.specs.declared.finding.Found.TheVariants.{At, Nothing}
 use Rattle.placer.specs.Search.{place_in}
 use Rattle.placer.proofs.SearchLaws.{place_up, place-below}
 
@@ -25,20 +25,16 @@ module _ (es : List Entry) (c : ℕ) where
   unfolding find_free
   free_search = rw (place_up is_free es c, place-below is_free es c)
 
-  pub free_up : (p : PBN) → found_of (place_in is_free es c (length es)) ≡ At p → At p ≡ found_of (find_free es c)
-  free_up p e = go (place_in is_free es c (length es)) refl e
+  -- `round` says what the search below the cursor found
+  pub free-found : (up found : Option PBN) (round : Type 0) → up ≡ found_of (place_in is_free es c (length es))
+      → (round → found ≡ found_of (place_in is_free es 0 c)) → MatchOption up round (λ p. found ≡ Some p)
+      → found ≡ found_of (find_free es c)
+  free-found up found round e below h = rw free_search (go (place_in is_free es c (length es)) (rw e at h))
     where
-      go : (o : Option ℕ) → place_in is_free es c (length es) ≡ o → found_of o ≡ At p → At p ≡ found_of (find_free es c)
-      go (some q) h k = sym k ∙ sym (ap found_of (free_search ∙ ap (λ (u : Option ℕ). or_else u (place_in is_free es 0 c)) h))
-      go none h k = cc
-
-  pub free-round : found_of (place_in is_free es c (length es)) ≡ Nothing → found_of (place_in is_free es 0 c) ≡ found_of (find_free es c)
-  free-round e = go (place_in is_free es c (length es)) refl e
-    where
-      go : (o : Option ℕ) → place_in is_free es c (length es) ≡ o → found_of o ≡ Nothing
-          → found_of (place_in is_free es 0 c) ≡ found_of (find_free es c)
-      go (some q) h k = cc
-      go none h k = sym (ap found_of (free_search ∙ ap (λ (u : Option ℕ). or_else u (place_in is_free es 0 c)) h))
+      go : (o : Found ℕ) → MatchOption (found_of o) round (λ p. found ≡ Some p)
+          → found ≡ found_of (or_else o (place_in is_free es 0 c))
+      go (some q) h = h
+      go none h = below h
 
 -- ---- what is found
 
@@ -53,7 +49,7 @@ pub found-free : (es : List Entry) (c p : ℕ) → find_free es c ≡ some p →
 unfolding find_free
 found-free es c p e = go (place_from c is_free (drop c es)) refl e
   where
-    go : (o : Option ℕ) → place_from c is_free (drop c es) ≡ o → or_else o (place_from 0 is_free (take c es)) ≡ some p
+    go : (o : Found ℕ) → place_from c is_free (drop c es) ≡ o → or_else o (place_from 0 is_free (take c es)) ≡ some p
         → (p < length es) × ((entry_at es p).held ≡ false)
     go (some q) h e' =
         let r = place_found is_free free_entry c (drop c es) q h in

@@ -19,9 +19,11 @@ use Rattle.words.proofs.Parts.{length_part}
 use Rattle.words.specs.Sections.{part}
 use Rattle.words.specs.Blocks.{print_size}
 use Rattle.runs.specs.Changes.{Change, change_count, change_at, prints_from}
-use Rattle.list.specs.Readers.{Whole}
+use Rattle.runs.proofs.Laws.{print-part}
+use Rattle.finder.specs.Answers.{found_of}
+use Rattle.std.specs.Prelude.{Option}
 use Rattle.list.proofs.ReaderLaws.{length-block}
-use Rattle.pairs.specs.declared.Shape.{Shape}
+use Rattle.list.specs.declared.ChangeList.{ChangeList}
 use Rattle.book.specs.Book.{Entry, Book, free_entry, entry_at, Sized}
 use Rattle.book.specs.Layout.{book_of, Holds, Is}
 use Rattle.book.specs.Next.{with_cursor, with_entries, with_entry, held_as}
@@ -69,28 +71,28 @@ PlacedAt x pool list i b taker t p t' b' taker' =
     × Holds b'
     × Standing x (book_of b') taker' t' (i + 1) i
 
-pub known : (x y : Book) (pool list taker : List ℕ) (shape : Shape) (t : Tally) (m i : ℕ) → Sized x
-    → Job x pool list shape → Standing x y taker t m i → m ≤ change_count list
-    → Known x.entries y.entries taker list pool (change_count list)
-known x y pool list taker shape t m i sx j s h = record {
+pub known : (x y : Book) (pool : List ℕ) (list : ChangeList) (taker : List ℕ) (t : Tally) (m i : ℕ) → Sized x
+    → Job x pool list → Standing x y taker t m i → m ≤ change_count list.bytes.now
+    → Known x.entries y.entries taker list.bytes.now pool (change_count list.bytes.now)
+known x y pool list taker t m i sx j s h = record {
   size = rw sx.entries j.size;
-  whole = length-block list shape j.whole;
+  whole = length-block list.bytes.now list.shape list.whole;
   marks = λ p f e. let z = s.marks p f e in omega arith;
 }
 
-module _ (x : Book) (pool list : List ℕ) (shape : Shape) (t : Tally) (i : ℕ) (b taker : List ℕ)
-    (sx : Sized x) (hb : Holds b) (j : Job x pool list shape) (h : i < change_count list) (s : Standing x (book_of b) taker t i i) where
+module _ (x : Book) (pool : List ℕ) (list : ChangeList) (t : Tally) (i : ℕ) (b taker : List ℕ)
+    (sx : Sized x) (hb : Holds b) (j : Job x pool list) (h : i < change_count list.bytes.now) (s : Standing x (book_of b) taker t i i) where
   abbrev y : Book
   y = book_of b
 
   abbrev c : Change
-  c = change_at list i
+  c = change_at list.bytes.now i
 
   abbrev w : Work
-  w = work_of x pool list (book_of b) taker t
+  w = work_of x pool list.bytes.now (book_of b) taker t
 
-  k : Known x.entries (book_of b).entries taker list pool (change_count list)
-  k = known x y pool list taker shape t i i sx j s (omega arith)
+  k : Known x.entries (book_of b).entries taker list.bytes.now pool (change_count list.bytes.now)
+  k = known x y pool list taker t i i sx j s (omega arith)
 
   bound : (p : ℕ) → p < length (book_of b).entries → (p < x.sizes.n) × (p < length x.entries)
   bound p l =
@@ -100,24 +102,24 @@ module _ (x : Book) (pool list : List ℕ) (shape : Shape) (t : Tally) (i : ℕ)
       (omega arith, omega arith)
 
   -- the bytes of a block that is found
-  pub found-bytes : (p : ℕ) → find_held (book_of b).entries (change_at list i).print ≡ some p
-      → block_at (pool_now x.entries (book_of b).entries taker list pool) p ≡ held_block x.entries taker list pool p
+  pub found-bytes : (p : ℕ) → find_held (book_of b).entries (change_at list.bytes.now i).print ≡ some p
+      → block_at (pool_now x.entries (book_of b).entries taker list.bytes.now pool) p ≡ held_block x.entries taker list.bytes.now pool p
   unfolding block_now
   found-bytes p e =
       let f = found-held y.entries c.print p e in
-      block-now x.entries y.entries taker list pool (change_count list) k p (bound p f.0).1 ∙ rw f.1
+      block-now x.entries y.entries taker list.bytes.now pool (change_count list.bytes.now) k p (bound p f.0).1 ∙ rw f.1
 
-  pub twelve_by : find_held (book_of b).entries (change_at list i).print ≡ none → find_free (book_of b).entries (book_of b).cursor ≡ none
-      → place (change_at list i) (work_of x pool list (book_of b) taker t) ≡ refused 12
+  pub twelve_by : find_held (book_of b).entries (change_at list.bytes.now i).print ≡ none → find_free (book_of b).entries (book_of b).cursor ≡ none
+      → place (change_at list.bytes.now i) (work_of x pool list.bytes.now (book_of b) taker t) ≡ refused 12
   twelve_by e f = place_twelve c w e f
 
-  pub eleven_by : (p : ℕ) → find_held (book_of b).entries (change_at list i).print ≡ some p
-      → same (held_block x.entries taker list pool p) (change_at list i).block ≡ false
-      → place (change_at list i) (work_of x pool list (book_of b) taker t) ≡ refused 11
+  pub eleven_by : (p : ℕ) → find_held (book_of b).entries (change_at list.bytes.now i).print ≡ some p
+      → same (held_block x.entries taker list.bytes.now pool p) (change_at list.bytes.now i).block ≡ false
+      → place (change_at list.bytes.now i) (work_of x pool list.bytes.now (book_of b) taker t) ≡ refused 11
   eleven_by p e f = place_eleven c w p e (rw (found-bytes p e) f)
 
-  pub found-by : (q : PBN) → find_held (book_of b).entries (change_at list i).print ≡ some q.0
-      → same (held_block x.entries taker list pool q.0) (change_at list i).block ≡ true → PlacedAt x pool list i b taker t q t b taker
+  pub found-by : (q : PBN) → find_held (book_of b).entries (change_at list.bytes.now i).print ≡ some q.0
+      → same (held_block x.entries taker list.bytes.now pool q.0) (change_at list.bytes.now i).block ≡ true → PlacedAt x pool list.bytes.now i b taker t q t b taker
   found-by q e f = (
     place_found c w q.0 e (rw (found-bytes q.0 e) f),
     refl,
@@ -141,14 +143,14 @@ module _ (x : Book) (pool list : List ℕ) (shape : Shape) (t : Tally) (i : ℕ)
 
   module _ (p : ℕ) (l : p < length (book_of b).entries) (free : (entry_at (book_of b).entries p).held ≡ false) where
     abbrev y' : Book
-    y' = taken_book (change_at list i).print p (book_of b)
+    y' = taken_book (change_at list.bytes.now i).print p (book_of b)
 
-    taken_here : (entry_at (taken_book (change_at list i).print p (book_of b)).entries p).held ≡ true
+    taken_here : (entry_at (taken_book (change_at list.bytes.now i).print p (book_of b)).entries p).held ≡ true
     unfolding with_cursor with_entries held_as
     taken_here = ap (λ (e : Entry). e.held) (get_or-set_same y.entries p (held_as c.print (entry_at y.entries p)) free_entry l)
 
     taken-other : (q : ℕ) → (q ≡ p → ⊥)
-        → (entry_at (taken_book (change_at list i).print p (book_of b)).entries q).held
+        → (entry_at (taken_book (change_at list.bytes.now i).print p (book_of b)).entries q).held
         ≡ (entry_at (book_of b).entries q).held
     unfolding with_cursor with_entries
     taken-other q d = ap (λ (e : Entry). e.held) (get_or-set_other y.entries p q (held_as c.print (entry_at y.entries p)) free_entry d)
@@ -163,19 +165,19 @@ module _ (x : Book) (pool list : List ℕ) (shape : Shape) (t : Tally) (i : ℕ)
     fits : p < length taker
     fits = let n = hb.n in let e = hb.sized.entries in let m = s.table in omega arith
 
-    taken-pool : with_block (pool_now x.entries (book_of b).entries taker list pool) p (change_at list i).block
-        ≡ pool_now x.entries (taken_book (change_at list i).print p (book_of b)).entries (set taker p i) list pool
+    taken-pool : with_block (pool_now x.entries (book_of b).entries taker list.bytes.now pool) p (change_at list.bytes.now i).block
+        ≡ pool_now x.entries (taken_book (change_at list.bytes.now i).print p (book_of b)).entries (set taker p i) list.bytes.now pool
     taken-pool =
-        taken-now x.entries y.entries y'.entries taker list pool (change_count list) k p i (bound p l).1 fits
-        (length-block list shape j.whole i h) free-old taken_here taken-other
+        taken-now x.entries y.entries y'.entries taker list.bytes.now pool (change_count list.bytes.now) k p i (bound p l).1 fits
+        (length-block list.bytes.now list.shape list.whole i h) free-old taken_here taken-other
 
-    taken-work : take_block (change_at list i) p (work_of x pool list (book_of b) taker t)
-        ≡ work_of x pool list (taken_book (change_at list i).print p (book_of b)) (set taker p i)
+    taken-work : take_block (change_at list.bytes.now i) p (work_of x pool list.bytes.now (book_of b) taker t)
+        ≡ work_of x pool list.bytes.now (taken_book (change_at list.bytes.now i).print p (book_of b)) (set taker p i)
         (record { taken = t.taken + 1; touched = t.touched })
     unfolding take_block
     taken-work = rw (taken-pool, add-one)
 
-    taken-standing : Standing x (taken_book (change_at list i).print p (book_of b)) (set taker p i)
+    taken-standing : Standing x (taken_book (change_at list.bytes.now i).print p (book_of b)) (set taker p i)
         (record { taken = t.taken + 1; touched = t.touched }) (i + 1) i
     unfolding with_cursor with_entries
     taken-standing = record {
@@ -202,10 +204,10 @@ module _ (x : Book) (pool list : List ℕ) (shape : Shape) (t : Tally) (i : ℕ)
             let d = eqb-false q p z in
             rw (get_or-set_other taker p q i 0 d) (let m = s.marks q f (sym (taken-other q d) ∙ e) in omega arith)
 
-  pub taken-by : (q : PBN) (b' taker' : List ℕ) → find_held (book_of b).entries (change_at list i).print ≡ none
+  pub taken-by : (q : PBN) (b' taker' : List ℕ) → find_held (book_of b).entries (change_at list.bytes.now i).print ≡ none
       → find_free (book_of b).entries (book_of b).cursor ≡ some q.0
-      → Is b' (taken_book (change_at list i).print q.0 (book_of b)) → taker' ≡ set taker q.0 i
-      → PlacedAt x pool list i b taker t q (record { taken = t.taken + 1; touched = t.touched }) b' taker'
+      → Is b' (taken_book (change_at list.bytes.now i).print q.0 (book_of b)) → taker' ≡ set taker q.0 i
+      → PlacedAt x pool list.bytes.now i b taker t q (record { taken = t.taken + 1; touched = t.touched }) b' taker'
   unfolding with_cursor with_entries
   taken-by q b' taker' e f is m =
       let r = found-free y.entries y.cursor q.0 f in
@@ -217,12 +219,21 @@ module _ (x : Book) (pool list : List ℕ) (shape : Shape) (t : Tally) (i : ℕ)
         taken-standing q.0 r.0 r.1,
       )
 
+-- the lookup by a part of the fingerprints is the lookup of a change
+pub sought : (b list f : List ℕ) (n i : ℕ) {r : Option PBN} → r ≡ found_of (find_held (book_of b).entries (part f (i * print_size) print_size))
+    → f ≡ part list (prints_from list) (n * print_size) → i < n
+    → found_of (find_held (book_of b).entries (change_at list i).print) ≡ r
+sought b list f n i e g h =
+    sym (e ∙ ap (λ (f : List ℕ). found_of (find_held (book_of b).entries f))
+    (ap (λ (f : List ℕ). part f (i * print_size) print_size) g ∙ print-part list n i h))
+
 -- the fingerprints are a part of the list
-pub prints-size : (list : List ℕ) (shape : Shape) → Whole list shape
-    → length (part list (prints_from list) (shape.changes * print_size)) ≡ shape.changes * print_size
+pub prints-size : (list : ChangeList)
+    → length (part list.bytes.now (prints_from list.bytes.now) (list.shape.changes * print_size)) ≡ list.shape.changes * print_size
 unfolding prints_from
-prints-size list shape w =
-    let e = w.size in let f = w.pairs in length_part list (prints_from list) (shape.changes * print_size) (omega arith)
+prints-size list =
+    let e = list.whole.size in let f = list.whole.pairs in
+    length_part list.bytes.now (prints_from list.bytes.now) (list.shape.changes * print_size) (omega arith)
 
 -- the two writers of a taken block
 pub taken_is : (f : List ℕ) (p k : ℕ) (b b₁ b₂ : List ℕ) → k ≡ suc p % (book_of b).sizes.n

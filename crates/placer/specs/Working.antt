@@ -3,8 +3,7 @@ use Rattle.std.specs.Prelude.{ℕ, ◌+◌, ◌*◌, ◌≤◌, ◌<◌, ◌≡�
 use Rattle.words.specs.Choice.{when◌then◌else◌}
 use Rattle.words.specs.Lists.{all, joined, up_from}
 use Rattle.runs.specs.Changes.{change_count, change_at, list_number}
-use Rattle.list.specs.Readers.{Whole}
-use Rattle.pairs.specs.declared.Shape.{Shape}
+use Rattle.list.specs.declared.ChangeList.{ChangeList}
 use Rattle.book.specs.Book.{Entry, Book, entry_at}
 use Rattle.book.specs.Form.{pbn_ok}
 use Rattle.model.specs.Pool.{pool_size, block_at}
@@ -32,11 +31,10 @@ abbrev pub work_of : Book → List ℕ → List ℕ → Book → List ℕ → Ta
 work_of x pool list y taker t = work_at y (pool_now x.entries y.entries taker list pool) t
 
 -- what holds from the first change to the last
-pub record Job (x : Book) (pool list : List ℕ) (shape : Shape) : Type 0 where
+pub record Job (x : Book) (pool : List ℕ) (list : ChangeList) : Type 0 where
   pub size : length pool ≡ pool_size x.sizes.n
-  pub whole : Whole list shape
-  pub good : list_number x.sizes.l list ≡ 0
-  pub room : length x.records + change_count list ≤ x.sizes.j
+  pub good : list_number x.sizes.l list.bytes.now ≡ 0
+  pub room : length x.records + change_count list.bytes.now ≤ x.sizes.j
 
 -- what holds of the working copy y after i changes, of which blocks were taken by the first m
 pub record Standing (x y : Book) (taker : List ℕ) (t : Tally) (m i : ℕ) : Type 0 where
@@ -52,9 +50,8 @@ pub record Standing (x y : Book) (taker : List ℕ) (t : Tally) (m i : ℕ) : Ty
   pub touched : t.touched ≤ 2 * i
 
 -- what pass 2 needs of the two books and the marks
-pub record Storable (x y : Book) (pool list : List ℕ) (shape : Shape) (taker : List ℕ) : Type 0 where
+pub record Storable (x y : Book) (pool : List ℕ) (list : ChangeList) (taker : List ℕ) : Type 0 where
   pub size : length pool ≡ pool_size x.sizes.n
-  pub whole : Whole list shape
   pub sizes : y.sizes ≡ x.sizes
   pub marks : (p : ℕ) → (entry_at x.entries p).held ≡ false → (entry_at y.entries p).held ≡ true
-      → get_or taker p 0 < shape.changes
+      → get_or taker p 0 < list.shape.changes

@@ -1,4 +1,4 @@
-// Lists of calls in bytes (docs/FORMAT.md), checked as a whole and then played through the exported functions; their
+// Lists of calls in bytes (docs/FORMAT.md), checked as a whole and then played through the calls of `engine`; their
 // answers are written in bytes.
 
 #![tactic(auto)]

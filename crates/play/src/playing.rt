@@ -12,7 +12,8 @@ use answers::{
     answer_retire,
 };
 use heads::checking::{check, room_of};
-use heads::head::{BACKUP, COLLECT, ENROL, HEAD_SIZE, READ, RESTORE, RETIRE, call_end, data_size};
+use heads::head::{HEAD_SIZE, call_end, data_size, kind_of};
+use heads::kind::Kind;
 use words::u16_at;
 
 // The backup at `at`, whose change list is its data.
@@ -57,30 +58,21 @@ fn play_call(
     requires { (is_call calls.now at ≡ true) × (to + longest_reply (call_at calls.now at) ≤ length answers.old) }
     ensures { DidLent (lent book) (lent pool) (lent spare) (call_at calls.now at) (lent answers) to result }
 {
-    let kind = calls[at];
     let a = u16_at(calls, at + 2);
     let b = u16_at(calls, at + 4);
     let c = u16_at(calls, at + 6);
-    if kind == ENROL {
-        return answer_enrol(book, a, b, answers, to);
+    match kind_of(calls, at) {
+        Kind::Enrol => answer_enrol(book, a, b, answers, to),
+        Kind::Backup => play_backup(book, pool, spare, calls, at, answers, to),
+        Kind::Collect => answer_collect(book, a, answers, to),
+        Kind::Read => answer_read(book, pool, a, b, c, answers, to),
+        Kind::Audit => answer_audit(book, answers, to),
+        Kind::Restore => {
+            let d = u16_at(calls, at + 8);
+            answer_restore(book, pool, a, b, c, d, answers, to)
+        }
+        Kind::Retire => answer_retire(book, spare, a, b, answers, to),
     }
-    if kind == BACKUP {
-        return play_backup(book, pool, spare, calls, at, answers, to);
-    }
-    if kind == COLLECT {
-        return answer_collect(book, a, answers, to);
-    }
-    if kind == READ {
-        return answer_read(book, pool, a, b, c, answers, to);
-    }
-    if kind == RESTORE {
-        let d = u16_at(calls, at + 8);
-        return answer_restore(book, pool, a, b, c, d, answers, to);
-    }
-    if kind == RETIRE {
-        return answer_retire(book, spare, a, b, answers, to);
-    }
-    answer_audit(book, answers, to)
 }
 
 // All calls of a list. It answers how many bytes their answers have.
@@ -114,9 +106,8 @@ pub fn aspen_play(
 ) -> u16
     ensures { PlayedLent (lent book) (lent pool) (lent spare) calls (lent answers) (lent written) result }
 {
-    let number = check(calls, room_of(answers.len()));
-    if number != 0 {
-        return number;
+    if let Err(refusal) = check(calls, room_of(answers.len())) {
+        return u16::from(refusal);
     }
     *written = play_list(book, pool, spare, calls, answers) as u32;
     0

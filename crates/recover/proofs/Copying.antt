@@ -51,18 +51,16 @@ numbers_of a l = get_or a l 0
 pub record Copied (pool a old : List ℕ) (first end : ℕ) (out : List ℕ) (at l : ℕ) : Type 0 where
   pub left : Left old 0 (blocks_from pool (numbers_of a) first (end - first)) out at (blocks_from pool (numbers_of a) l (end - l))
   pub kept : length out ≡ length old
-  pub from : first ≤ l
-  pub within : l ≤ end
 
 module _ {pool a old : List ℕ} {first end : ℕ} (i : Inside pool a first end (length old)) where
   pub copied_none : Copied pool a old first end old 0 first
   copied_none =
       let n = length-blocks pool (numbers_of a) first (end - first) (λ l h k. i.blocks l h (omega (arith, i.order))) in
-      record { left = left-all (omega (arith, i.fits)); kept = refl; from = omega arith; within = i.order }
+      record { left = left-all (omega (arith, i.fits)); kept = refl }
 
-  module _ {out : List ℕ} {at l : ℕ} (c : Copied pool a old first end out at l) (h : l < end) where
+  module _ {out : List ℕ} {at l : ℕ} (c : Copied pool a old first end out at l) (g : first ≤ l) (h : l < end) where
     block-length : length (block_at pool (numbers_of a l)) ≡ block_size
-    block-length = length_part pool (numbers_of a l * block_size) block_size (i.blocks l c.from h)
+    block-length = length_part pool (numbers_of a l * block_size) block_size (i.blocks l g h)
 
     pub copied-room : at + length (taken (numbers_of a l * block_size) pool) ≤ length out
     copied-room =
@@ -80,8 +78,6 @@ module _ {pool a old : List ℕ} {first end : ℕ} (i : Inside pool a first end 
               left-more c.left block (blocks_from pool (numbers_of a) (l + 1) (end - (l + 1))) (next pool (numbers_of a) l end h)
               (record { list = s'; place = omega (arith, block-length) });
           kept = ap length s' ∙ length-sets out at block ∙ c.kept;
-          from = omega (arith, c.from);
-          within = omega arith;
         }
 
     -- the offset past block l fits

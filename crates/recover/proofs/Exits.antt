@@ -8,6 +8,7 @@ use native.Mathlib.Omega.{arith}
 use lib.ListN.{length, get_or}
 use lib.Seq.{sets}
 use borrow.Author.Tests.{eqb-false, not-true}
+use Rattle.std.specs.Prelude.{Ok}
 use Rattle.words.specs.Blocks.{block_size, unmapped}
 use Rattle.words.specs.Lists.{each}
 use Rattle.words.specs.Outcome.{Outcome, unless}
@@ -31,7 +32,6 @@ use Rattle.buffers.specs.Buffers.{buffers_number}
 use Rattle.buffers.proofs.BuffersLaws.{buffers_order}
 use Rattle.imager.specs.Imaging.{image_size, Imaged}
 use Rattle.keeping.specs.Kept.{KeptIs}
-use Rattle.keeping.specs.declared.Kept.TheVariants.{Before, Refused}
 use Rattle.recover.specs.Running.{mapped_at, Inside, blocks_from, run_from, restored_from}
 use Rattle.recover.proofs.Copying.{length-blocks}
 use Rattle.recover.proofs.RunningLaws.{run-gone, run_mapped}
@@ -110,16 +110,15 @@ module _ (b pool : List ℕ) (v k first many : ℕ) (out : List ℕ) where
     unfolding restore_bytes
     past = buffers_order b pool (restore x pool v k first many (length out)) ∙ rw e
 
-    pub restored_unkept : (n : ℕ) → KeptIs x v k (Refused n) → Written whole out n out
+    pub restored_unkept : {n : ℕ} → kept_number x v k ≡ n → (n ≡ 0 → ⊥) → Written whole out n out
     unfolding restore
-    restored_unkept n h =
+    restored_unkept h n =
         rw past
         (written-refused (kept_number x v k)
-        (unless (run_number x.sizes.l first many (length out)) (reads_from (read x pool v k) first many)) out
-        (sym h.0) (λ z. omega (arith, h.1)))
+        (unless (run_number x.sizes.l first many (length out)) (reads_from (read x pool v k) first many)) out (sym h) n)
 
     -- the image of k, by the slots after it
-    same : (at : ℕ) → KeptIs x v k (Before at) → restore x pool v k first many (length out)
+    same : (at : ℕ) → KeptIs x v k (Ok at) → restore x pool v k first many (length out)
         ≡ restored_from x pool v at first many (length out)
     unfolding restored_from run_from blocks_from
     same at h =
@@ -128,6 +127,6 @@ module _ (b pool : List ℕ) (v k first many : ℕ) (out : List ℕ) where
         (ap (λ (im : ℕ → ℕ). unless (run_number x.sizes.l first many (length out)) (run_from pool im first many))
         (λ i l. image-from x v at l k h.1 i))
 
-    pub restored_kept : (at : ℕ) {r : ℕ} {out' : List ℕ} → KeptIs x v k (Before at)
+    pub restored_kept : (at : ℕ) {r : ℕ} {out' : List ℕ} → KeptIs x v k (Ok at)
         → Written (restored_from x pool v at first many (length out)) out r out' → Written whole out r out'
     restored_kept at h w = rw (past, same at h) w

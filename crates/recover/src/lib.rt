@@ -15,25 +15,26 @@ ghost use Rattle.imager.specs.Imaging.{image_size};
 ghost use Rattle.recover.specs.Promises.{Restored};
 ghost use Rattle.recover.specs.Running.{mapped_at, Inside, blocks_from, restored_from};
 ghost use Rattle.words.specs.Lent.{lent};
+ghost use Rattle.words.specs.Refusals.{refusal_number};
 
-use buffers::buffers_number;
 use fields::header;
 use imager::{Image, image_of};
-use keeping::{Kept, kept_backup};
+use keeping::kept_backup;
 use words::limits::MAX_LBNS;
-use words::{BLOCK_SIZE, UNMAPPED, put_bytes, refusals};
+use words::refusals::Refusal;
+use words::{BLOCK_SIZE, UNMAPPED, put_bytes};
 
-// Number 21, or 0, where the output has `room` bytes.
-fn run_number(cells: u16, first: u16, many: u16, room: usize) -> u16
-    ensures { result ≡ run_number cells first many room }
+// Number 21, where the output has `room` bytes.
+fn check_run(cells: u16, first: u16, many: u16, room: usize) -> Result<(), Refusal>
+    ensures { refusal_number result ≡ run_number cells first many room }
 {
     if (first as u32) + (many as u32) > (cells as u32) {
-        return refusals::BAD_RUN;
+        return Err(Refusal::BadRun);
     }
     if room < (many as usize) * BLOCK_SIZE {
-        return refusals::BAD_RUN;
+        return Err(Refusal::BadRun);
     }
-    0
+    Ok(())
 }
 
 // Whether the image has a block at each LBN from `first` up to `end`. It looks at all of them, which the compiler does
@@ -43,11 +44,8 @@ fn all_mapped(image: &Image, first: u16, end: u16) -> bool
     ensures { result ≡ each (mapped_at image.now) first end }
 {
     let mut good = true;
-    let mut l = first;
-    while l < end {
-        let p = image[l as usize];
-        good = good & (p != UNMAPPED);
-        l += 1;
+    for p in &image[first as usize..end as usize] {
+        good = good & (*p != UNMAPPED);
     }
     good
 }
@@ -59,13 +57,11 @@ fn copy_run(pool: &[u8], image: &Image, first: u16, end: u16, out: &mut [u8])
         (blocks_from pool.now (λ l. get_or image.now l 0) first (end - first)) }
 {
     let mut at = 0;
-    let mut lbn = first;
-    while lbn < end {
+    for lbn in first..end {
         let from = (image[lbn as usize] as usize) * BLOCK_SIZE;
         let to = from + BLOCK_SIZE;
         put_bytes(out, at, &pool[from..to]);
         at += BLOCK_SIZE;
-        lbn += 1;
     }
 }
 
@@ -79,24 +75,21 @@ fn restore_before(
     first: u16,
     many: u16,
     out: &mut [u8],
-) -> u16
+) -> Result<(), Refusal>
     requires form_facts { FormFacts book.now }
     requires volume_lt_volumes { (volume < volumes) × (length pool.now ≡ pool_size (told book).sizes.n) }
     ensures { Written (restored_from (told book.entry) pool.now volume at first many
-        (length out.old)) out.old result out.new }
+        (length out.old)) out.old (refusal_number result) out.new }
 {
-    let refusal = run_number(header::cells(book), first, many, out.len());
-    if refusal != 0 {
-        return refusal;
-    }
+    check_run(header::cells(book), first, many, out.len())?;
     let mut image = [0u16; MAX_LBNS];
     image_of(book, volume, at, &mut image);
     let end = first + many;
     if !all_mapped(&image, first, end) {
-        return refusals::NOT_MAPPED;
+        return Err(Refusal::NotMapped);
     }
     copy_run(pool, &image, first, end, out);
-    0
+    Ok(())
 }
 
 // The output's first 512 × many bytes become what the reads one by one give.
@@ -108,15 +101,10 @@ pub fn restore(
     first: u16,
     many: u16,
     out: &mut [u8],
-) -> u16
-    ensures { Restored book pool volume number first many (lent out) result }
+) -> Result<(), Refusal>
+    ensures { Restored book pool volume number first many (lent out) (refusal_number result) }
 {
-    let refusal = buffers_number(book, pool);
-    if refusal != 0 {
-        return refusal;
-    }
-    match kept_backup(book, volume, number) {
-        Kept::Before(at) => restore_before(book, pool, volume, at, first, many, out),
-        Kept::Refused(n) => n,
-    }
+    buffers::check(book, pool)?;
+    let at = kept_backup(book, volume, number)?;
+    restore_before(book, pool, volume, at, first, many, out)
 }

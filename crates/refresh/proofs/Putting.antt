@@ -1,5 +1,5 @@
 -- The pass that puts each block's expiry, block by block, and what it leaves where the table is the journal's.
-use Prim.Native.Nat.{ℕ, zero, suc, ◌+◌, ◌≤◌, ◌<◌}
+use Prim.Native.Nat.{ℕ, zero, suc, ◌+◌, ◌<◌}
 use mathlib.Core.Path.{◌≡◌, refl, sym, ap, ◌∙◌}
 use mathlib.Core.List.{List, [], ◌∷◌}
 use native.Mathlib.Numerals.{add-one}
@@ -73,34 +73,25 @@ module _ (a : List ℕ) (x : Book) where
       ∙ ap (λ (k : ℕ). tab k (λ q. expiry_as (number_at a q) (entry_at x.entries q))) n)
 
 -- the pass from book b₀ has come to block p
-pub record Putting (b₀ a b : List ℕ) (p : ℕ) : Type 0 where
-  pub inside : p ≤ (book_of b₀).sizes.n
-  pub len : length b ≡ length b₀
-  pub book : Is b (put_to a (book_of b₀) p)
-
-pub putting_inside : {b₀ a b : List ℕ} {p : ℕ} → Putting b₀ a b p → p < (book_of b₀).sizes.n → p < (book_of b).sizes.n
-putting_inside {b₀} {a} {p = p} s h = rw (s.book.book, put-n a (book_of b₀) p) h
+abbrev pub Putting : List ℕ → List ℕ → List ℕ → ℕ → Type 0
+Putting b₀ a b p = Is b (put_to a (book_of b₀) p)
 
 module _ {b₀ : List ℕ} (a : List ℕ) (h : Holds b₀) where
   pub putting_start : Putting b₀ a b₀ 0
-  putting_start = record { inside = omega arith; len = refl; book = record { holds = h; book = put-none a (book_of b₀) } }
+  putting_start = record { holds = h; book = put-none a (book_of b₀) }
 
   module _ {b : List ℕ} {p : ℕ} (s : Putting b₀ a b p) where
-    pub putting_more : {b' : List ℕ} → p < (book_of b₀).sizes.n → Is b' (with_expiry a p (book_of b))
-        → length b' ≡ length b → Putting b₀ a b' (p + 1)
-    putting_more l i n =
-        record {
-          inside = omega arith;
-          len = n ∙ s.len;
-          book =
-              is_same (ap (with_expiry a p) s.book.book
-              ∙ put-more a (book_of b₀) p (omega (arith, h.sized.entries))) i;
-        }
+    pub putting_inside : p < (book_of b₀).sizes.n → p < (book_of b).sizes.n
+    putting_inside l = rw (s.book, put-n a (book_of b₀) p) l
+
+    pub putting_more : {b' : List ℕ} → p < (book_of b₀).sizes.n → Is b' (with_expiry a p (book_of b)) → Putting b₀ a b' (p + 1)
+    putting_more l i =
+        is_same (ap (with_expiry a p) s.book ∙ put-more a (book_of b₀) p (omega (arith, h.sized.entries))) i
 
     pub putting_end : p ≡ (book_of b₀).sizes.n → Is b (with_expiries a (book_of b₀))
     putting_end e =
         let n = h.sized.entries in
-        is_same (ap (put_to a (book_of b₀)) (e ∙ sym n) ∙ put_all a (book_of b₀) n) s.book
+        is_same (ap (put_to a (book_of b₀)) (e ∙ sym n) ∙ put_all a (book_of b₀) n) s
 
 -- ---- from the journal's table
 

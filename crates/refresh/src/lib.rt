@@ -6,7 +6,6 @@ ghost use Rattle.std.specs.Prelude.{◌<◌};
 ghost use Rattle.book.specs.FormFacts.{BookParts};
 ghost use Rattle.book.specs.Layout.{book_of, Holds, Is};
 ghost use Rattle.model.specs.Convert.{refreshed};
-ghost use Rattle.due.specs.Pool.{OfPool};
 ghost use Rattle.refresh.specs.Expiring.{with_expiry, with_expiries};
 
 use due::expiries::gather;
@@ -17,7 +16,7 @@ use words::limits::{MAX_BLOCKS, Table};
 
 // The block's expiry becomes its number in the table, whatever it was.
 fn put_expiry(book: &mut [u8], expiries: &Table, p: PBN)
-    requires holds { Holds book.old × OfPool expiries.now }
+    requires holds { Holds book.old }
     requires p_bound { p.0 < (book_of book.old).sizes.n }
     ensures { Is book.new (with_expiry expiries.now p.0 (book_of book.old)) }
 {
@@ -26,14 +25,12 @@ fn put_expiry(book: &mut [u8], expiries: &Table, p: PBN)
 }
 
 fn put_expiries(book: &mut [u8], expiries: &Table)
-    requires { Holds book.old × OfPool expiries.now }
+    requires { Holds book.old }
     ensures { Is book.new (with_expiries expiries.now (book_of book.old)) }
 {
     let n = blocks(book);
-    let mut p: u16 = 0;
-    while p < n {
+    for p in 0..n {
         put_expiry(book, expiries, PBN(p));
-        p += 1;
     }
 }
 

@@ -26,11 +26,12 @@ use Rattle.model.specs.JournalAt.{taken_sound}
 use Rattle.due.specs.Lasts.{due_in}
 use Rattle.due.proofs.ExpiryLaws.{Raising, raising_start, raising_slot, raising_journal}
 use Rattle.due.proofs.SlotReads.{records-read}
-use Rattle.replay.specs.Records.{Notes, notes, RecordsTaken}
+use Rattle.replay.specs.Records.{RecordsTaken}
 use Rattle.replay.specs.Stamps.{firsts_sound}
 use Rattle.replay.proofs.StampLaws.{firsts-past, firsts-fresh, stamped-low, length-stamped}
 use Rattle.replay.specs.Table.{row_size, cells_after, cells_before, table_after, table_befores}
 use Rattle.replay.specs.Slots.{SlotTaken, JournalTaken}
+use Rattle.replay.specs.declared.notes.Notes.{Notes}
 use Rattle.replay.specs.declared.records.Taking.{Taking}
 
 module _ (x : Book) (b : Backup) where
@@ -95,12 +96,11 @@ pub record SlotsLeft (x : Book) (c₀ e₀ : List ℕ) (good : Bool) (n : Notes)
       ≡ (good && (table_befores n.cells (drop q (journal x)) && all (taken_sound x) (drop q (journal x))))
   pub cells : table_after c₀ (journal x) ≡ table_after n.cells (drop q (journal x))
   pub expiries : Raising e₀ (λ p. until_in x p (journal x)) n.expiries (λ p. until_in x p (drop q (journal x)))
-  pub long : length n.stamps ≡ row_size
   pub low : (l : ℕ) → get_or n.stamps l 0 ≤ q
 
 module _ (x : Book) (c₀ e₀ : List ℕ) where
-  pub slots-start : (s : List ℕ) → length s ≡ row_size → ((l : ℕ) → get_or s l 0 ≤ 0) → SlotsLeft x c₀ e₀ true (notes c₀ e₀ s) 0
-  slots-start s long low = record { test = refl; cells = refl; expiries = raising_start; long = long; low = low }
+  pub slots-start : (s : List ℕ) → ((l : ℕ) → get_or s l 0 ≤ 0) → SlotsLeft x c₀ e₀ true (record { cells = c₀; expiries = e₀; stamps = s }) 0
+  slots-start s low = record { test = refl; cells = refl; expiries = raising_start; low = low }
 
   pub slots-more : {good good' : Bool} {n n' : Notes} (q : ℕ) → q < length x.slots
       → SlotTaken x (backup_at x q) (q + 1) good' n n' → SlotsLeft x c₀ e₀ good n q
@@ -119,7 +119,6 @@ module _ (x : Book) (c₀ e₀ : List ℕ) where
             ∙ sym (and_assoc good (same && taken_sound x b) (befores && all (taken_sound x) rest)));
         cells = w.cells ∙ rw (e, s.cells);
         expiries = raising_slot x q h s.expiries w.expiries;
-        long = s.long;
         low = s.low;
       }
 

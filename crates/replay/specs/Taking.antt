@@ -5,29 +5,29 @@ use Rattle.words.specs.Lent.{Lent}
 use Rattle.book.specs.Book.{Book, rec_at}
 use Rattle.book.specs.Layout.{told}
 use Rattle.model.specs.JournalAt.{backup_at}
-use Rattle.replay.specs.Records.{Notes, notes, RecordTaken, RecordsTaken}
+use Rattle.replay.specs.Records.{RecordTaken, RecordsTaken}
 use Rattle.replay.specs.Slots.{SlotTaken, JournalTaken}
+use Rattle.replay.specs.declared.notes.Notes.{Notes}
 use Rattle.replay.specs.declared.records.Taking.{Taking}
 
-module _ (book cells expiries : Lent (List ℕ)) where
+module _ (book : Lent (List ℕ)) (notes : Lent Notes) where
   abbrev x : Book
   x = told book.entry
 
-  module _ (stamps : Lent (List ℕ)) where
-    abbrev before : Notes
-    before = notes cells.entry.now expiries.entry.now stamps.entry.now
+  abbrev before : Notes
+  before = notes.entry.now
 
-    abbrev after : Notes
-    after = notes cells.exit.now expiries.exit.now stamps.exit.now
+  abbrev after : Notes
+  after = notes.exit.now
 
-    abbrev pub TakesRecord : Taking → ℕ → Bool → Type 0
-    TakesRecord t q r = RecordTaken x t (rec_at x.records q) r before after
+  abbrev pub TakesRecord : Taking → ℕ → Bool → Type 0
+  TakesRecord t q r = RecordTaken x t (rec_at x.records q) r before after
 
-    abbrev pub TakesRecords : Taking → ℕ → ℕ → Bool → Type 0
-    TakesRecords t from end r = RecordsTaken x t (slice from end x.records) r before after
+  abbrev pub TakesRecords : Taking → ℕ → ℕ → Bool → Type 0
+  TakesRecords t from end r = RecordsTaken x t (slice from end x.records) r before after
 
-    abbrev pub TakesSlot : ℕ → Bool → Type 0
-    TakesSlot q r = SlotTaken x (backup_at x q) (q + 1) r before after
+  abbrev pub TakesSlot : ℕ → Bool → Type 0
+  TakesSlot q r = SlotTaken x (backup_at x q) (q + 1) r before after
 
   abbrev pub TakesJournal : Bool → Type 0
-  TakesJournal r = JournalTaken x r cells.entry.now expiries.entry.now cells.exit.now expiries.exit.now
+  TakesJournal r = JournalTaken x r before.cells before.expiries after.cells after.expiries

@@ -6,7 +6,7 @@ ghost use Rattle.replay.specs.Table.{row_size};
 use fields::offsets::VOLUMES;
 use journal::record::Record;
 use words::LBN;
-use words::limits::MAX_LBNS;
+use words::limits::{MAX_LBNS, Table};
 
 // The cells of all maps, a row for each volume.
 pub const CELLS: usize = VOLUMES * MAX_LBNS;
@@ -15,6 +15,14 @@ pub type Cells = [u16; CELLS];
 
 // A stamp for each LBN.
 pub type Stamps = [u16; MAX_LBNS];
+
+// What is noted on the way.
+#[derive(Drop)]
+pub struct Notes {
+    pub cells: Cells,
+    pub expiries: Table,
+    pub stamps: Stamps,
+}
 
 // Whether the cell was the change's before. It is the change's after now.
 pub fn replace(cells: &mut Cells, v: u16, change: Record) -> bool

@@ -8,12 +8,10 @@ ghost use Rattle.book.specs.Layout.{told};
 ghost use Rattle.book.specs.FormFacts.{FormFacts};
 ghost use Rattle.model.specs.Audit.{cell_sound};
 ghost use Rattle.due.specs.Lasts.{LastsAre};
-ghost use Rattle.due.specs.Pool.{OfPool};
 ghost use Rattle.replay.specs.Taking.{TakesRecord, TakesRecords, TakesSlot, TakesJournal};
-ghost use Rattle.replay.specs.Table.{row_size};
 ghost use Rattle.words.specs.Lent.{lent};
 
-use super::notes::{Cells, Stamps, meet, replace};
+use super::notes::{Notes, meet, replace};
 use due::expiries::raise;
 use due::lasts::{Lasts, due_day};
 use entries::entry::is_held;
@@ -22,7 +20,7 @@ use fields::header::used_slots;
 use fields::offsets::VOLUMES;
 use journal::record::record_at;
 use journal::slot::slot_at;
-use words::limits::{MAX_LBNS, Table};
+use words::limits::MAX_LBNS;
 use words::{PBN, UNMAPPED};
 
 // What the records of a backup are taken with: the last day that keeps what they replace, whether that day is past, and
@@ -46,63 +44,39 @@ fn unmapped_or_held(book: &[u8], p: PBN) -> bool
     is_held(book, p)
 }
 
-fn take_record(
-    book: &[u8],
-    cells: &mut Cells,
-    expiries: &mut Table,
-    stamps: &mut Stamps,
-    t: Taking,
-    q: u16,
-) -> bool
+fn take_record(book: &[u8], notes: &mut Notes, t: Taking, q: u16) -> bool
     requires form_facts { FormFacts book.now }
-    requires volume_lt_volumes { (t.volume < volumes) × OfPool expiries.old × (q < length (told book).records) }
-    ensures { TakesRecord book (lent cells) (lent expiries) (lent stamps) t q result }
+    requires volume_lt_volumes { (t.volume < volumes) × (q < length (told book).records) }
+    ensures { TakesRecord book (lent notes) t q result }
 {
     let change = record_at(book, q);
-    let same = replace(cells, t.volume, change);
-    raise(expiries, change.before, t.until);
-    let met = meet(stamps, change.lbn, t.stamp);
+    let same = replace(&mut notes.cells, t.volume, change);
+    raise(&mut notes.expiries, change.before, t.until);
+    let met = meet(&mut notes.stamps, change.lbn, t.stamp);
     let held = unmapped_or_held(book, change.before);
     same & (t.past | met | held)
 }
 
 // The records of one backup, from one up to another.
-fn take_records(
-    book: &[u8],
-    cells: &mut Cells,
-    expiries: &mut Table,
-    stamps: &mut Stamps,
-    t: Taking,
-    from: u16,
-    end: u16,
-) -> bool
+fn take_records(book: &[u8], notes: &mut Notes, t: Taking, from: u16, end: u16) -> bool
     requires form_facts { FormFacts book.now }
-    requires volume_lt_volumes { (t.volume < volumes) × OfPool expiries.old × (from ≤ end) × (end ≤ length (told book).records) }
-    ensures { TakesRecords book (lent cells) (lent expiries) (lent stamps) t from end result }
+    requires volume_lt_volumes { (t.volume < volumes) × (from ≤ end) × (end ≤ length (told book).records) }
+    ensures { TakesRecords book (lent notes) t from end result }
 {
     let mut good = true;
-    let mut q = from;
-    while q < end {
-        let taken = take_record(book, cells, expiries, stamps, t, q);
+    for q in from..end {
+        let taken = take_record(book, notes, t, q);
         good = good & taken;
-        q += 1;
     }
     good
 }
 
 // The backup of slot q, whose stamp is q + 1.
-fn take_slot(
-    book: &[u8],
-    cells: &mut Cells,
-    expiries: &mut Table,
-    stamps: &mut Stamps,
-    lasts: &mut Lasts,
-    q: u16,
-) -> bool
+fn take_slot(book: &[u8], notes: &mut Notes, lasts: &mut Lasts, q: u16) -> bool
     requires form_facts { FormFacts book.now }
-    requires q_in_bounds { (q < length (told book).slots) × OfPool expiries.old × LastsAre (told book) q lasts.old }
-    requires stamps_len { (length stamps.old ≡ row_size) × ((l : ℕ) → get_or stamps.old l 0 ≤ q) }
-    ensures takes_slot { TakesSlot book (lent cells) (lent expiries) (lent stamps) q result }
+    requires q_in_bounds { (q < length (told book).slots) × LastsAre (told book) q lasts.old }
+    requires stamps_low { (l : ℕ) → get_or notes.old.stamps l 0 ≤ q }
+    ensures takes_slot { TakesSlot book (lent notes) q result }
     ensures lasts_are { LastsAre (told book.entry) (q + 1) lasts.new }
 {
     let slot = slot_at(book, q);
@@ -117,24 +91,21 @@ fn take_slot(
         past,
         stamp,
     };
-    take_records(book, cells, expiries, stamps, t, slot.first, end)
+    take_records(book, notes, t, slot.first, end)
 }
 
-// The whole journal, replayed in the cells and gathered in the expiries.
-pub fn take_journal(book: &[u8], cells: &mut Cells, expiries: &mut Table) -> bool
-    requires form_facts { FormFacts book.now }
-    requires of_pool { OfPool expiries.old }
-    ensures { TakesJournal book (lent cells) (lent expiries) result }
+// The whole journal, replayed in the cells and gathered in the expiries. The stamps start at 0, whatever was there.
+pub fn take_journal(book: &[u8], notes: &mut Notes) -> bool
+    requires { FormFacts book.now }
+    ensures { TakesJournal book (lent notes) result }
 {
-    let mut stamps = [0u16; MAX_LBNS];
+    notes.stamps = [0u16; MAX_LBNS];
     let mut lasts = [0u16; VOLUMES];
     let used = used_slots(book);
     let mut good = true;
-    let mut q = 0;
-    while q < used {
-        let taken = take_slot(book, cells, expiries, &mut stamps, &mut lasts, q);
+    for q in 0..used {
+        let taken = take_slot(book, notes, &mut lasts, q);
         good = good & taken;
-        q += 1;
     }
     good
 }

@@ -1,13 +1,17 @@
 -- Laws of a read's checks: each way out of the code gives the number, or the block, that the definitions give.
-use Prim.Native.Nat.{ℕ, zero, suc, ◌≤◌, ◌<◌}
-use mathlib.Core.Path.{◌≡◌, refl, ◌∙◌}
+use Prim.Native.Nat.{ℕ, ◌≤◌, ◌<◌}
+use mathlib.Core.Path.{◌≡◌, refl, sym, ◌∙◌}
 use mathlib.Core.Bool.{Bool, true, false, ◌||◌}
 use native.Mathlib.Omega.{arith}
 use lib.Dec.{leb, ltb, eqb}
 use borrow.Author.Tests.{eq-eqb, ne_eqb, eqb-false, le-leb, lt-leb}
+use Rattle.std.specs.Prelude.{Ok, Err}
 use Rattle.words.specs.Blocks.{unmapped}
 use Rattle.words.specs.Choice.{when◌then◌else◌}
 use Rattle.words.specs.Outcome.{refused, accepted, unless}
+use Rattle.words.specs.Refusals.{number}
+use Rattle.words.specs.declared.refusals.Refusal.{Refusal}
+use Rattle.words.proofs.Refused.{unless-refusal}
 use Rattle.book.specs.Book.{Book, retention_of}
 use Rattle.model.specs.Days.{kept}
 use Rattle.model.specs.Journal.{backup_count, days, no_volume}
@@ -16,7 +20,6 @@ use Rattle.model.specs.Kept.{kept_number}
 use Rattle.model.specs.Read.{image, read_number}
 use Rattle.claims.proofs.kept.ReadNumbers.{numbers, numbers-then}
 use Rattle.keeping.specs.Kept.{KeptIs}
-use Rattle.keeping.specs.declared.Kept.TheVariants.{Before, Refused}
 use Rattle.restorer.specs.Reading.{mapped_number, sought_from, sought_in}
 
 -- ---- numbers 17 and 18
@@ -45,14 +48,10 @@ sought_order x v k lbn =
     numbers-then (no_volume x v) (eqb k 0 || ltb (backup_count x v) k) (kept (days x v) (retention_of x v) x.day k) _
     (accepted (image x v k lbn))
 
-pub sought_refused : (x : Book) (v k lbn n : ℕ) → KeptIs x v k (Refused n) → sought_in x v k lbn ≡ refused n
-sought_refused x v k lbn n h = sought_order x v k lbn ∙ rw h.0 (go n h.1)
-  where
-    go : (n : ℕ) → 0 < n → unless n (unless (mapped_number x lbn (image x v k lbn)) (accepted (image x v k lbn))) ≡ refused n
-    go zero l = absurd (omega arith)
-    go (suc n) l = refl
+pub sought_refused : (x : Book) (v k lbn : ℕ) (e : Refusal) → KeptIs x v k (Err e) → sought_in x v k lbn ≡ refused (number e)
+sought_refused x v k lbn e h = sought_order x v k lbn ∙ unless-refusal e _ (sym h)
 
-pub sought_before : (x : Book) (v k lbn at : ℕ) → KeptIs x v k (Before at) → sought_in x v k lbn ≡ sought_from x v at lbn
+pub sought_before : (x : Book) (v k lbn at : ℕ) → KeptIs x v k (Ok at) → sought_in x v k lbn ≡ sought_from x v at lbn
 unfolding sought_from image image_from
 sought_before x v k lbn at h = sought_order x v k lbn ∙ rw (h.0, h.1)
 

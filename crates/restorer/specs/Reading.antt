@@ -2,15 +2,13 @@
 use Rattle.std.specs.Prelude.{ℕ, List, leb, eqb}
 use Rattle.words.specs.Blocks.{unmapped}
 use Rattle.words.specs.Choice.{when◌then◌else◌}
-use Rattle.words.specs.Outcome.{Outcome, refused, accepted, unless}
+use Rattle.words.specs.Outcome.{Outcome, accepted, unless}
 use Rattle.book.specs.Book.{Book}
 use Rattle.book.specs.Layout.{book_of}
 use Rattle.book.specs.Form.{form_number}
-use Rattle.model.specs.OnBytes.{number_of, pool_number}
+use Rattle.model.specs.OnBytes.{pool_number}
 use Rattle.model.specs.Read.{image, read_number}
 use Rattle.model.specs.JournalAt.{image_from}
-use Rattle.restorer.specs.declared.read.Sought.{Sought}
-use Rattle.restorer.specs.declared.read.Sought.TheVariants.{At, Refused}
 
 -- 17: "The LBN is L or more"; 18: "The LBN is unmapped in it", where p is what the image has there
 unfoldable pub mapped_number : Book → ℕ → ℕ → ℕ
@@ -20,15 +18,6 @@ mapped_number x lbn p =
     0
 
 -- ---- the search
-
--- the block that it found, or the number of the refusal
-abbrev pub sought_of : Sought → Outcome ℕ
-sought_of (At p) = accepted p.0
-sought_of (Refused n) = refused n
-
--- 0 where a block was found
-abbrev pub sought_number : Sought → ℕ
-sought_number s = number_of (sought_of s)
 
 -- in the volume's backups from slot `at` on, else the current map
 unfoldable pub sought_from : Book → ℕ → ℕ → ℕ → Outcome ℕ

@@ -7,10 +7,12 @@ use native.Mathlib.Omega.{arith}
 use lib.Dec.{leb, ltb}
 use lib.ListN.{length}
 use borrow.Author.Tests.{lt-ltb, le-ltb, eq-eqb, ne_eqb, leb-false, ltb-false}
-use Rattle.words.proofs.Accepted.{unless-refused}
+use Rattle.words.proofs.Refused.{unless-number, unless-refusal}
 use Rattle.words.proofs.Tests.{or_neither}
 use Rattle.words.specs.Choice.{when◌then◌else◌}
 use Rattle.words.specs.Outcome.{Outcome, refused, accepted, and_then, unless}
+use Rattle.words.specs.Refusals.{number}
+use Rattle.words.specs.declared.refusals.Refusal.{Refusal}
 use Rattle.book.specs.Book.{Book, retention_of}
 use Rattle.book.specs.Layout.{book_of}
 use Rattle.book.specs.Form.{form_number}
@@ -20,8 +22,8 @@ use Rattle.model.specs.Backup.{until_next}
 use Rattle.model.specs.Retire.{Retired, mapped_cells, retire_number, retired, retire}
 use Rattle.model.specs.OnBytes.{spare_number, RetiredBytes, retired_bytes, retire_bytes}
 use Rattle.claims.proofs.kept.DayLaws.{good-day, last-before}
-use Rattle.permit.specs.Allowing.{day_refused, room_number}
-use Rattle.permit.proofs.AllowLaws.{then-then}
+use Rattle.permit.specs.Allowing.{day_refused, day_number, room_number}
+use Rattle.permit.proofs.AllowLaws.{first, day-taken, then-then}
 use Rattle.retirer.specs.Clearing.{clear_all}
 use Rattle.retirer.specs.Allowing.{goes_on}
 
@@ -47,19 +49,19 @@ module _ (x : Book) (v t : ℕ) where
         unfolding no_living no_volume
         there = rw (le-ltb 7 v high, ne_eqb (retention_of x v) 0 own, living)
 
-        pub seven : day_refused x v t ≡ true → retire_number x v t ≡ 7
+        pub seven : (day_number x v t ≡ 0 → ⊥) → retire_number x v t ≡ day_number x v t
         unfolding retire_number day_refused
-        seven e = rw (there, e)
+        seven n = rw there (first (day_refused x v t) 7 _ n)
 
-        pub by-room : day_refused x v t ≡ false → retire_number x v t ≡ room_number x (mapped_cells x v)
+        pub by-room : day_number x v t ≡ 0 → retire_number x v t ≡ room_number x (mapped_cells x v)
         unfolding retire_number day_refused room_number
-        by-room e = rw (there, e)
+        by-room e = rw (there, day-taken x v t e)
 
   -- the day of the volume's last slot is a day
-  pub last_in : day_refused x v t ≡ false → until_next x v ≤ 60000 + retention_of x v
+  pub last_in : day_number x v t ≡ 0 → until_next x v ≤ 60000 + retention_of x v
   unfolding day_refused
   last_in e =
-      let d = or_neither (bad_day x.day t) (not_after (days x v) t) e in
+      let d = or_neither (bad_day x.day t) (not_after (days x v) t) (day-taken x v t e) in
       omega (arith, ((good-day x.day t).0 d.0).1, last-before (days x v) t d.1)
 
 -- 9 and 10 for n cells, where n is how many there are
@@ -83,9 +85,9 @@ module _ (b : List ℕ) (spare v t : ℕ) where
   abbrev inner : Outcome RetiredBytes
   inner = and_then (retire (book_of b) v t) (λ (d : Retired). accepted (retired_bytes d))
 
-  pub form-refused : (k : ℕ) → k ≡ form_number b → (k ≡ 0 → ⊥) → retire_bytes b spare v t ≡ refused k
+  pub form-refused : (e : Refusal) → number e ≡ form_number b → retire_bytes b spare v t ≡ refused (number e)
   unfolding retire_bytes
-  form-refused k e n = rw (← e) (unless-refused k (unless (spare_number b spare) inner) n)
+  form-refused e h = unless-refusal e (unless (spare_number b spare) inner) h
 
   module _ (f : form_number b ≡ 0) where
     pub spare-refused : spare < length b → retire_bytes b spare v t ≡ refused 4
@@ -97,13 +99,13 @@ module _ (b : List ℕ) (spare v t : ℕ) where
       unfolding retire_bytes spare_number
       by_number = rw (f, le-ltb _ _ l)
 
-      pub number-refused : (k : ℕ) → retire_number (book_of b) v t ≡ k → (k ≡ 0 → ⊥) → retire_bytes b spare v t ≡ refused k
+      pub number-refused : (r : Refusal) → retire_number (book_of b) v t ≡ number r → retire_bytes b spare v t ≡ refused (number r)
       unfolding retire
-      number-refused k e n =
+      number-refused r e =
           by_number ∙ rw e
           (ap (λ (o : Outcome Retired). and_then o (λ (d : Retired). accepted (retired_bytes d)))
-          (unless-refused k (and_then (clear_all v (until_next (book_of b) v) (book_of b))
-          (λ (y : Book). accepted (retired (book_of b) v t y))) n))
+          (unless-number r (and_then (clear_all v (until_next (book_of b) v) (book_of b))
+          (λ (y : Book). accepted (retired (book_of b) v t y)))))
 
       pub goes_on_lem : retire_number (book_of b) v t ≡ 0 → retire_bytes b spare v t ≡ goes_on (book_of b) v t
       unfolding retire

@@ -1,21 +1,25 @@
 -- Laws of clearing: how many cells are left to clear, what a cell's clearing leaves, and one cell after the other.
 use Prim.Native.Nat.{ℕ, suc, ◌+◌, ◌-◌, ◌≤◌, ◌<◌}
 use mathlib.Core.Path.{◌≡◌, refl, sym, ap, subst, ◌∙◌}
-use mathlib.Core.Bool.{Bool, true, false, not, ◌&&◌}
+use mathlib.Core.Bool.{Bool, true, false, not}
 use mathlib.Core.List.{List, [], ◌∷◌}
 use native.Mathlib.Numerals.{add-one}
 use native.Mathlib.Omega.{arith}
 use lib.Dec.{eqb}
 use lib.ListN.{length, get_or, set, drop, length-append, drop_of_length-le}
 use lib.Seq.{drop-cons, drop-set-lt, get_or-set_same}
-use borrow.Author.Tests.{eqb-true, eqb-false, eq-eqb, ne_eqb, not-false, not-true}
+use borrow.Author.Tests.{eqb-true, eqb-false, eq-eqb, ne_eqb}
+use Rattle.std.specs.Prelude.{⊤, Ok, Err}
 use Rattle.words.specs.Blocks.{unmapped}
 use Rattle.words.proofs.Accepted.{accepted-same, unless-accepted}
+use Rattle.words.proofs.Refused.{unless-refusal}
 use Rattle.words.proofs.Places.{all_get_d, all_set}
 use Rattle.words.specs.Lent.{Lent}
 use Rattle.words.specs.Lists.{all, count_of, up_from}
 use Rattle.words.specs.Outcome.{refused, accepted}
-use Rattle.book.specs.Book.{Sizes, Book, volumes, entry_at, cell_at}
+use Rattle.words.specs.Refusals.{number}
+use Rattle.words.specs.declared.refusals.Refusal.{Refusal}
+use Rattle.book.specs.Book.{Sizes, Book, volumes, cell_at}
 use Rattle.book.specs.Form.{pbn_ok}
 use Rattle.book.specs.Layout.{book_of, told, Holds, Is}
 use Rattle.book.specs.Next.{with_entries, with_maps, with_cell, with_record}
@@ -23,7 +27,8 @@ use Rattle.book.proofs.Holding.{is-then}
 use Rattle.claims.proofs.form.Bounds.{unmapped-ok}
 use Rattle.model.specs.Backup.{lower}
 use Rattle.model.specs.Retire.{mapped_cells, clear_number, cleared, clear_cell, clear_cells}
-use Rattle.retirer.specs.Clearing.{clear_of, clear_all, ClearedBy, AllClearedBy}
+use Rattle.mover.specs.Stepping.{zero_number}
+use Rattle.retirer.specs.Clearing.{clear_of, clear_all, ClearedBy}
 
 -- ---- the mapped cells from an LBN on
 
@@ -61,19 +66,19 @@ module _ (v until lbn before : ℕ) (x : Book) where
   clear_none e = rw (eq-eqb before unmapped e)
 
   module _ (n : before ≡ unmapped → ⊥) where
-    pub clear_zero : not (not (eqb before unmapped) && eqb (entry_at x.entries before).count 0) ≡ false
-        → clear_cell v until lbn before x ≡ refused 13
-    unfolding clear_cell clear_number
-    clear_zero e =
-        let f = rw (ne_eqb before unmapped n) at e in
-        rw (ne_eqb before unmapped n, not-false (eqb (entry_at x.entries before).count 0) f)
+    -- step 3's number 13 is that of clearing
+    same_zero : zero_number x.entries before ≡ clear_number x before
+    unfolding clear_number
+    same_zero = rw (ne_eqb before unmapped n)
 
-    pub clear-goes : not (not (eqb before unmapped) && eqb (entry_at x.entries before).count 0) ≡ true
-        → clear_cell v until lbn before x ≡ accepted (cleared v until lbn before x)
-    unfolding clear_cell clear_number
-    clear-goes e =
-        let f = rw (ne_eqb before unmapped n) at e in
-        rw (ne_eqb before unmapped n, not-true (eqb (entry_at x.entries before).count 0) f)
+    pub clear_zero : (e : Refusal) → number e ≡ zero_number x.entries before → clear_cell v until lbn before x ≡ refused (number e)
+    unfolding clear_cell
+    clear_zero e h =
+        rw (ne_eqb before unmapped n) (unless-refusal e (accepted (cleared v until lbn before x)) (h ∙ same_zero))
+
+    pub clear-goes : zero_number x.entries before ≡ 0 → clear_cell v until lbn before x ≡ accepted (cleared v until lbn before x)
+    unfolding clear_cell
+    clear-goes e = rw (ne_eqb before unmapped n, sym same_zero ∙ e)
 
   -- what the writers leave
   pub cleared-is : {b₁ b₂ b₃ : List ℕ} → Is b₁ (with_entries (lower until before x.entries) x)
@@ -85,37 +90,31 @@ module _ (v until lbn before : ℕ) (x : Book) where
       is-then (with_record (record { lbn = lbn; before = before; after = unmapped })) (is-then (with_cell v lbn unmapped) i j) k
 
 -- the ways out, with the cell's block as the code has it
-module _ (work : Lent (List ℕ)) (v lbn until before : ℕ) (e : before ≡ cell_at (told work.entry).maps v lbn) where
+module _ (work : Lent (List ℕ)) (v lbn until before : ℕ) {u : ⊤} (e : before ≡ cell_at (told work.entry).maps v lbn) where
   abbrev x : Book
   x = told work.entry
 
   of-cell : clear_of v until lbn (told work.entry) ≡ clear_cell v until lbn before (told work.entry)
   of-cell = ap (λ (p : ℕ). clear_cell v until lbn p x) (sym e)
 
-  pub by-none : work.exit.now ≡ work.entry.now → Holds work.entry.now → before ≡ unmapped → ClearedBy work v lbn until true
+  pub by-none : work.exit.now ≡ work.entry.now → Holds work.entry.now → before ≡ unmapped → ClearedBy work v lbn until (Ok u)
   unfolding ClearedBy
   by-none same h n = rw same (of-cell ∙ clear_none v until lbn before x n, h)
 
   module _ (n : before ≡ unmapped → ⊥) where
-    pub by_zero : not (not (eqb before unmapped) && eqb (entry_at (told work.entry).entries before).count 0) ≡ false
-        → ClearedBy work v lbn until false
+    pub by_zero : (r : Refusal) → number r ≡ zero_number (told work.entry).entries before → ClearedBy work v lbn until (Err r)
     unfolding ClearedBy
-    by_zero z = of-cell ∙ clear_zero v until lbn before x n z
+    by_zero r z = of-cell ∙ clear_zero v until lbn before x n r z
 
-    pub by_clearing : not (not (eqb before unmapped) && eqb (entry_at (told work.entry).entries before).count 0) ≡ true
+    pub by_clearing : zero_number (told work.entry).entries before ≡ 0
         → {b₁ b₂ : List ℕ} → Is b₁ (with_entries (lower until before (told work.entry).entries) (told work.entry))
         → Is b₂ (with_cell v lbn unmapped (book_of b₁))
         → Is work.exit.now (with_record (record { lbn = lbn; before = before; after = unmapped }) (book_of b₂))
-        → ClearedBy work v lbn until true
+        → ClearedBy work v lbn until (Ok u)
     unfolding ClearedBy
     by_clearing g i j k =
         let c = cleared-is v until lbn before x i j k in
         (of-cell ∙ clear-goes v until lbn before x n g ∙ ap (λ (y : Book). accepted y) (sym c.book), c.holds)
-
--- what a cell's clearing answered, once it is known which answer it is
-pub cleared_as : (work : Lent (List ℕ)) (v lbn until : ℕ) {r r' : Bool} → r ≡ r' → ClearedBy work v lbn until r
-    → ClearedBy work v lbn until r'
-cleared_as work v lbn until e h = rw e at h
 
 -- what a cleared cell leaves as it was, and how many records and mapped cells there are then
 pub record Stays (x : Book) (v lbn : ℕ) (y : Book) : Type 0 where
@@ -183,7 +182,6 @@ from_next i n h = let e : n - i ≡ suc (n - (i + 1)) = omega arith in rw (e, ad
 
 -- the cells below lbn are cleared
 pub record Clearing (b₀ : List ℕ) (v until : ℕ) (b : List ℕ) (lbn : ℕ) : Type 0 where
-  pub inside : lbn ≤ (book_of b₀).sizes.l
   pub len : length b ≡ length b₀
   pub holds : Holds b
   pub sizes : (book_of b).sizes ≡ (book_of b₀).sizes
@@ -199,7 +197,6 @@ module _ (b₀ : List ℕ) (v until : ℕ) where
       let l = (book_of b₀).sizes.l in
       let e : l ≡ l - 0 = omega arith in
       record {
-        inside = omega arith;
         len = refl;
         holds = h;
         sizes = refl;
@@ -228,7 +225,6 @@ module _ (b₀ : List ℕ) (v until : ℕ) where
           let k = clear_stays v until lbn (book_of b) (omega (arith, s.holds.sized.maps, hv)) within (book_of b') e in
           let j = ap (λ (z : Sizes). z.j) k.sizes in
           record {
-            inside = omega arith;
             len = l ∙ s.len;
             holds = h;
             sizes = k.sizes ∙ s.sizes;
@@ -238,25 +234,8 @@ module _ (b₀ : List ℕ) (v until : ℕ) where
             run = s.run ∙ next ∙ rw e;
           }
 
-      pub clearing_stop : clear_of v until lbn (book_of b) ≡ refused 13 → clear_all v until (book_of b₀) ≡ refused 13
-      clearing_stop e = s.run ∙ next ∙ rw e
+      pub clearing_stop : (k : ℕ) → clear_of v until lbn (book_of b) ≡ refused k → clear_all v until (book_of b₀) ≡ refused k
+      clearing_stop k e = s.run ∙ next ∙ rw e
 
     pub clearing_end : (book_of b₀).sizes.l ≤ lbn → clear_all v until (book_of b₀) ≡ accepted (book_of b)
     clearing_end h = let e : (book_of b₀).sizes.l - lbn ≡ 0 = omega arith in s.run ∙ rw e
-
--- what the clearing of all cells answered, once it is known which answer it is; between plain values, where all are cleared
-abbrev pub ClearedAt : (b b₁ : List ℕ) → (v until : ℕ) → Type 0
-ClearedAt b b₁ v until =
-    (clear_all v until (book_of b) ≡ accepted (book_of b₁))
-    × Holds b₁
-    × ((book_of b₁).sizes ≡ (book_of b).sizes)
-    × ((book_of b₁).slots ≡ (book_of b).slots)
-
-module _ (work : Lent (List ℕ)) (v until : ℕ) {r : Bool} where
-  pub all-stopped : r ≡ false → AllClearedBy work v until r → clear_all v until (told work.entry) ≡ refused 13
-  unfolding AllClearedBy
-  all-stopped e h = rw e at h
-
-  pub all-cleared : r ≡ true → AllClearedBy work v until r → ClearedAt work.entry.now work.exit.now v until
-  unfolding AllClearedBy
-  all-cleared e h = let g = rw e at h in (g.run, g.holds, g.sizes, g.slots)

@@ -1,5 +1,5 @@
 -- Numbers 1 to 10 of a retirement, as the code checks them, and what it knows when none refuses.
-use Rattle.std.specs.Prelude.{ℕ, ◌+◌, ◌≤◌, ◌<◌, ◌≡◌, List, length}
+use Rattle.std.specs.Prelude.{ℕ, ◌+◌, ◌≤◌, ◌<◌, ◌≡◌, List, length, Result, Ok, Err}
 use Rattle.words.specs.Lent.{Lent}
 use Rattle.words.specs.Outcome.{Outcome, refused, accepted, and_then}
 use Rattle.book.specs.Book.{volumes, Book}
@@ -10,8 +10,8 @@ use Rattle.model.specs.Retire.{mapped_cells, retired}
 use Rattle.model.specs.OnBytes.{RetiredBytes, retired_bytes, retire_bytes}
 use Rattle.retirer.specs.Clearing.{clear_all}
 use Rattle.retirer.specs.declared.allowing.Plan.{Plan}
-use Rattle.retirer.specs.declared.allowing.Allowed.{Allowed}
-use Rattle.retirer.specs.declared.allowing.Allowed.TheVariants.{Go, Refused}
+use Rattle.words.specs.Refusals.{number}
+use Rattle.words.specs.declared.refusals.Refusal.{Refusal}
 
 -- what a retirement comes to when none of numbers 1 to 10 refuses it
 abbrev pub goes_on : Book → ℕ → ℕ → Outcome RetiredBytes
@@ -28,11 +28,6 @@ pub record Ready (b : List ℕ) (spare v t : ℕ) (plan : Plan) : Type 0 where
   pub cells : plan.cells ≡ mapped_cells (book_of b) v
   pub goes : retire_bytes b spare v t ≡ goes_on (book_of b) v t
 
-unfoldable pub AllowedBy : Lent (List ℕ) → (spare v t : ℕ) → Allowed → Type 0
-AllowedBy book spare v t (Go plan) = Ready book.entry.now spare v t plan
-AllowedBy book spare v t (Refused k) = retire_bytes book.entry.now spare v t ≡ refused k
-
--- document 01's number of an answer
-abbrev pub allowed_number : Allowed → ℕ
-allowed_number (Go plan) = 0
-allowed_number (Refused k) = k
+unfoldable pub AllowedBy : Lent (List ℕ) → (spare v t : ℕ) → Result Plan Refusal → Type 0
+AllowedBy book spare v t (Ok plan) = Ready book.entry.now spare v t plan
+AllowedBy book spare v t (Err e) = retire_bytes book.entry.now spare v t ≡ refused (number e)

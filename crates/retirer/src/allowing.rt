@@ -1,14 +1,12 @@
 // Whether a volume can be retired, before its first cell: numbers 1 to 10, and what it goes by.
-ghost use Rattle.std.specs.Prelude.{◌≡◌};
-ghost use Rattle.retirer.specs.Allowing.{AllowedBy, allowed_number};
+ghost use Rattle.retirer.specs.Allowing.{AllowedBy};
 
 use super::clearing::mapped_cells;
 use fields::header;
-use form::form_number;
-use permit::allowing::{bad_day, room};
+use permit::allowing::{check_day, check_room};
 use permit::backups::backups_of;
 use words::limits::LAST_VOLUME;
-use words::refusals;
+use words::refusals::Refusal;
 
 // What a retirement goes by once it is allowed: the day until which the blocks of its cells are kept, and how many cells
 // are mapped.
@@ -18,53 +16,28 @@ pub struct Plan {
     pub cells: u16,
 }
 
-#[derive(Clone, Copy)]
-pub enum Allowed {
-    Go(Plan),
-    Refused(u16),
-}
-
-pub fn allow(book: &[u8], spare: usize, v: u16, day: u16) -> Allowed
+pub fn allow(book: &[u8], spare: usize, v: u16, day: u16) -> Result<Plan, Refusal>
     ensures { AllowedBy book spare v day result }
 {
-    let refusal = form_number(book);
-    if refusal != 0 {
-        return Allowed::Refused(refusal);
-    }
+    form::check(book)?;
     if spare < book.len() {
-        return Allowed::Refused(refusals::SHORT_SPARE);
+        return Err(Refusal::ShortSpare);
     }
     if LAST_VOLUME < v {
-        return Allowed::Refused(refusals::BAD_VOLUME);
+        return Err(Refusal::BadVolume);
     }
     let days = header::retention(book, v);
     if days == 0 {
-        return Allowed::Refused(refusals::BAD_VOLUME);
+        return Err(Refusal::BadVolume);
     }
     let backups = backups_of(book, v);
-    let retired = backups.retired;
-    if retired {
-        return Allowed::Refused(refusals::BAD_VOLUME);
+    if backups.retired {
+        return Err(Refusal::BadVolume);
     }
-    if bad_day(book, v, day, backups) {
-        return Allowed::Refused(refusals::BAD_DAY);
-    }
+    check_day(book, v, day, backups)?;
     let cells = mapped_cells(book, v);
-    let full = room(book, cells);
-    if full != 0 {
-        return Allowed::Refused(full);
-    }
+    check_room(book, cells)?;
     let last = backups.last;
     let until = last + days;
-    Allowed::Go(Plan { until, cells })
-}
-
-// The number of a retirement that isn't allowed.
-pub fn allowed_number(allowed: Allowed) -> u16
-    ensures { result ≡ allowed_number allowed }
-{
-    match allowed {
-        Allowed::Go(_) => 0,
-        Allowed::Refused(k) => k,
-    }
+    Ok(Plan { until, cells })
 }

@@ -12,6 +12,7 @@ ghost use Rattle.words.specs.Lent.{lent};
 use fields::{header, map};
 use journal::record;
 use mover::moving::lower;
+use words::refusals::Refusal;
 use words::{LBN, PBN, UNMAPPED};
 
 // How many cells of volume v's map name a block.
@@ -22,20 +23,18 @@ pub fn mapped_cells(book: &[u8], v: u16) -> u16
 {
     let l = header::cells(book);
     let mut count = 0;
-    let mut lbn = 0;
-    while lbn < l {
+    for lbn in 0..l {
         let p = map::cell(book, v, LBN(lbn));
         if p.0 != UNMAPPED {
             count += 1;
         }
-        lbn += 1;
     }
     count
 }
 
 // A mapped cell: step 3 of a change, then the map names no block there, and a record is added. Not where the block's
 // count is 0.
-fn clear_cell(work: &mut [u8], v: u16, lbn: LBN, until: u16) -> bool
+fn clear_cell(work: &mut [u8], v: u16, lbn: LBN, until: u16) -> Result<(), Refusal>
     requires holds { Holds work.old }
     requires v_lt_volumes { (v < volumes) × (lbn.0 < (book_of work.old).sizes.l) }
     requires work_value { all (all (pbn_ok (book_of work.old).sizes.n)) (book_of work.old).maps ≡ true }
@@ -45,18 +44,16 @@ fn clear_cell(work: &mut [u8], v: u16, lbn: LBN, until: u16) -> bool
 {
     let before = map::cell(work, v, lbn);
     if before.0 == UNMAPPED {
-        return true;
+        return Ok(());
     }
-    if !lower(work, before, until) {
-        return false;
-    }
+    lower(work, before, until)?;
     map::set_cell(work, v, lbn, PBN(UNMAPPED));
     record::append_record(work, lbn, before, PBN(UNMAPPED));
-    true
+    Ok(())
 }
 
 // All cells by LBN; the first that can't be cleared leaves early.
-pub fn clear_cells(work: &mut [u8], v: u16, until: u16) -> bool
+pub fn clear_cells(work: &mut [u8], v: u16, until: u16) -> Result<(), Refusal>
     requires holds { Holds work.old }
     requires v_lt_volumes { v < volumes }
     requires work_value { all (all (pbn_ok (book_of work.old).sizes.n)) (book_of work.old).maps ≡ true }
@@ -64,12 +61,8 @@ pub fn clear_cells(work: &mut [u8], v: u16, until: u16) -> bool
     ensures { AllClearedBy (lent work) v until result }
 {
     let l = header::cells(work);
-    let mut lbn = 0;
-    while lbn < l {
-        if !clear_cell(work, v, LBN(lbn), until) {
-            return false;
-        }
-        lbn += 1;
+    for lbn in 0..l {
+        clear_cell(work, v, LBN(lbn), until)?;
     }
-    true
+    Ok(())
 }

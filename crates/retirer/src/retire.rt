@@ -6,18 +6,19 @@ ghost use Rattle.book.specs.Form.{pbn_ok};
 ghost use Rattle.book.specs.Layout.{book_of, Holds};
 ghost use Rattle.model.specs.Retire.{mapped_cells};
 ghost use Rattle.retirer.specs.Closing.{WorkedBy};
-ghost use Rattle.retirer.specs.Promises.{RetiredBy};
+ghost use Rattle.retirer.specs.Promises.{Retires};
 ghost use Rattle.words.specs.Lent.{lent};
 
-use super::allowing::{Allowed, allow, allowed_number};
+use super::allowing::allow;
 use super::clearing::clear_cells;
 use fields::header;
 use journal::slot;
-use words::{put_bytes, refusals};
+use words::put_bytes;
+use words::refusals::Refusal;
 
 // The working copy becomes the book after the call: its cells cleared, the retire slot added, the day set. Not where a
 // cell's block has a count of 0.
-fn work_through(work: &mut [u8], v: u16, day: u16, until: u16, cells: u16) -> bool
+fn work_through(work: &mut [u8], v: u16, day: u16, until: u16, cells: u16) -> Result<(), Refusal>
     requires holds { Holds work.old }
     requires v_lt_volumes { (v < volumes) × (length (book_of work.old).slots < (book_of work.old).sizes.s) }
     requires work_value { all (all (pbn_ok (book_of work.old).sizes.n)) (book_of work.old).maps ≡ true }
@@ -25,29 +26,21 @@ fn work_through(work: &mut [u8], v: u16, day: u16, until: u16, cells: u16) -> bo
     ensures { WorkedBy (lent work) v day until cells result }
 {
     let first = header::used_records(work);
-    if !clear_cells(work, v, until) {
-        return false;
-    }
+    clear_cells(work, v, until)?;
     slot::append_slot(work, v, true, day, first, cells);
     header::set_day(work, day);
-    true
+    Ok(())
 }
 
-// A volume is retired; cells is how many of its cells were mapped.
-pub fn retire(book: &mut [u8], spare: &mut [u8], volume: u16, day: u16, cells: &mut u16) -> u16
-    ensures { RetiredBy (lent book) (lent spare) volume day (lent cells) result }
+// A volume is retired. It answers how many of its cells were mapped.
+pub fn retire(book: &mut [u8], spare: &mut [u8], volume: u16, day: u16) -> Result<u16, Refusal>
+    ensures { Retires (lent book) (lent spare) volume day result }
 {
-    let allowed = allow(book, spare.len(), volume, day);
-    let Allowed::Go(plan) = allowed else {
-        return allowed_number(allowed);
-    };
+    let plan = allow(book, spare.len(), volume, day)?;
     let len = book.len();
     let work = &mut spare[..len];
     put_bytes(work, 0, book);
-    if !work_through(work, volume, day, plan.until, plan.cells) {
-        return refusals::COUNT_ZERO;
-    }
+    work_through(work, volume, day, plan.until, plan.cells)?;
     put_bytes(book, 0, work);
-    *cells = plan.cells;
-    0
+    Ok(plan.cells)
 }

@@ -1,16 +1,16 @@
 -- An entry stored in a layout, and the entries that are left to store.
 use Prim.Native.Nat.{ℕ, ◌+◌, ◌*◌, ◌≤◌, ◌<◌}
 use mathlib.Core.Bool.{true}
-use mathlib.Core.Path.{◌≡◌, refl, ap, subst, ◌∙◌}
+use mathlib.Core.Path.{◌≡◌, ap, subst, ◌∙◌}
 use mathlib.Core.List.{List, [], ◌∷◌, ◌++◌}
-use native.Mathlib.Nat.{suc-mul, zero-mul, mul-le-mul_right}
+use native.Mathlib.Nat.{suc-mul, mul-le-mul_right}
 use native.Mathlib.Numerals.{add-one}
 use native.Mathlib.Omega.{arith}
 use lib.ListN.{length, get_or, set, drop, drop_of_length-le}
 use lib.Seq.{sets, drop-cons, length-sets}
 use borrow.Author.Tests.{leb-true, eq-eqb, ne_eqb}
 use Rattle.words.proofs.Filling.{put_as}
-use Rattle.words.proofs.LayingLaws.{sets-next, Left, left-all, left-room, left-more, left-none}
+use Rattle.words.proofs.LayingLaws.{sets-next, Left, left-room, left-more, left-none}
 use Rattle.words.specs.Laying.{Stored}
 use Rattle.words.specs.Numbers.{two, put}
 use Rattle.words.specs.Sections.{flat, part}
@@ -56,13 +56,8 @@ pub record Entered (g to : ℕ) (x : Book) (old out : List ℕ) (taken at p : �
   pub left : Left old entries_from (from to x 0) out at (from to x p)
   pub kept : length out ≡ length old
   pub place : taken ≡ entry_offset g p
-  pub within : p ≤ x.sizes.n
 
 module _ (g to : ℕ) (x : Book) (s : Sized x) where
-  pub entered-none : (out : List ℕ) → entries_from + length (flat (entry_bytes to) x.entries) ≤ length out
-      → Entered g to x out out entries_from entries_from 0
-  entered-none out h = record { left = left-all h; kept = refl; place = omega (arith, zero-mul (entry_size g)); within = omega arith }
-
   entry_next : (p : ℕ) → p < x.sizes.n → from to x p ≡ entry_bytes to (entry_at x.entries p) ++ from to x (p + 1)
   entry_next p h = let hp : p < length x.entries = omega (arith, s.entries) in rw (add-one p, drop-cons x.entries p free_entry)
 
@@ -81,7 +76,6 @@ module _ (g to : ℕ) (x : Book) (s : Sized x) where
         left = left-more r.left row (from to x (p + 1)) (entry_next p h) t;
         kept = ap length t.list ∙ length-sets out at row ∙ r.kept;
         place = omega (arith, r.place, n, suc-mul p (entry_size g), ap (λ (k : ℕ). k * entry_size g) (add-one p));
-        within = omega arith;
       }
 
   pub entered_all : {old out : List ℕ} {taken at p : ℕ} → Entered g to x old out taken at p → x.sizes.n ≤ p

@@ -16,7 +16,7 @@ ghost use Rattle.model.specs.Convert.{is_narrow};
 use fields::header::{N_OFFSET, NARROW_LAYOUT};
 use fields::offsets::{ENTRIES_FROM, ENTRY_SIZE, NARROW_ENTRY_SIZE};
 use fields::sizes::entries_size;
-use words::{put_bytes, put_u16, u16_at, wide};
+use words::{put_bytes, put_u16, u16_at};
 
 // State, expiry and fingerprint, which follow the count.
 const REST_SIZE: usize = 19;
@@ -37,7 +37,7 @@ fn count_in(book: &[u8], layout: u16, at: usize) -> u16
     ensures { result ≡ count_in layout book.now at }
 {
     if layout == NARROW_LAYOUT {
-        return wide(book[at]);
+        return u16::from(book[at]);
     }
     u16_at(book, at)
 }
@@ -70,14 +70,12 @@ fn put_entries(book: &[u8], from: u16, to: u16, out: &mut [u8]) -> usize
     let width = count_size(from);
     let mut taken = ENTRIES_FROM;
     let mut at = ENTRIES_FROM;
-    let mut p: u16 = 0;
-    while p < n {
+    for _ in 0..n {
         let count = count_in(book, from, taken);
         let rest = taken + width;
         let end = rest + REST_SIZE;
         at = put_entry(count, &book[rest..end], to, out, at);
         taken = end;
-        p += 1;
     }
     at
 }

@@ -7,11 +7,12 @@ ghost use Rattle.book.specs.Layout.{told, Holds};
 ghost use Rattle.model.specs.Views.{block_row, blocks_of};
 ghost use Rattle.rows.specs.Promises.{BlocksTold};
 ghost use Rattle.words.specs.Lent.{lent};
+ghost use Rattle.words.specs.Refusals.{refusal_number};
 
 use entries::entry;
 use fields::header;
-use form::form_number;
-use words::{PBN, put_bytes, put_three, refusals};
+use words::refusals::Refusal;
+use words::{PBN, put_bytes, put_three};
 
 const ROW_SIZE: usize = 22;
 
@@ -41,23 +42,18 @@ fn put_blocks(book: &[u8], out: &mut [u8])
 {
     let n = header::blocks(book);
     let mut at: usize = 0;
-    let mut p: u16 = 0;
-    while p < n {
+    for p in 0..n {
         at = put_block(book, PBN(p), out, at);
-        p += 1;
     }
 }
 
-pub fn blocks(book: &[u8], out: &mut [u8]) -> u16
-    ensures { BlocksTold book (lent out) result }
+pub fn blocks(book: &[u8], out: &mut [u8]) -> Result<(), Refusal>
+    ensures { BlocksTold book (lent out) (refusal_number result) }
 {
-    let refusal = form_number(book);
-    if refusal != 0 {
-        return refusal;
-    }
+    form::check(book)?;
     if out.len() < header::blocks(book) as usize * ROW_SIZE {
-        return refusals::SHORT_OUTPUT;
+        return Err(Refusal::ShortOutput);
     }
     put_blocks(book, out);
-    0
+    Ok(())
 }

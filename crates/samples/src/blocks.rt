@@ -1,16 +1,16 @@
 // Sample blocks and fingerprints. Each is made from a tag of one byte, so that what is read can be compared with what
 // was sent.
-use words::{BLOCK_SIZE, wide};
+use words::BLOCK_SIZE;
 
 // The byte at an offset of the bytes that are made from a tag: with slope 0 the tag everywhere, else another byte at
 // each offset.
 fn byte_at(tag: u8, slope: u8, offset: usize) -> u8 {
-    ((wide(tag) + (offset % 256) as u16 * wide(slope)) % 256) as u8
+    ((u16::from(tag) + (offset % 256) as u16 * u16::from(slope)) % 256) as u8
 }
 
 pub fn paint(bytes: &mut [u8], tag: u8, slope: u8) {
-    for i in 0..bytes.len() {
-        bytes[i] = byte_at(tag, slope, i);
+    for (offset, byte) in bytes.iter_mut().enumerate() {
+        *byte = byte_at(tag, slope, offset);
     }
 }
 

@@ -1,4 +1,4 @@
-// What the programs that run the engine share: sample blocks, backups of them, and what is printed.
+// What the programs that run the engine share: sample blocks, backups of them, and a book's page.
 
 #![tactic(auto)]
 
@@ -7,7 +7,7 @@ mod blocks;
 mod lists;
 mod print;
 
-pub use backups::{Answer, backup};
+pub use backups::{Turn, backup};
 pub use blocks::is_block;
-pub use lists::UNCHANGED;
-pub use print::{letter, number, page, total, word};
+pub use lists::{Changes, UNCHANGED};
+pub use print::page;

@@ -1,92 +1,113 @@
 // How many calls of each kind were accepted, or refused by which number, and what came of them.
-use samples::{number, total, word};
-use std::io;
-use std::num::wrapping_add_u32;
+use std::{fmt, io};
+use words::refusals::Refusal;
 
-pub const COUNTS: usize = 200;
-
-// For each kind of call 32 counts: at 0 the accepted ones, at k those refused by k, at 31 all.
-pub const FORMAT: u16 = 0;
-
-pub const ENROL: u16 = 1;
-
-pub const BACKUP: u16 = 2;
-
-pub const COLLECT: u16 = 3;
-
-pub const READ: u16 = 4;
-
-pub const AUDIT: u16 = 5;
-
-const ALL: u16 = 31;
-
-// Then the sums.
-pub const TAKEN: u16 = 192;
-
-pub const FREED: u16 = 193;
-
-pub const SOUND: u16 = 194;
-
-pub const EQUAL: u16 = 195;
-
-pub const WRONG: u16 = 196;
-
-pub fn add(counts: &mut [u32; COUNTS], what: u16, n: u16) {
-    let at = what as usize % COUNTS;
-    counts[at] = wrapping_add_u32(counts[at], n as u32);
+#[derive(Clone, Copy)]
+pub enum Call {
+    Format,
+    Enrol,
+    Backup,
+    Collect,
+    Read,
+    Audit,
 }
 
-// A call of a kind gave a number.
-pub fn call(counts: &mut [u32; COUNTS], kind: u16, refusal: u16) {
-    let from = kind % 6 * 32;
-    add(counts, from + refusal % ALL, 1);
-    add(counts, from + ALL, 1);
-}
+const KINDS: [Call; 6] = [
+    Call::Format,
+    Call::Enrol,
+    Call::Backup,
+    Call::Collect,
+    Call::Read,
+    Call::Audit,
+];
 
-// Counts an answer that isn't the expected one.
-pub fn expect(counts: &mut [u32; COUNTS], answer: u16, expected: u16) {
-    if answer != expected {
-        add(counts, WRONG, 1);
+impl fmt::Display for Call {
+    fn fmt<W: fmt::Write>(&self, f: &mut fmt::Formatter<W>) -> fmt::Result {
+        f.write_str(match self {
+            Call::Format => "format",
+            Call::Enrol => "enrol",
+            Call::Backup => "backup",
+            Call::Collect => "collect",
+            Call::Read => "read",
+            Call::Audit => "audit",
+        })
     }
 }
 
-fn refused(rt: &impl Print, k: u16, times: u32) -> io::Result<()> {
-    if times == 0 {
-        return Ok(());
+// Above the number of any refusal.
+const NUMBERS: usize = Refusal::CountWide as usize + 1;
+
+// The calls of one kind, and those of them that each number refused.
+#[derive(Clone, Copy)]
+struct Answers {
+    calls: u32,
+    accepted: u32,
+    refused: [u32; NUMBERS],
+}
+
+#[derive(Drop)]
+pub struct Counts {
+    answers: [Answers; KINDS.len()],
+    pub taken: u32,
+    pub freed: u32,
+    pub equal: u32,
+    pub sound: u32,
+    // Answers other than expected.
+    pub wrong: u32,
+}
+
+pub fn add(count: &mut u32, n: u16) {
+    *count = count.saturating_add(u32::from(n));
+}
+
+fn line(rt: &impl Print, call: Call, answers: &Answers) -> io::Result<()> {
+    print!(rt;
+        "{call} calls {}, accepted {}",
+        answers.calls, answers.accepted
+    )?;
+    for (number, times) in answers.refused.iter().enumerate() {
+        if *times != 0 {
+            print!(rt; ", refused by {number}: {times}")?;
+        }
     }
-    number(rt, b", refused by ", k)?;
-    total(rt, b": ", times)
+    println!(rt)
 }
 
-fn line(rt: &impl Print, name: &[u8], counts: &[u32; COUNTS], kind: u16) -> io::Result<()> {
-    let from = kind % 6 * 32;
-    total(rt, name, counts[(from + ALL) as usize])?;
-    total(rt, b", accepted ", counts[from as usize])?;
-    for k in 1..ALL {
-        refused(rt, k, counts[(from + k) as usize])?;
+impl Counts {
+    pub fn new() -> Self {
+        let none = Answers {
+            calls: 0,
+            accepted: 0,
+            refused: [0; NUMBERS],
+        };
+        Counts {
+            answers: [none; KINDS.len()],
+            taken: 0,
+            freed: 0,
+            equal: 0,
+            sound: 0,
+            wrong: 0,
+        }
     }
-    word(rt, b"\n")
-}
 
-fn sum(rt: &impl Print, name: &[u8], counts: &[u32; COUNTS], what: u16) -> io::Result<()> {
-    total(rt, name, counts[what as usize % COUNTS])?;
-    word(rt, b"\n")
-}
+    // A call of a kind was accepted, or refused.
+    pub fn call(&mut self, call: Call, refusal: Option<Refusal>) {
+        let answers = &mut self.answers[call as usize];
+        add(&mut answers.calls, 1);
+        match refusal {
+            None => add(&mut answers.accepted, 1),
+            Some(refusal) => add(&mut answers.refused[refusal as usize], 1),
+        }
+    }
 
-fn sums(rt: &impl Print, counts: &[u32; COUNTS]) -> io::Result<()> {
-    sum(rt, b"blocks taken ", counts, TAKEN)?;
-    sum(rt, b"blocks freed ", counts, FREED)?;
-    sum(rt, b"blocks read that equal what was sent ", counts, EQUAL)?;
-    sum(rt, b"audits that say yes ", counts, SOUND)?;
-    sum(rt, b"answers other than expected ", counts, WRONG)
-}
-
-pub fn summary(rt: &impl Print, counts: &[u32; COUNTS]) -> io::Result<()> {
-    line(rt, b"format calls ", counts, FORMAT)?;
-    line(rt, b"enrol calls ", counts, ENROL)?;
-    line(rt, b"backup calls ", counts, BACKUP)?;
-    line(rt, b"collect calls ", counts, COLLECT)?;
-    line(rt, b"read calls ", counts, READ)?;
-    line(rt, b"audit calls ", counts, AUDIT)?;
-    sums(rt, counts)
+    pub fn summary(&self, rt: &impl Print) -> io::Result<()> {
+        for (call, answers) in KINDS.iter().zip(&self.answers) {
+            line(rt, *call, answers)?;
+        }
+        println!(rt; "blocks taken {}", self.taken)?;
+        println!(rt; "blocks freed {}", self.freed)?;
+        println!(rt; "blocks read that equal what was sent {}", self.equal)?;
+        println!(rt; "audits that say yes {}", self.sound)?;
+        println!(rt; "answers other than expected {}", self.wrong)
+    }
 }

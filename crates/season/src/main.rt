@@ -6,71 +6,64 @@
 
 mod calls;
 mod counts;
-mod draw;
+mod draws;
 mod reads;
 mod sending;
 mod sent;
 mod sizes;
 
-use calls::Turn;
-use counts::COUNTS;
-use sending::send;
-use sent::SENT;
-use sizes::{BOOK_SIZE, DAYS, POOL_SIZE};
+use counts::Counts;
+use draws::Draws;
+use samples::Turn;
+use sent::Sent;
+use sizes::{BOOK_SIZE, DAYS, POOL_SIZE, VOLUMES};
 use std::io;
 
-// The end of a day: an audit, and once a week a collection and a reading of all backups before it.
-fn end_of_day(
-    book: &mut [u8; BOOK_SIZE],
-    pool: &[u8; POOL_SIZE],
-    sent: &[u16; SENT],
-    counts: &mut [u32; COUNTS],
-    day: u16,
-) {
-    if day % 7 == 0 {
-        calls::collect(book, counts, day);
-        reads::all(book, pool, sent, counts, day);
-    }
-    calls::audit(book, counts);
+// The box, what its volumes sent, what came of the calls, and what is drawn next.
+#[derive(Drop)]
+struct Season {
+    book: [u8; BOOK_SIZE],
+    pool: [u8; POOL_SIZE],
+    sent: Sent,
+    counts: Counts,
+    draws: Draws,
 }
 
-// The volumes have their turns in order. It answers the next seed.
-fn day_of(
-    book: &mut [u8; BOOK_SIZE],
-    pool: &mut [u8; POOL_SIZE],
-    sent: &mut [u16; SENT],
-    counts: &mut [u32; COUNTS],
-    day: u16,
-    seed: u32,
-) -> u32 {
-    let mut next = seed;
-    for volume in 0..8 {
-        next = send(book, pool, sent, counts, Turn { volume, day }, next);
+impl Season {
+    fn new() -> Self {
+        Season {
+            book: [0; BOOK_SIZE],
+            pool: [0; POOL_SIZE],
+            sent: Sent::new(),
+            counts: Counts::new(),
+            draws: Draws::new(),
+        }
     }
-    end_of_day(book, pool, sent, counts, day);
-    next
-}
 
-fn season(
-    rt: &impl Print,
-    book: &mut [u8; BOOK_SIZE],
-    pool: &mut [u8; POOL_SIZE],
-    sent: &mut [u16; SENT],
-    counts: &mut [u32; COUNTS],
-) -> io::Result<()> {
-    let mut seed = 2026u32;
-    for day in 1..=DAYS {
-        seed = day_of(book, pool, sent, counts, day, seed);
+    // The end of a day: an audit, and once a week a collection and a reading of all backups before it.
+    fn end_of_day(&mut self, day: u16) {
+        if day % 7 == 0 {
+            self.collect(day);
+            self.read_all(day);
+        }
+        self.audit();
     }
-    samples::page(rt, book)
+
+    // The volumes have their turns in order.
+    fn day(&mut self, day: u16) {
+        for volume in 0..VOLUMES {
+            self.send(Turn { volume, day });
+        }
+        self.end_of_day(day);
+    }
 }
 
 fn main(rt: HostRuntime) -> io::Result<()> {
-    let mut book = [0u8; BOOK_SIZE];
-    let mut pool = [0u8; POOL_SIZE];
-    let mut sent = [0u16; SENT];
-    let mut counts = [0u32; COUNTS];
-    calls::start(&mut book, &mut counts);
-    season(&rt, &mut book, &mut pool, &mut sent, &mut counts)?;
-    counts::summary(&rt, &counts)
+    let mut season = Season::new();
+    season.start();
+    for day in 1..=DAYS {
+        season.day(day);
+    }
+    samples::page(&rt, &season.book)?;
+    season.counts.summary(&rt)
 }

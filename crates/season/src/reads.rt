@@ -1,89 +1,51 @@
 // Every backup read back, and each answer held against what was sent.
-use crate::calls::retention;
-use crate::counts::COUNTS;
-use crate::sent::{ALL_ROWS, ROWS, SENT};
-use crate::sizes::{BOOK_SIZE, CELLS, POOL_SIZE, SLOPE};
-use crate::{counts, sent};
-use engine::read::{read, read_number};
-use words::{LBN, refusals};
+use crate::Season;
+use crate::counts::{Call, add};
+use crate::sent::{Held, NUMBERS};
+use crate::sizes::{CELLS, RETENTIONS, SLOPE, VOLUMES};
+use words::LBN;
+use words::refusals::Refusal;
 
-// Backup k is the volume's newest, or the days since it was taken aren't over.
-fn is_kept(sent: &[u16; SENT], v: u16, k: u16, today: u16) -> bool {
-    let taken = sent::day(sent, v, k);
-    let next = sent::day(sent, v, k % ROWS + 1);
-    (next == 0) | (today as u32 <= taken as u32 + retention(v) as u32)
-}
-
-// The number that a read should give.
-fn expected(kept: bool, tag: u8) -> u16 {
+// What a read should give: the tag, or the refusal.
+fn expected(kept: bool, tag: Option<u8>) -> Result<u8, Refusal> {
     if !kept {
-        return refusals::NOT_KEPT;
+        return Err(Refusal::NotKept);
     }
-    if tag == sent::NEVER_SENT {
-        return refusals::NOT_MAPPED;
-    }
-    0
+    tag.ok_or(Refusal::NotMapped)
 }
 
-// One LBN of a backup.
-fn one(
-    book: &[u8; BOOK_SIZE],
-    pool: &[u8; POOL_SIZE],
-    counts: &mut [u32; COUNTS],
-    v: u16,
-    k: u16,
-    lbn: u16,
-    kept: bool,
-    tag: u8,
-) {
-    let refusal = read_number(book, pool, v, k, LBN(lbn));
-    counts::call(counts, counts::READ, refusal);
-    counts::expect(counts, refusal, expected(kept, tag));
-    if refusal != 0 {
-        return;
+impl Season {
+    // One LBN of a backup.
+    fn read(&mut self, volume: u16, number: u16, lbn: u16, expected: Result<u8, Refusal>) {
+        let answer = engine::block(&self.book, &self.pool, volume, number, LBN(lbn));
+        self.counts.call(Call::Read, answer.err());
+        match (answer, expected) {
+            (Ok(block), Ok(tag)) if samples::is_block(block, tag, SLOPE) => {
+                add(&mut self.counts.equal, 1);
+            }
+            (Err(refusal), Err(wanted)) if refusal == wanted => {}
+            _ => add(&mut self.counts.wrong, 1),
+        }
     }
-    let equal = samples::is_block(read(book, pool, v, k, LBN(lbn)), tag, SLOPE) as u16;
-    counts::add(counts, counts::EQUAL, equal);
-    counts::expect(counts, equal, 1);
-}
 
-// All LBNs of a backup.
-fn backup(
-    book: &[u8; BOOK_SIZE],
-    pool: &[u8; POOL_SIZE],
-    sent: &[u16; SENT],
-    counts: &mut [u32; COUNTS],
-    v: u16,
-    k: u16,
-    kept: bool,
-) {
-    for lbn in 0..CELLS {
-        one(
-            book,
-            pool,
-            counts,
-            v,
-            k,
-            lbn,
-            kept,
-            sent::tag(sent, v, k, lbn),
-        );
+    // All LBNs of a backup.
+    fn read_backup(&mut self, volume: u16, number: u16, held: &Held, kept: bool) {
+        for (lbn, tag) in (0..CELLS).zip(held) {
+            self.read(volume, number, lbn, expected(kept, *tag));
+        }
     }
-}
 
-// All backups of all volumes.
-pub fn all(
-    book: &[u8; BOOK_SIZE],
-    pool: &[u8; POOL_SIZE],
-    sent: &[u16; SENT],
-    counts: &mut [u32; COUNTS],
-    today: u16,
-) {
-    for row in 0..ALL_ROWS {
-        let v = row / ROWS;
-        let k = row % ROWS;
-        if sent::day(sent, v, k) != 0 {
-            backup(book, pool, sent, counts, v, k, is_kept(sent, v, k, today));
+    // All backups of all volumes.
+    pub fn read_all(&mut self, today: u16) {
+        for volume in 0..VOLUMES {
+            for number in 1..NUMBERS {
+                if let Some(backup) = self.sent.backup(volume, number) {
+                    let age = today.saturating_sub(backup.day);
+                    let kept = self.sent.is_newest(volume, number)
+                        || age <= RETENTIONS[volume as usize];
+                    self.read_backup(volume, number, &backup.held, kept);
+                }
+            }
         }
     }
 }

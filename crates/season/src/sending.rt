@@ -1,88 +1,53 @@
 // What a volume sends on its turn.
-use crate::calls::Turn;
-use crate::counts::COUNTS;
-use crate::sent::SENT;
-use crate::sizes::{BOOK_SIZE, LBNS, POOL_SIZE};
-use crate::{calls, counts, draw, sent};
-use samples::UNCHANGED;
-use words::refusals;
+use crate::Season;
+use crate::counts::add;
+use crate::sizes::LBNS;
+use samples::{Turn, UNCHANGED};
+use words::refusals::Refusal;
 
-// Now and then a second backup on the same day, which its day refuses.
-fn again(
-    book: &mut [u8; BOOK_SIZE],
-    pool: &mut [u8; POOL_SIZE],
-    counts: &mut [u32; COUNTS],
-    turn: Turn,
-    seed: u32,
-) {
-    if seed / 65536 % 8 != 0 {
-        return;
+impl Season {
+    // Now and then a second backup on the same day, which its day refuses.
+    fn again(&mut self, turn: Turn) {
+        if self.draws.last() % 8 != 0 {
+            return;
+        }
+        let nothing = [UNCHANGED; LBNS];
+        let answer = self.backup(turn, &nothing, &nothing);
+        if answer.err() != Some(Refusal::BadDay) {
+            add(&mut self.counts.wrong, 1);
+        }
     }
-    let changes = [UNCHANGED; LBNS];
-    let answer = calls::backup(book, pool, counts, turn, &changes, &changes);
-    counts::expect(counts, answer.refusal, refusals::BAD_DAY);
-}
 
-// A backup of what changed. It answers the next seed.
-fn backup(
-    book: &mut [u8; BOOK_SIZE],
-    pool: &mut [u8; POOL_SIZE],
-    sent: &mut [u16; SENT],
-    counts: &mut [u32; COUNTS],
-    turn: Turn,
-    seed: u32,
-) -> u32 {
-    let mut changes = [UNCHANGED; LBNS];
-    let next = draw::changes(&mut changes, turn.day, seed);
-    let answer = calls::backup(book, pool, counts, turn, &changes, &changes);
-    if answer.refusal != 0 {
-        return next;
+    // A backup of what changed.
+    fn change(&mut self, turn: Turn) {
+        let changes = self.draws.changes(turn.day);
+        if let Ok(backed) = self.backup(turn, &changes, &changes) {
+            self.sent.note(turn, backed.number, &changes);
+            self.again(turn);
+        }
     }
-    sent::note(sent, turn, answer.number, &changes);
-    again(book, pool, counts, turn, next);
-    next
-}
 
-// Other bytes under the fingerprint of a block that the volume holds are refused by 11, or by 9 or 10 once slots or
-// journal are full.
-fn forge(
-    book: &mut [u8; BOOK_SIZE],
-    pool: &mut [u8; POOL_SIZE],
-    counts: &mut [u32; COUNTS],
-    turn: Turn,
-    known: u8,
-) {
-    if known == sent::NEVER_SENT {
-        return;
+    // Other bytes under the fingerprint of a block that the volume holds are refused by 11, or by 9 or 10 once slots or
+    // journal are full.
+    fn forge(&mut self, turn: Turn) {
+        let Some(known) = self.sent.held(turn.volume)[turn.day as usize % LBNS] else {
+            return;
+        };
+        let mut prints = [UNCHANGED; LBNS];
+        let mut blocks = [UNCHANGED; LBNS];
+        prints[0] = known;
+        blocks[0] = known.wrapping_sub(1);
+        if self.backup(turn, &prints, &blocks).is_ok() {
+            add(&mut self.counts.wrong, 1);
+        }
     }
-    let mut prints = [UNCHANGED; LBNS];
-    let mut blocks = [UNCHANGED; LBNS];
-    prints[0] = known;
-    blocks[0] = known - 1;
-    let answer = calls::backup(book, pool, counts, turn, &prints, &blocks);
-    if answer.refusal == 0 {
-        counts::add(counts, counts::WRONG, 1);
-    }
-}
 
-// A volume sends a backup about every third day, and now and then a list with a forged fingerprint. It answers the next
-// seed.
-pub fn send(
-    book: &mut [u8; BOOK_SIZE],
-    pool: &mut [u8; POOL_SIZE],
-    sent: &mut [u16; SENT],
-    counts: &mut [u32; COUNTS],
-    turn: Turn,
-    seed: u32,
-) -> u32 {
-    let next = draw::step(seed);
-    let chance = next / 65536 % 12;
-    if chance < 4 {
-        return backup(book, pool, sent, counts, turn, next);
+    // A volume sends a backup about every third day, and now and then a list with a forged fingerprint.
+    pub fn send(&mut self, turn: Turn) {
+        match self.draws.draw() % 12 {
+            0..=3 => self.change(turn),
+            4 => self.forge(turn),
+            _ => {}
+        }
     }
-    if chance == 4 {
-        let known = sent::tag(sent, turn.volume, 0, turn.day);
-        forge(book, pool, counts, turn, known);
-    }
-    next
 }

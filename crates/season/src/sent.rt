@@ -1,60 +1,79 @@
-// What each volume held at each of its backups: a row of 17 numbers, the day and the tag of each LBN. Row k of a volume
-// is its backup k, and row 0 what it holds now.
-ghost use Rattle.std.specs.Prelude.{◌<◌};
+// What each volume held at each of its backups.
+use crate::sizes::{LBNS, Tags, VOLUMES};
+use samples::{Turn, UNCHANGED};
 
-use crate::calls::Turn;
-use crate::sizes::{CELLS, LBNS};
-use fields::offsets::VOLUMES;
-use samples::UNCHANGED;
+// Above the number of any backup of a season.
+pub const NUMBERS: u16 = 64;
 
-// The rows of a volume: more than its backups in a season.
-pub const ROWS: u16 = 64;
+// The tag of each LBN, none where nothing was sent.
+pub type Held = [Option<u8>; LBNS];
 
-pub const ALL_ROWS: u16 = VOLUMES as u16 * ROWS;
-
-const ROW: u16 = 1 + CELLS;
-
-pub const SENT: usize = ALL_ROWS as usize * ROW as usize;
-
-// The tag of an LBN that was never sent.
-pub const NEVER_SENT: u8 = 0;
-
-// The index, below SENT, of a number of a volume's row.
-fn index(v: u16, k: u16, field: u16) -> usize
-    ensures { result < 8704 }
-{
-    let row = v as usize % VOLUMES * ROWS as usize + (k % ROWS) as usize;
-    row * ROW as usize + (field % ROW) as usize
+#[derive(Clone, Copy)]
+pub struct Backup {
+    pub day: u16,
+    pub held: Held,
 }
 
-// The day of backup k, 0 where there is none: the season starts on day 1.
-pub fn day(sent: &[u16; SENT], v: u16, k: u16) -> u16 {
-    sent[index(v, k, 0)]
+// What a volume holds now, and its backups by their numbers.
+#[derive(Clone, Copy)]
+struct Volume {
+    held: Held,
+    newest: u16,
+    backups: [Option<Backup>; NUMBERS as usize],
 }
 
-pub fn tag(sent: &[u16; SENT], v: u16, k: u16, lbn: u16) -> u8 {
-    (sent[index(v, k, 1 + lbn % CELLS)] % 256) as u8
+#[derive(Drop)]
+pub struct Sent {
+    volumes: [Volume; VOLUMES as usize],
 }
 
-fn set(sent: &mut [u16; SENT], v: u16, k: u16, field: u16, value: u16) {
-    let at = index(v, k, field);
-    sent[at] = value;
-}
-
-fn changed(before: u8, change: u8) -> u8 {
-    if change == UNCHANGED {
-        return before;
+impl Volume {
+    fn change(&mut self, changes: &Tags) {
+        for (tag, change) in self.held.iter_mut().zip(changes) {
+            if *change != UNCHANGED {
+                *tag = Some(*change);
+            }
+        }
     }
-    change
 }
 
-// Backup k of the volume, with these changes to what it held.
-pub fn note(sent: &mut [u16; SENT], turn: Turn, k: u16, changes: &[u8; LBNS]) {
-    let v = turn.volume;
-    set(sent, v, k, 0, turn.day);
-    for lbn in 0..CELLS {
-        let now = changed(tag(sent, v, 0, lbn), changes[lbn as usize]) as u16;
-        set(sent, v, 0, 1 + lbn, now);
-        set(sent, v, k, 1 + lbn, now);
+impl Sent {
+    pub fn new() -> Self {
+        let volume = Volume {
+            held: [None; LBNS],
+            newest: 0,
+            backups: [None; NUMBERS as usize],
+        };
+        Sent {
+            volumes: [volume; VOLUMES as usize],
+        }
+    }
+
+    fn volume(&self, v: u16) -> &Volume {
+        &self.volumes[(v % VOLUMES) as usize]
+    }
+
+    // What the volume holds now.
+    pub fn held(&self, volume: u16) -> &Held {
+        &self.volume(volume).held
+    }
+
+    pub fn is_newest(&self, volume: u16, number: u16) -> bool {
+        self.volume(volume).newest == number
+    }
+
+    pub fn backup(&self, volume: u16, number: u16) -> Option<Backup> {
+        self.volume(volume).backups[(number % NUMBERS) as usize]
+    }
+
+    // The backup of this number, with these changes to what the volume held.
+    pub fn note(&mut self, turn: Turn, number: u16, changes: &Tags) {
+        let volume = &mut self.volumes[(turn.volume % VOLUMES) as usize];
+        volume.change(changes);
+        volume.newest = number;
+        volume.backups[(number % NUMBERS) as usize] = Some(Backup {
+            day: turn.day,
+            held: volume.held,
+        });
     }
 }

@@ -19,7 +19,7 @@ use Rattle.book.specs.Layout.{header_size, count_size, book_size, entry_offset, 
 use Rattle.book.specs.Layout.{u_offset, day_offset, cursor_offset, zero_offset, count_in, entry_in}
 use Rattle.book.specs.Form.{between, sizes_as, layout_as, sizes_ok, state_ok, entry_ok}
 use Rattle.book.specs.Next.{new_sizes}
-use Rattle.book.proofs.Widths.{offset-same, entry-same}
+use Rattle.book.proofs.Widths.{offset-same, entry-same, narrow-entry, wide-entry}
 use Rattle.sections.specs.Checks.{zeros_in, head_ok, rest_ok, entries_ok, HeadIn}
 
 pub head-facts : (b : List ℕ) → head_ok b ≡ true → HeadIn b
@@ -142,6 +142,9 @@ entry_tests g b p at e er ec eo =
       print = tab print_size (λ k. get_or b (three i + k) 0);
     }))
     ∙ ap (λ (o : ℕ). leb (get_or b (o + c) 0) 1 && entry_ok (entry_in g b o)) e
+
+-- an entry's size in layout 1, and in any other
+pub ruleset entry_sizes = (narrow-entry, wide-entry)
 
 -- entries of layouts with counts of the same width
 pub entries-same : (g h : ℕ) → count_size g ≡ count_size h → (b : List ℕ) (n : ℕ) → entries_ok g b n ≡ entries_ok h b n

@@ -1,5 +1,5 @@
 // Bytes that are zero.
-ghost use Rattle.std.specs.Prelude.{◌≤◌, ◌<◌, ◌≡◌, length};
+ghost use Rattle.std.specs.Prelude.{◌≤◌, ◌≡◌, length};
 ghost use Rattle.sections.specs.Checks.{zeros_in};
 
 // The bytes from `from` up to `to` are zero. It never leaves early, so that many bytes are compared at once.
@@ -8,10 +8,8 @@ pub fn zeros(b: &[u8], from: usize, to: usize) -> bool
     ensures { result ≡ zeros_in b.now from to }
 {
     let mut clear = true;
-    let mut i = from;
-    while i < to {
-        clear = clear & (b[i] == 0);
-        i += 1;
+    for x in &b[from..to] {
+        clear = clear & (*x == 0);
     }
     clear
 }

@@ -4,43 +4,37 @@ ghost use Rattle.book.specs.Layout.{told, Holds};
 ghost use Rattle.model.specs.Enrol.{enrol_number};
 ghost use Rattle.setup.specs.Promises.{Enrolled};
 ghost use Rattle.words.specs.Lent.{lent};
+ghost use Rattle.words.specs.Refusals.{refusal_number};
 
 use fields::header;
-use form::form_number;
 use words::limits::{LAST_VOLUME, MAX_RETENTION};
-use words::refusals;
+use words::refusals::Refusal;
 
-// Numbers 5 and 6, or 0.
-fn enrol_number(book: &[u8], volume: u16, retention: u16) -> u16
+// Numbers 5 and 6.
+fn check(book: &[u8], volume: u16, retention: u16) -> Result<(), Refusal>
     requires { Holds book.now }
-    ensures { result ≡ enrol_number (told book.entry) volume retention }
+    ensures { refusal_number result ≡ enrol_number (told book.entry) volume retention }
 {
     if volume > LAST_VOLUME {
-        return refusals::BAD_VOLUME;
+        return Err(Refusal::BadVolume);
     }
     if header::retention(book, volume) != 0 {
-        return refusals::BAD_VOLUME;
+        return Err(Refusal::BadVolume);
     }
     if retention == 0 {
-        return refusals::BAD_RETENTION;
+        return Err(Refusal::BadRetention);
     }
     if retention > MAX_RETENTION {
-        return refusals::BAD_RETENTION;
+        return Err(Refusal::BadRetention);
     }
-    0
+    Ok(())
 }
 
-pub fn enrol(book: &mut [u8], volume: u16, retention: u16) -> u16
-    ensures { Enrolled (lent book) volume retention result }
+pub fn enrol(book: &mut [u8], volume: u16, retention: u16) -> Result<(), Refusal>
+    ensures { Enrolled (lent book) volume retention (refusal_number result) }
 {
-    let in_form = form_number(book);
-    if in_form != 0 {
-        return in_form;
-    }
-    let number = enrol_number(book, volume, retention);
-    if number != 0 {
-        return number;
-    }
+    form::check(book)?;
+    check(book, volume, retention)?;
     header::set_retention(book, volume, retention);
-    0
+    Ok(())
 }

@@ -1,20 +1,21 @@
 // Format: a fresh book.
 ghost use Rattle.setup.specs.Promises.{Formatted};
 ghost use Rattle.words.specs.Lent.{lent};
+ghost use Rattle.words.specs.Refusals.{refusal_number};
 
 use fields::fresh;
-use fields::sizes::{size, sizes_ok};
-use words::refusals;
+use fields::sizes::Sizes;
+use words::refusals::Refusal;
 
-pub fn format(book: &mut [u8], n: u16, l: u16, s: u16, j: u16) -> u16
-    ensures { Formatted (lent book) n l s j result }
+pub fn format(book: &mut [u8], sizes: Sizes) -> Result<(), Refusal>
+    ensures { Formatted (lent book) sizes.n sizes.l sizes.s sizes.j (refusal_number result) }
 {
-    if !sizes_ok(n, l, s, j) {
-        return refusals::BAD_LAYOUT;
+    if !sizes.in_range() {
+        return Err(Refusal::BadLayout);
     }
-    if book.len() != size(n, l, s, j) {
-        return refusals::BAD_LAYOUT;
+    if book.len() != sizes.size() {
+        return Err(Refusal::BadLayout);
     }
-    fresh::format(book, n, l, s, j);
-    0
+    fresh::format(book, sizes);
+    Ok(())
 }

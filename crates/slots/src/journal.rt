@@ -1,5 +1,5 @@
 // Used slots in form, in one pass over their section.
-ghost use Rattle.std.specs.Prelude.{◌+◌, ◌*◌, ◌≤◌, ◌<◌, ◌≡◌, length};
+ghost use Rattle.std.specs.Prelude.{◌+◌, ◌*◌, ◌≤◌, ◌≡◌, length};
 ghost use Rattle.words.specs.Numbers.{num};
 ghost use Rattle.book.specs.Layout.{day_offset, entries_from, slot_size};
 ghost use Rattle.slots.specs.Days.{no_lasts, none_gone};
@@ -7,7 +7,7 @@ ghost use Rattle.slots.specs.Slots.{SlotsAt, slot_here, slots_left};
 
 use fields::header::HEADER_SIZE;
 use fields::offsets::{SLOT_SIZE, VOLUMES};
-use words::{u16_at, wide};
+use words::u16_at;
 
 // The first layout in which a slot may retire its volume.
 const RETIRE_LAYOUT: u16 = 3;
@@ -31,7 +31,7 @@ fn slot_ok(
     requires layout_value { (layout ≡ num b.now 0) × (today ≡ num b.now day_offset) }
     ensures { result ≡ slot_here b.now at lasts.now gone.now prev next }
 {
-    let v = wide(b[at]) as usize;
+    let v = usize::from(b[at]);
     if v >= VOLUMES {
         return false;
     }
@@ -60,18 +60,16 @@ pub fn used_slots_ok(
     let mut gone = [false; VOLUMES];
     let mut prev: u16 = 0;
     let mut next: usize = 0;
-    let mut q = 0;
-    while q < used {
+    for q in 0..used {
         let at = from + q * SLOT_SIZE;
         if !slot_ok(b, layout, at, today, &lasts, &gone, prev, next) {
             return false;
         }
-        let v = wide(b[at]) as usize;
+        let v = usize::from(b[at]);
         prev = u16_at(b, at + 2);
         lasts[v] = prev + 1;
         gone[v] = b[at + 1] == RETIRE;
         next = next + u16_at(b, at + 6) as usize;
-        q += 1;
     }
     next == records
 }

@@ -34,10 +34,8 @@ fn slot_records_ok(b: &[u8], from: usize, number: usize, retire: bool, n: u16, l
     ensures { result ≡ records_at b.now retire from number }
 {
     let mut good = true;
-    let mut k = 0;
-    while k < number {
+    for k in 0..number {
         good = good & rec_ok(b, from + k * REC_SIZE, retire, n, l);
-        k += 1;
     }
     good
 }
@@ -49,14 +47,12 @@ pub fn used_records_ok(b: &[u8], slots: usize, used: usize, from: usize, n: u16,
 {
     let mut good = true;
     let mut next: usize = 0;
-    let mut q = 0;
-    while q < used {
+    for q in 0..used {
         let at = slots + q * SLOT_SIZE;
         let number = u16_at(b, at + 6) as usize;
         let retire = b[at + 1] == RETIRE;
         good = good & slot_records_ok(b, from + next * REC_SIZE, number, retire, n, l);
         next = next + number;
-        q += 1;
     }
     good
 }

@@ -14,11 +14,11 @@ pub mod FoundPlaces
 pub mod SetLaws
 pub mod Tests
 pub mod Accepted
+pub mod Refused
 pub mod Appends
 pub mod Places
 pub mod Mapped
 pub mod LayingLaws
-pub mod Turns
 pub mod Flat
 pub mod Prefixes
 pub mod SectionsLaid

@@ -6,3 +6,4 @@ pub mod Sections
 pub mod Outcome
 pub mod Laying
 pub mod Lent
+pub mod Refusals

@@ -26,27 +26,21 @@ pub const BLOCK_SIZE: usize = 512;
 
 pub const PRINT_SIZE: usize = 16;
 
-// A byte as a wider number, which keeps its bound.
-pub fn wide(x: u8) -> u16
-    ensures { (result ≡ x) × (result < 256) }
-{
-    x as u16
-}
-
 // The number of two bytes that stands at `at`.
 pub fn u16_at(b: &[u8], at: usize) -> u16
     requires { at + 1 < length b.now }
     ensures { result ≡ num b.now at }
 {
-    wide(b[at]) + wide(b[at + 1]) * 256
+    u16::from_le_bytes([b[at], b[at + 1]])
 }
 
 pub fn put_u16(b: &mut [u8], at: usize, v: u16)
     requires { at + 1 < length b.old }
     ensures { b.new ≡ put b.old at v }
 {
-    b[at] = (v % 256) as u8;
-    b[at + 1] = (v / 256) as u8;
+    let [low, high] = v.to_le_bytes();
+    b[at] = low;
+    b[at + 1] = high;
 }
 
 // Three numbers, one after the other.
@@ -64,11 +58,8 @@ pub fn put_bytes(b: &mut [u8], at: usize, src: &[u8])
     requires { at + length src.now ≤ length b.old }
     ensures { b.new ≡ sets b.old at src.now }
 {
-    let mut i = 0;
-    while i < src.len() {
-        b[at + i] = src[i];
-        i += 1;
-    }
+    let to = at + src.len();
+    b[at..to].copy_from_slice(src);
 }
 
 // n bytes v from `at` on.
@@ -76,26 +67,13 @@ pub fn fill(b: &mut [u8], at: usize, n: usize, v: u8)
     requires { at + n ≤ length b.old }
     ensures { b.new ≡ sets b.old at (replicate n v) }
 {
-    let mut i = 0;
-    while i < n {
-        b[at + i] = v;
-        i += 1;
-    }
+    let to = at + n;
+    b[at..to].fill(v);
 }
 
-// Two runs of bytes are the same. It looks at all of them, which the compiler does many at a time.
+// Two runs of bytes are the same.
 pub fn same_bytes(a: &[u8], b: &[u8]) -> bool
     ensures { result ≡ same a.now b.now }
 {
-    let n = a.len();
-    if b.len() != n {
-        return false;
-    }
-    let mut good = true;
-    let mut i = 0;
-    while i < n {
-        good = good & (a[i] == b[i]);
-        i += 1;
-    }
-    good
+    a == b
 }

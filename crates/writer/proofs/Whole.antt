@@ -16,9 +16,12 @@ use Rattle.words.proofs.Filling.{put-sets}
 use Rattle.words.specs.Laying.{Stored}
 use Rattle.words.proofs.LayingLaws.{Left, left-all, left-room, left-more, sets-front}
 use Rattle.words.specs.Blocks.{block_size, print_size}
-use Rattle.runs.specs.Writer.{marked_pairs, marked_list, input_ok, write_number, answer_after, output_after, list_of, Wrote}
+use Rattle.runs.specs.Writer.{marked_pairs, marked_list, input_ok, write_number, output_after, list_of}
 use Rattle.marks.specs.Passes.{pairs_of}
+use Rattle.std.specs.Prelude.{Ok, Err}
+use Rattle.words.specs.declared.refusals.Refusal.TheVariants.{BadInput, ShortOutput}
 use Rattle.writer.specs.Elements.{marked_elements, Room}
+use Rattle.writer.specs.Promises.{Writes}
 use Rattle.writer.proofs.Lengths.{list-sections}
 
 -- an input that is not refused holds L elements of each kind
@@ -94,7 +97,7 @@ module _ {out : List ℕ} {E : ℕ} {marks prints image : List ℕ} (r : Room ou
 
 -- ---- the three ways out of a call
 
-module _ (L : ℕ) (marks prints image out : Lent (List ℕ)) (answer : Lent ℕ) where
+module _ (L : ℕ) (marks prints image out : Lent (List ℕ)) where
   abbrev before : List ℕ
   before = out.entry.now
 
@@ -104,22 +107,20 @@ module _ (L : ℕ) (marks prints image out : Lent (List ℕ)) (answer : Lent ℕ
   abbrev ok : Bool
   ok = input_ok L marks.entry.now prints.entry.now image.entry.now
 
-  module _ (same : out.exit.now ≡ before) (unanswered : answer.exit.now ≡ answer.entry.now) where
-    pub wrote_none : ok ≡ false → Wrote L marks prints image out answer 19
-    unfolding write_number answer_after output_after
-    wrote_none e = record { number = rw e; answered = unanswered; output = same }
+  module _ (same : out.exit.now ≡ before) where
+    pub wrote_none : ok ≡ false → Writes L marks prints image out (Err BadInput)
+    unfolding write_number output_after
+    wrote_none e = record { number = rw e refl; length = tt; output = same }
 
-    pub wrote-short : ok ≡ true → length before < length list → Wrote L marks prints image out answer 20
-    unfolding write_number answer_after output_after
-    wrote-short e h =
-        record { number = rw (e, lt-ltb (length before) (length list) h); answered = unanswered; output = same }
+    pub wrote-short : ok ≡ true → length before < length list → Writes L marks prints image out (Err ShortOutput)
+    unfolding write_number output_after
+    wrote-short e h = record { number = rw (e, lt-ltb (length before) (length list) h) refl; length = tt; output = same }
 
-  pub wrote-list : ok ≡ true → length list ≤ length before → out.exit.now ≡ sets before 0 list
-      → answer.exit.now ≡ length list
-      → Wrote L marks prints image out answer 0
-  unfolding write_number answer_after output_after
+  pub wrote-list : ok ≡ true → length list ≤ length before → out.exit.now ≡ sets before 0 list → {n : ℕ} → n ≡ length list
+      → Writes L marks prints image out (Ok n)
+  unfolding write_number output_after
   wrote-list e h s a = record {
-    number = rw (e, le-ltb (length before) (length list) h);
-    answered = a;
+    number = rw (e, le-ltb (length before) (length list) h) refl;
+    length = (a, omega arith);
     output = s ∙ sets-front list before h;
   }

@@ -7,24 +7,19 @@ ghost use Rattle.std.proofs.lemmas.List.Edits.{sets};
 ghost use Rattle.words.specs.Lists.{all};
 ghost use Rattle.words.specs.Laying.{Stored};
 ghost use Rattle.writer.specs.Elements.{if_marked, marked_elements, Room};
-ghost use Rattle.runs.specs.Writer.{Wrote, list_of, input_ok};
+ghost use Rattle.writer.specs.Promises.{Writes};
+ghost use Rattle.runs.specs.Writer.{list_of, input_ok};
 ghost use Rattle.words.specs.Lent.{lent};
 
 use marks::{Tally, count_marks, put_runs};
 use words::limits::MAX_LBNS;
-use words::{BLOCK_SIZE, PRINT_SIZE, refusals};
+use words::refusals::Refusal;
+use words::{BLOCK_SIZE, PRINT_SIZE};
 
 fn marks_ok(marks: &[u8]) -> bool
     ensures { result ≡ all (λ m. leb m 1) marks.now }
 {
-    let mut i = 0;
-    while i < marks.len() {
-        if marks[i] > 1 {
-            return false;
-        }
-        i += 1;
-    }
-    true
+    marks.iter().all(|m| *m <= 1)
 }
 
 // False where number 19 refuses.
@@ -71,12 +66,10 @@ fn put_marked(list: &mut [u8], at: usize, marks: &[u8], elements: &[u8], size: u
 {
     let mut next = at;
     let mut from = 0;
-    let mut i = 0;
-    while i < marks.len() {
+    for mark in marks {
         let to = from + size;
-        next = put_if(list, next, marks[i], &elements[from..to]);
+        next = put_if(list, next, *mark, &elements[from..to]);
         from = to;
-        i += 1;
     }
     next
 }
@@ -100,25 +93,23 @@ fn put_list(list: &mut [u8], runs: u16, marks: &[u8], prints: &[u8], image: &[u8
 }
 
 // Writes the list of the marked blocks and answers its length in bytes.
-pub fn aspen_write_list(
+pub fn write_list(
     l: u16,
     marks: &[u8],
     prints: &[u8],
     image: &[u8],
     list: &mut [u8],
-    written: &mut u32,
-) -> u16
-    ensures { Wrote l marks prints image (lent list) (lent written) result }
+) -> Result<usize, Refusal>
+    ensures { Writes l marks prints image (lent list) result }
 {
     if !input_ok(l, marks, prints, image) {
-        return refusals::BAD_INPUT;
+        return Err(Refusal::BadInput);
     }
     let t = count_marks(marks);
     let size = list_len(t);
     if list.len() < size {
-        return refusals::SHORT_OUTPUT;
+        return Err(Refusal::ShortOutput);
     }
     put_list(list, t.runs, marks, prints, image);
-    *written = size as u32;
-    0
+    Ok(size)
 }

@@ -1,4 +1,4 @@
-// The change list as the aid writes it, for C: the function of that name in `writer`, under its clauses.
+// The change list as the aid writes it, for C: that of `writer`, with numbers for refusals.
 
 #![tactic(auto)]
 
@@ -17,5 +17,11 @@ pub extern "C" fn aspen_write_list(
 ) -> u16
     ensures { Wrote l marks prints image (lent list) (lent written) result }
 {
-    writer::aspen_write_list(l, marks, prints, image, list, written)
+    match writer::write_list(l, marks, prints, image, list) {
+        Ok(size) => {
+            *written = size as u32;
+            0
+        }
+        Err(refusal) => u16::from(refusal),
+    }
 }

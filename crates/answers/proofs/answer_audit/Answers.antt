@@ -1,15 +1,14 @@
 -- `answers::answer_audit` meets its contract.
-use Rattle.answers.proofs.Doing.{audit-refused, audit-done}
+use Rattle.std.specs.Prelude.{Ok, Err}
+use Rattle.answers.proofs.Doing.{audit_did}
 use Rattle.answers.proofs.answer_audit.Goals as goal
 
-pub returns-then-refusal-ne0 : goal.returns-then-refusal-ne0
-returns-then-refusal-ne0 c spare pool =
+pub returns-in-Ok : goal.returns-in-Ok
+returns-in-Ok c spare pool =
     let a = c.args in
-    audit-refused spare _ pool a.answers.now a.to _ _ c.aspen_audit-refusal.ensures c.if-refusal-ne0.true
-    c.tell.ensures
+    audit_did spare _ pool a.answers.now a.to (Ok c.in-Ok.sound) c.in-Ok.ensures (rw c.from.ensures at c.tell.ensures)
 
-pub returns : goal.returns
-returns c spare pool =
+pub returns-in-Err : goal.returns-in-Err
+returns-in-Err c spare pool =
     let a = c.args in
-    audit-done spare _ pool a.answers.now a.to _ _ c.aspen_audit-refusal.ensures c.if-refusal-ne0.false
-    c.tell-2.ensures
+    audit_did spare _ pool a.answers.now a.to (Err c.in-Err.refusal) c.in-Err.ensures c.tell_refusal.ensures

@@ -2,8 +2,12 @@
 use Rattle.answers.proofs.Doing.{enrol_did}
 use Rattle.answers.proofs.answer_enrol.Goals as goal
 
-pub returns : goal.returns
-returns c spare pool =
+pub returns-in-Ok : goal.returns-in-Ok
+returns-in-Ok c spare pool =
     let a = c.args in
-    enrol_did spare _ pool a.answers.now a.to a.v a.retention _ c.aspen_enrol-refusal.ensures
-    c.tell.ensures
+    enrol_did spare _ pool a.answers.now a.to a.v a.retention _ c.in-Ok.ensures c.tell.ensures
+
+pub returns-in-Err : goal.returns-in-Err
+returns-in-Err c spare pool =
+    let a = c.args in
+    enrol_did spare _ pool a.answers.now a.to a.v a.retention _ c.in-Err.ensures c.tell_refusal.ensures

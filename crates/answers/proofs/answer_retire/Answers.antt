@@ -1,15 +1,13 @@
 -- `answers::answer_retire` meets its contract.
-use Rattle.answers.proofs.Doing.{retire-refused, retire-done}
+use Rattle.answers.proofs.Doing.{retire_did}
 use Rattle.answers.proofs.answer_retire.Goals as goal
 
-pub returns-then-refusal-ne0 : goal.returns-then-refusal-ne0
-returns-then-refusal-ne0 c pool =
+pub returns-in-Ok : goal.returns-in-Ok
+returns-in-Ok c pool =
     let a = c.args in
-    retire-refused _ _ a.v a.day _ _ c.aspen_retire-refusal.ensures pool a.answers.now a.to
-    c.if-refusal-ne0.true c.tell.ensures
+    retire_did _ _ a.v a.day pool a.answers.now a.to _ c.in-Ok.ensures c.tell.ensures
 
-pub returns : goal.returns
-returns c pool =
+pub returns-in-Err : goal.returns-in-Err
+returns-in-Err c pool =
     let a = c.args in
-    retire-done _ _ a.v a.day _ _ c.aspen_retire-refusal.ensures pool a.answers.now a.to
-    c.if-refusal-ne0.false c.tell-2.ensures
+    retire_did _ _ a.v a.day pool a.answers.now a.to _ c.in-Err.ensures c.tell_refusal.ensures

@@ -1,16 +1,22 @@
 -- `answers::tell` meets its contract.
-use mathlib.Core.Path.{◌∙◌}
-use native.Mathlib.Omega.{arith}
-use lib.ListN.{length-set}
+use mathlib.Core.Path.{◌≡◌, refl}
+use denote.Enum.Declared.{tag_of}
+use Rattle.answers.specs.Tags.{code}
+use Rattle.answers.specs.contracts.Tag.{the_type}
+use Rattle.answers.specs.declared.Tag.{Tag}
+use Rattle.answers.specs.declared.Tag.TheVariants.{Number, Backed, Gave, Block, Sound, Run}
 use Rattle.answers.proofs.AnswersLaid.{answered}
 use Rattle.answers.proofs.tell.Goals as goal
 
-pub put_u16-requires : goal.put_u16-requires
-put_u16-requires c = rw length-set (omega arith)
-
-pub shape_of-answers : goal.shape_of-answers
-shape_of-answers c = c.put_u16.auto.b ∙ simp length-set
+-- the byte that a tag is cast to
+cast : (t : Tag) → tag_of the_type t ≡ code t
+cast Number = refl
+cast Backed = refl
+cast Gave = refl
+cast Block = refl
+cast Sound = refl
+cast Run = refl
 
 pub returns : goal.returns
 returns c =
-    let a = c.args in answered a.answers.now a.to a.tag a.v c.put_u16.ensures
+    let a = c.args in answered a.answers.now a.to (code a.tag) a.v (rw (cast a.tag) at c.put_u16.ensures)

@@ -11,7 +11,7 @@ use Rattle.convert.proofs.Exits.{narrow-each}
 use Rattle.convert.proofs.all_narrow.Goals as goal
 
 pub loop-p-init : goal.loop-p-init
-loop-p-init c = (omega arith, sym (each_none _ _ _ (omega arith)))
+loop-p-init c = sym (each_none _ _ _ (omega arith))
 
 pub count-requires : goal.count-requires
 count-requires c =
@@ -20,11 +20,10 @@ count-requires c =
 pub loop-p-preserved : goal.loop-p-preserved
 unfolding count_as
 loop-p-preserved c =
-    let l = c.loop-p in
-    (omega arith, each-grow _ _ _ (omega arith) l.invariant.1 (ap (λ (k : ℕ). is_narrow (count_as k free_entry)) c.count.ensures))
+    each-grow _ _ _ (omega arith) c.loop-p.invariant (ap (λ (k : ℕ). is_narrow (count_as k free_entry)) c.count.ensures)
 
 pub returns : goal.returns
 returns c =
     let b = c.args.book.now in
-    let e : c.loop-p.p ≡ (book_of b).sizes.n = omega (arith, c.loop-p.invariant.0, c.blocks-n.ensures) in
-    c.loop-p.invariant.1 ∙ ap (λ (n : ℕ). each (λ q. is_narrow (entry_at (book_of b).entries q)) 0 n) e ∙ narrow-each b
+    let e : c.loop-p.p ≡ (book_of b).sizes.n = omega (arith, c.blocks-n.ensures) in
+    c.loop-p.invariant ∙ ap (λ (n : ℕ). each (λ q. is_narrow (entry_at (book_of b).entries q)) 0 n) e ∙ narrow-each b

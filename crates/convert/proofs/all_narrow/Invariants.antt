@@ -1,5 +1,4 @@
 -- `convert::all_narrow`: `good` is the test of the entries passed.
-use Prim.Native.Nat.{◌-◌, ◌≤◌}
 use mathlib.Core.Path.{◌≡◌}
 use Rattle.words.specs.Lists.{each}
 use Rattle.book.specs.Book.{entry_at}
@@ -9,8 +8,4 @@ use Rattle.convert.proofs.all_narrow.Given as goal
 
 abbrev pub invariant-loop-p : goal.invariant-loop-p
 invariant-loop-p l =
-    (l.p ≤ l.n) × (l.good ≡ each (λ q. is_narrow (entry_at (book_of l.book).entries q)) 0 l.p)
-
-abbrev pub decreases-loop-p : goal.decreases-loop-p
-decreases-loop-p l =
-    l.n - l.p
+    l.good ≡ each (λ q. is_narrow (entry_at (book_of l.book).entries q)) 0 l.p

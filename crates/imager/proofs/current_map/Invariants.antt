@@ -1,5 +1,4 @@
 -- `imager::current_map` meets its contract: a turn copies one cell.
-use Prim.Native.Nat.{◌-◌}
 use Rattle.book.specs.Layout.{book_of}
 use Rattle.imager.proofs.ImagingLaws.{Copied}
 use Rattle.imager.proofs.current_map.Given as goal
@@ -7,7 +6,3 @@ use Rattle.imager.proofs.current_map.Given as goal
 abbrev pub invariant-loop-l : goal.invariant-loop-l
 invariant-loop-l l =
     Copied (book_of l.book) l.v l.l l.image
-
-abbrev pub decreases-loop-l : goal.decreases-loop-l
-decreases-loop-l l =
-    l.cells - l.l

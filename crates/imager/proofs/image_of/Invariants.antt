@@ -7,10 +7,5 @@ use Rattle.imager.proofs.image_of.Given as goal
 
 abbrev pub invariant-loop-q : goal.invariant-loop-q
 invariant-loop-q l =
-    (l.q ≤ length (book_of l.book).slots)
-    × (length (book_of l.book).slots ≤ l.q + (length (book_of l.book).slots - l.at))
+    (length (book_of l.book).slots ≤ l.q + (length (book_of l.book).slots - l.at))
     × Imaged (book_of l.book) l.v l.q l.image
-
-abbrev pub decreases-loop-q : goal.decreases-loop-q
-decreases-loop-q l =
-    l.q

@@ -1,11 +1,9 @@
 use Prim.Native.Nat.{◌-◌}
 use mathlib.Core.Path.{◌≡◌}
 use native.Mathlib.Omega.{arith}
-use lib.ListN.{length}
 use Rattle.book.specs.Layout.{told}
 use Rattle.book.proofs.Conditions.{rec_in}
-use Rattle.imager.specs.Imaging.{image_size}
-use Rattle.imager.proofs.ImagingLaws.{undone_start, undone_more}
+use Rattle.imager.proofs.ImagingLaws.{undone_more}
 use Rattle.imager.proofs.undo_records.Goals as goal
 
 -- the record's LBN has a cell
@@ -14,37 +12,14 @@ bounds-image-record c =
     let w = rec_in (told c.args.book) c.requires.form_facts.parts (c.loop-q.q - 1) (omega arith) in
     omega (arith, w.lbn, c.record_at-record.ensures.lbn)
 
-pub loop-q-init : goal.loop-q-init
-loop-q-init c =
-    (omega arith, omega arith, undone_start _ (told c.args.book).records c.args.end)
-
-pub record_at-record-requires : goal.record_at-record-requires
-record_at-record-requires c =
-    record { holds = c.requires.form_facts.holds; q_in_bounds = omega arith }
-
 pub loop-q-preserved : goal.loop-q-preserved
 loop-q-preserved c =
     let l = c.loop-q in
-    let long : length l.image ≡ image_size = omega (arith, l.invariant.2.long) in
-    let b = rec_in (told c.args.book) c.requires.form_facts.parts (l.q - 1) (omega arith) in (
-      omega arith,
-      omega arith,
-      undone_more _ (told c.args.book).records c.args.end (omega arith) (omega arith)
-          (omega arith) c.record_at-record.ensures (omega arith) l.invariant.2,
-    )
+    let b = rec_in (told c.args.book) c.requires.form_facts.parts (l.q - 1) (omega arith) in
+    (omega arith, undone_more _ (told c.args.book).records c.args.end (omega arith) (omega arith) (omega arith) c.record_at-record.ensures (omega arith) l.invariant.1)
 
 pub returns : goal.returns
 returns c =
     let l = c.loop-q in
     let e : c.args.first ≡ l.q = omega arith in
-    rw e l.invariant.2
-
-pub overflow_cast-image : goal.overflow_cast-image
-overflow_cast-image c =
-    let w = rec_in (told c.args.book) c.requires.form_facts.parts (c.loop-q.q - 1) (omega arith) in
-    omega (arith, w.lbn, c.record_at-record.ensures.lbn)
-
-pub offset_bounds-image-record : goal.offset_bounds-image-record
-offset_bounds-image-record c =
-    let w = rec_in (told c.args.book) c.requires.form_facts.parts (c.loop-q.q - 1) (omega arith) in
-    omega (arith, w.lbn, c.record_at-record.ensures.lbn)
+    rw e l.invariant.1

@@ -7,8 +7,4 @@ use Rattle.imager.proofs.undo_records.Given as goal
 
 abbrev pub invariant-loop-q : goal.invariant-loop-q
 invariant-loop-q l =
-    (l.first ≤ l.q) × (l.q ≤ l.end) × Undone (book_of l.book) (slice l.q l.end (book_of l.book).records) l.initial.image l.image
-
-abbrev pub decreases-loop-q : goal.decreases-loop-q
-decreases-loop-q l =
-    l.q
+    (l.first ≤ l.q) × Undone (book_of l.book) (slice l.q l.end (book_of l.book).records) l.initial.image l.image

@@ -16,7 +16,7 @@ overflow_add-end c =
     let p = c.requires in
     let x = told c.args.book in
     let i = c.slot_at-slot.ensures in
-    omega (arith, pairs_in x.slots 0 (length x.records) p.form_facts.parts.pairs c.args.q p.q_in_bounds.0, i.first, i.number)
+    omega (arith, pairs_in x.slots 0 (length x.records) p.form_facts.parts.pairs c.args.q p.q_in_bounds, i.first, i.number)
     in
     omega (arith, room, c.requires.form_facts.holds.records, c.requires.form_facts.holds.j)
 
@@ -26,12 +26,12 @@ undo_records-requires c =
     let p = c.requires in
     let x = told c.args.book in
     let i = c.slot_at-slot.ensures in
-    omega (arith, pairs_in x.slots 0 (length x.records) p.form_facts.parts.pairs c.args.q p.q_in_bounds.0, i.first, i.number)
+    omega (arith, pairs_in x.slots 0 (length x.records) p.form_facts.parts.pairs c.args.q p.q_in_bounds, i.first, i.number)
     in
     let p = c.requires in
-    record { form_facts = p.form_facts; first_le_end = (omega arith, room, p.q_in_bounds.1) }
+    record { form_facts = p.form_facts; first_le_end = (omega arith, room) }
 
 pub returns : goal.returns
 returns c =
     let p = c.requires in
-    undone_own _ _ _ c.slot_at-slot.ensures p.form_facts.parts.pairs p.q_in_bounds.0 (omega arith) c.undo_records.ensures
+    undone_own _ _ _ c.slot_at-slot.ensures p.form_facts.parts.pairs p.q_in_bounds (omega arith) c.undo_records.ensures

@@ -1,13 +1,8 @@
 -- `keeping::backups_after` meets its contract: a turn passes one slot, until the volume's next one after its k-th.
-use Prim.Native.Nat.{◌-◌, ◌≤◌}
 use Rattle.book.specs.Layout.{book_of}
 use Rattle.keeping.proofs.AfterLaws.{Skipped}
 use Rattle.keeping.proofs.backups_after.Given as goal
 
 abbrev pub invariant-loop-q : goal.invariant-loop-q
 invariant-loop-q l =
-    (l.q ≤ l.used) × Skipped (book_of l.book) l.v l.k l.q l.missing l.taken l.retire
-
-abbrev pub decreases-loop-q : goal.decreases-loop-q
-decreases-loop-q l =
-    l.used - l.q
+    Skipped (book_of l.book) l.v l.k l.q l.missing l.taken l.retire

@@ -1,12 +1,7 @@
 -- `refresh::put_expiries` meets its contract. The loop's invariant: the blocks passed have the table's expiries.
-use Prim.Native.Nat.{◌-◌}
 use Rattle.refresh.proofs.Putting.{Putting}
 use Rattle.refresh.proofs.put_expiries.Given as goal
 
 abbrev pub invariant-loop-p : goal.invariant-loop-p
 invariant-loop-p l =
     Putting l.initial.book l.expiries l.book l.p
-
-abbrev pub decreases-loop-p : goal.decreases-loop-p
-decreases-loop-p l =
-    l.n - l.p

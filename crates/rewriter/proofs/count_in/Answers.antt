@@ -6,7 +6,7 @@ use Rattle.rewriter.proofs.count_in.Goals as goal
 pub returns-then-layout-eq-NARROW_LAYOUT : goal.returns-then-layout-eq-NARROW_LAYOUT
 returns-then-layout-eq-NARROW_LAYOUT c =
     let a = c.args in
-    rw (eq-eqb a.layout 1 (omega arith)) c.wide.ensures.0
+    rw (eq-eqb a.layout 1 (omega arith)) c.from.ensures
 
 pub returns : goal.returns
 returns c =

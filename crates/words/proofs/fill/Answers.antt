@@ -1,30 +1,13 @@
-use Prim.Native.Nat.{ℕ, ◌+◌}
-use mathlib.Core.Path.{◌≡◌, refl, ap, ◌∙◌}
-use mathlib.Core.List.{List}
-use lib.ListN.{set, replicate, length-set}
-use lib.Seq.{sets}
+use Prim.Native.Nat.{◌+◌, ◌-◌}
+use mathlib.Core.Path.{◌≡◌, ap}
+use lib.ListN.{length, take, drop, replicate, length-replicate, length-drop, length-take}
 use native.Mathlib.Omega.{arith}
-use Rattle.words.proofs.Filling.{fill_more}
+use Rattle.words.proofs.PartStores.{part-stored}
 use Rattle.words.proofs.fill.Goals as goal
-
-pub loop-i-init : goal.loop-i-init
-loop-i-init c = (omega arith, refl, refl)
-
-pub loop-i-preserved : goal.loop-i-preserved
-loop-i-preserved c =
-    let l = c.loop-i in
-    let a = c.args in (
-      omega arith,
-      ap (λ (x : List ℕ). set x (a.at + l.i) a.v) l.invariant.1 ∙ fill_more a.b.now a.at l.i a.v,
-      simp length-set l.invariant.2,
-    )
-
-pub shape_of-b : goal.shape_of-b
-shape_of-b c = c.loop-i.invariant.2
 
 pub returns : goal.returns
 returns c =
     let a = c.args in
-    let l = c.loop-i in
-    let e : l.i ≡ a.n = omega arith in
-    l.invariant.1 ∙ ap (λ (k : ℕ). sets a.b.now a.at (replicate k a.v)) e
+    let k : length (take (a.at + a.n - a.at) (drop a.at a.b.now)) ≡ a.n = grind (arith, length-take, length-drop) in
+    rw (c.fill.ensures.after, k)
+    (part-stored a.b.now a.at (a.at + a.n) (omega arith) c.requires (replicate a.n a.v) (ap (λ m. a.at + m) (length-replicate a.n a.v)))

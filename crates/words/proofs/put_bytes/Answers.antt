@@ -1,44 +1,12 @@
-use mathlib.Core.List.{List}
-use Rattle.words.proofs.SectionLaws.{sets_more}
-use lib.Seq.{sets, take-length}
-use lib.ListN.{length, take, get_or, set, length-set}
-use Prim.Native.Nat.{ℕ, ◌+◌}
-use mathlib.Core.Path.{◌≡◌, ap, ◌∙◌, refl}
+use mathlib.Core.Path.{refl}
+use lib.ListN.{length}
+use Prim.Native.Nat.{◌+◌}
 use native.Mathlib.Omega.{arith}
+use Rattle.words.proofs.PartStores.{part-stored}
 use Rattle.words.proofs.put_bytes.Goals as goal
 
--- src/lib.rt:161:5
-pub loop-i-init : goal.loop-i-init
-loop-i-init c = (omega arith, refl, refl)
-
--- src/lib.rt:162:21
--- src/lib.rt:162:11
--- src/lib.rt:162:9
--- src/lib.rt:163:9
--- src/lib.rt:161:5
--- src/lib.rt:161:5
-pub loop-i-preserved : goal.loop-i-preserved
-loop-i-preserved c =
-    let l =
-    c.loop-i in let a =
-    c.args
-    in (
-      omega arith,
-      ap (λ (x : List ℕ). set x (a.at + l.i) (get_or a.src.now l.i 0)) l.invariant.1
-          ∙ sets_more a.src.now a.b.now a.at l.i c.loop-i-test.true,
-      simp
-          length-set l.invariant.2,
-    )
-
--- src/lib.rt:156:1
-pub shape_of-b : goal.shape_of-b
-shape_of-b c = c.loop-i.invariant.2
-
--- src/lib.rt:156:1
 pub returns : goal.returns
 returns c =
-    let a =
-    c.args in let l =
-    c.loop-i in let e : l.i ≡ length a.src.now =
-    omega arith in l.invariant.1 ∙ ap (λ (k : ℕ). sets a.b.now a.at (take k a.src.now)) e
-    ∙ ap (λ (x : List ℕ). sets a.b.now a.at x) (take-length a.src.now)
+    let a = c.args in
+    rw c.copy_from_slice.ensures.after
+    (part-stored a.b.now a.at (a.at + length a.src.now) (omega arith) c.requires a.src.now refl)

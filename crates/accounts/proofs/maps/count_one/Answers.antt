@@ -7,7 +7,7 @@ pub returns-then-at-ge-MAX_BLOCKS : goal.returns-then-at-ge-MAX_BLOCKS
 returns-then-at-ge-MAX_BLOCKS c = counted-past _ _ (omega arith)
 
 pub overflow_add-counts : goal.overflow_add-counts
-overflow_add-counts c = omega (arith, c.requires.1 (omega arith))
+overflow_add-counts c = omega (arith, c.requires (omega arith))
 
 pub returns : goal.returns
 returns c = counted-one _ _ (omega arith)

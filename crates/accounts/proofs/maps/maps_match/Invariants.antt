@@ -1,13 +1,8 @@
 -- `accounts::maps::maps_match` meets its contract: the rows passed are tested and counted.
-use Prim.Native.Nat.{◌-◌, ◌≤◌}
 use Rattle.book.specs.Layout.{book_of}
 use Rattle.accounts.proofs.MapsTakenLaws.{MapsTaking}
 use Rattle.accounts.proofs.maps.maps_match.Given as goal
 
 abbrev pub invariant-loop-v : goal.invariant-loop-v
 invariant-loop-v l =
-    (l.v ≤ 8) × MapsTaking (book_of l.book) l.cells l.v l.good l.counts
-
-abbrev pub decreases-loop-v : goal.decreases-loop-v
-decreases-loop-v l =
-    8 - l.v
+    MapsTaking (book_of l.book) l.cells l.v l.good l.counts

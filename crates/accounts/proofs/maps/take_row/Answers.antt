@@ -1,5 +1,5 @@
 use Prim.Native.Nat.{◌*◌}
-use mathlib.Core.Path.{◌≡◌, refl, ◌∙◌}
+use mathlib.Core.Path.{◌≡◌, refl}
 use mathlib.Core.List.{[]}
 use lib.ListN.{get_or, take, length-take}
 use lib.Seq.{take_all}
@@ -16,7 +16,7 @@ cells-wide-requires c = c.requires.form_facts.holds
 
 pub loop-l-init : goal.loop-l-init
 unfolding row_matches
-loop-l-init c = (omega arith, matching-none _ _, counted_none _)
+loop-l-init c = (matching-none _ _, counted_none _)
 
 pub cell-named-requires : goal.cell-named-requires
 cell-named-requires c =
@@ -26,10 +26,8 @@ pub count_one-requires : goal.count_one-requires
 count_one-requires c =
     let l = c.loop-l in
     let p = c.cell-named.result.0 in
-    let m = get_or (book_of c.args.book.now).maps c.args.v [] in (
-      l.invariant.2.long ∙ c.requires.v_lt_volumes.1,
-      λ h. omega (arith, counted-le (c.args.v * row_size) p h (c.requires.v_lt_volumes.2 p h) l.invariant.2, length-take l.l m),
-    )
+    let m = get_or (book_of c.args.book.now).maps c.args.v [] in
+    λ h. omega (arith, counted-le (c.args.v * row_size) p h (c.requires.v_lt_volumes.1 p h) l.invariant.1, length-take l.l m)
 
 pub loop-l-preserved : goal.loop-l-preserved
 unfolding row_matches
@@ -37,10 +35,9 @@ loop-l-preserved c =
     let l = c.loop-l in
     let e = c.cell-named in
     let m = get_or (book_of c.args.book.now).maps c.args.v [] in (
-      omega arith,
-      matching-grow _ _ l.l l.invariant.1 e.ensures refl,
+      matching-grow _ _ l.l l.invariant.0 e.ensures refl,
       counted-cell m l.l e.result.0
-          (omega (arith, c.requires.form_facts.holds.sized.cells c.args.v c.requires.v_lt_volumes.0)) e.ensures l.invariant.2
+          (omega (arith, c.requires.form_facts.holds.sized.cells c.args.v c.requires.v_lt_volumes.0)) e.ensures l.invariant.1
           c.count_one.ensures,
     )
 
@@ -52,4 +49,4 @@ returns c =
     let all : l.l ≡ x.sizes.l = omega arith in
     let wide = c.requires.form_facts.holds.sized.cells c.args.v c.requires.v_lt_volumes.0 in
     let whole : take l.l m ≡ m = take_all l.l m (omega (arith, wide)) in
-    record { test = rw all at l.invariant.1; counts = rw whole at l.invariant.2 }
+    record { test = rw all at l.invariant.0; counts = rw whole at l.invariant.1 }

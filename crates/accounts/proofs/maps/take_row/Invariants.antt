@@ -1,5 +1,4 @@
 -- `accounts::maps::take_row` meets its contract: `good` is the test of the cells passed, and those are counted.
-use Prim.Native.Nat.{◌-◌, ◌≤◌}
 use mathlib.Core.Path.{◌≡◌}
 use mathlib.Core.List.{[]}
 use lib.ListN.{get_or, take}
@@ -10,10 +9,5 @@ use Rattle.accounts.proofs.maps.take_row.Given as goal
 
 abbrev pub invariant-loop-l : goal.invariant-loop-l
 invariant-loop-l l =
-    (l.l ≤ l.wide)
-    × (l.good ≡ row_matches (book_of l.book).maps l.l l.cells l.v)
+    (l.good ≡ row_matches (book_of l.book).maps l.l l.cells l.v)
     × Counted l.initial.counts (take l.l (get_or (book_of l.book).maps l.v [])) l.counts
-
-abbrev pub decreases-loop-l : goal.decreases-loop-l
-decreases-loop-l l =
-    l.wide - l.l

@@ -8,7 +8,7 @@ pub blocks-n-requires : goal.blocks-n-requires
 blocks-n-requires c = c.requires.holds
 
 pub loop-p-init : goal.loop-p-init
-loop-p-init c = (omega arith, entries_none _ _ _)
+loop-p-init c = entries_none _ _ _
 
 pub entry_matches-good-requires : goal.entry_matches-good-requires
 entry_matches-good-requires c =
@@ -16,10 +16,9 @@ entry_matches-good-requires c =
 
 pub loop-p-preserved : goal.loop-p-preserved
 loop-p-preserved c =
-    let l = c.loop-p in
-    (omega arith, entries-grow _ _ _ l.p l.invariant.1 c.entry_matches-good.ensures)
+    let l = c.loop-p in entries-grow _ _ _ l.p l.invariant c.entry_matches-good.ensures
 
 pub returns : goal.returns
 returns c =
     let e : c.loop-p.p ≡ (told c.args.book).sizes.n = omega arith in
-    rw e at c.loop-p.invariant.1
+    rw e at c.loop-p.invariant

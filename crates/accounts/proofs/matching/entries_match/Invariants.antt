@@ -1,5 +1,4 @@
 -- `accounts::matching::entries_match` meets its contract: `good` is the test of the entries passed.
-use Prim.Native.Nat.{◌-◌, ◌≤◌}
 use mathlib.Core.Path.{◌≡◌}
 use Rattle.book.specs.Layout.{book_of}
 use Rattle.accounts.specs.Entries.{entries_match}
@@ -7,8 +6,4 @@ use Rattle.accounts.proofs.matching.entries_match.Given as goal
 
 abbrev pub invariant-loop-p : goal.invariant-loop-p
 invariant-loop-p l =
-    (l.p ≤ l.n) × (l.good ≡ entries_match (book_of l.book).entries l.counts l.expiries l.p)
-
-abbrev pub decreases-loop-p : goal.decreases-loop-p
-decreases-loop-p l =
-    l.n - l.p
+    l.good ≡ entries_match (book_of l.book).entries l.counts l.expiries l.p

@@ -1,5 +1,4 @@
 -- `calendar::backups::next_own` meets its contract: the slots passed are other volumes'.
-use Prim.Native.Nat.{◌-◌, ◌≤◌}
 use mathlib.Core.Path.{◌≡◌}
 use Rattle.book.specs.Layout.{book_of}
 use Rattle.model.specs.JournalAt.{own_from}
@@ -7,8 +6,4 @@ use Rattle.calendar.proofs.backups.next_own.Given as goal
 
 abbrev pub invariant-loop-r : goal.invariant-loop-r
 invariant-loop-r l =
-    (l.q ≤ l.r) × (own_from (book_of l.book) l.v l.q ≡ own_from (book_of l.book) l.v l.r)
-
-abbrev pub decreases-loop-r : goal.decreases-loop-r
-decreases-loop-r l =
-    l.used - l.r
+    own_from (book_of l.book) l.v l.q ≡ own_from (book_of l.book) l.v l.r

@@ -19,10 +19,7 @@ loop-p-preserved c =
       | else-free_over w ↦ rw w.if-free_over.false (omega (arith, w.freed-is))
     ] in
     sweeping_more _ c.requires c.loop-p.invariant (omega arith) c.free_over.ensures.value
-    c.free_over.ensures.is c.free_over.auto.book counted
-
-pub shape_of-book : goal.shape_of-book
-shape_of-book c = c.loop-p.invariant.len
+    c.free_over.ensures.is counted
 
 pub returns : goal.returns
 returns c =

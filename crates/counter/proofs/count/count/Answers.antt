@@ -1,28 +1,20 @@
--- `count` meets its contract, by what counting leaves on each way out.
-use mathlib.Core.Path.{◌≡◌, refl, sym, ◌∙◌}
-use Rattle.book.specs.Form.{form_number}
+-- `count` meets its contract, by what counting gives on each way out.
+use Rattle.std.proofs.lemmas.Result.{err_from_is_err_and}
+use native.Mathlib.Omega.{arith}
 use Rattle.book.proofs.FormBytes.{holds-form}
-use Rattle.book.specs.Layout.{Holds}
 use Rattle.counter.proofs.CountedLaws.{counted-refused, counted-up}
 use Rattle.counter.proofs.count.count.Goals as goal
 
-pub returns-then-refusal-ne0 : goal.returns-then-refusal-ne0
-returns-then-refusal-ne0 c = counted-refused _ _ _ _ _ refl refl refl refl c.form_number-refusal.ensures c.if-refusal-ne0.true
+pub returns-in_err-check : goal.returns-in_err-check
+returns-in_err-check c =
+    let p = err_from_is_err_and c.from_residual.result c.from_residual.ensures.1 in
+    rw (p.1, p.2) (counted-refused _ _ (omega arith))
 
 pub count_entries-t-requires : goal.count_entries-t-requires
-count_entries-t-requires c =
-    let in_form : form_number c.args.book.now ≡ 0 = sym c.form_number-refusal.ensures ∙ c.if-refusal-ne0.false in
-    let holds : Holds c.args.book.now = holds-form _ (λ i. (c.type_inv.book i).fits) in_form in
-    holds
+count_entries-t-requires c = holds-form _ (λ i. (c.type_inv.book i).fits) (omega arith)
 
 pub blocks-requires : goal.blocks-requires
-blocks-requires c =
-    let in_form : form_number c.args.book.now ≡ 0 = sym c.form_number-refusal.ensures ∙ c.if-refusal-ne0.false in
-    let holds : Holds c.args.book.now = holds-form _ (λ i. (c.type_inv.book i).fits) in_form in
-    holds
+blocks-requires c = holds-form _ (λ i. (c.type_inv.book i).fits) (omega arith)
 
 pub returns : goal.returns
-returns c =
-    let in_form : form_number c.args.book.now ≡ 0 = sym c.form_number-refusal.ensures ∙ c.if-refusal-ne0.false in
-    let counts = c.count_entries-t.ensures.0 in
-    counted-up _ _ _ _ _ in_form c.blocks-2.ensures counts refl refl refl
+returns c = counted-up c.args.book.now (omega arith) c.blocks-2.ensures c.count_entries-t.ensures.0

@@ -1,5 +1,4 @@
 -- `super::expiries::gather` meets its contract: what is left of the journal decides as the whole does.
-use Prim.Native.Nat.{◌-◌, ◌≤◌}
 use lib.ListN.{drop}
 use Rattle.book.specs.Layout.{book_of}
 use Rattle.model.specs.Audit.{until_in}
@@ -10,11 +9,6 @@ use Rattle.due.proofs.expiries.gather.Given as goal
 
 abbrev pub invariant-loop-q : goal.invariant-loop-q
 invariant-loop-q l =
-    (l.q ≤ l.used)
-    × Raising l.initial.expiries (λ p. until_in (book_of l.book) p (journal (book_of l.book))) l.expiries
+    Raising l.initial.expiries (λ p. until_in (book_of l.book) p (journal (book_of l.book))) l.expiries
     (λ p. until_in (book_of l.book) p (drop l.q (journal (book_of l.book))))
     × LastsAre (book_of l.book) l.q l.lasts
-
-abbrev pub decreases-loop-q : goal.decreases-loop-q
-decreases-loop-q l =
-    l.used - l.q

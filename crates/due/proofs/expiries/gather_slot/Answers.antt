@@ -12,7 +12,7 @@ overflow_add-end c =
 pub raise_befores-requires : goal.raise_befores-requires
 raise_befores-requires c =
     let known : SlotRead (told c.args.book) c.slot_at-slot.result = slot_read c.requires.holds.0 c.requires.holds.1 c.args.q c.requires.q_in_bounds.0 c.slot_at-slot.ensures in
-    record { holds = c.requires.holds.0; of_pool = (c.requires.q_in_bounds.1, omega arith, known.records) }
+    record { holds = c.requires.holds.0; from_le_end = (omega arith, known.records) }
 
 pub returns : goal.returns
 returns c =

@@ -1,7 +1,7 @@
 -- `fields::fresh::format`: what the two steps left, by `is-fresh`.
 use Rattle.book.proofs.FreshBook.{is-fresh}
-use Rattle.book.specs.Layout.{entry_size}
-use Rattle.book.specs.Next.{new_sizes}
+use Rattle.book.specs.Layout.{current, entry_size}
+use Rattle.fields.specs.InLayout.{in_layout}
 use borrow.Author.Rules.{rules}
 use Rattle.fields.proofs.fresh.format.Goals as goal
 
@@ -13,4 +13,4 @@ pub returns : goal.returns
 unfolding entry_size
 returns c =
     let a = c.args in
-    is-fresh (new_sizes a.n a.l a.s a.j) c.requires.bounds c.blank.ensures c.put_sizes.ensures
+    is-fresh (in_layout current a.sizes) c.requires.bounds c.blank.ensures c.put_sizes.ensures

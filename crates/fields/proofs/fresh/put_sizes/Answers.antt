@@ -17,5 +17,6 @@ stores b n l s j p q r = rw (r, q, p)
 pub returns : goal.returns
 returns c =
     let a = c.args in
-    stores a.b.now a.n a.l a.s a.j c.put_u16.ensures c.put_u16-2.ensures
+    let z = a.sizes in
+    stores a.b.now z.n z.l z.s z.j c.put_u16.ensures c.put_u16-2.ensures
     c.put_three.ensures

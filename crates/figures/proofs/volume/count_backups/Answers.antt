@@ -10,7 +10,7 @@ pub used_slots-used-requires : goal.used_slots-used-requires
 used_slots-used-requires c = c.requires
 
 pub loop-q-init : goal.loop-q-init
-loop-q-init c = (omega arith, passed_none _ _)
+loop-q-init c = passed_none _ _
 
 pub slot_at-slot-requires : goal.slot_at-slot-requires
 slot_at-slot-requires c =
@@ -23,9 +23,9 @@ loop-q-preserved c =
     let t = c.slot_at-slot.result in
     let s = c.slot_at-slot.ensures in
     elim c.if-slot-v.branch [
-      | then-slot-v w ↦ (omega arith, rw w.count-is (passed-own _ _ l.q t s h l.count l.invariant.1 w.if-slot-v.true))
-      | else-slot-v w ↦ (omega arith, rw w.count-is (passed-other _ _ l.q t s h l.count l.invariant.1 w.if-slot-v.false))
+      | then-slot-v w ↦ rw w.count-is (passed-own _ _ l.q t s h l.count l.invariant w.if-slot-v.true)
+      | else-slot-v w ↦ rw w.count-is (passed-other _ _ l.q t s h l.count l.invariant w.if-slot-v.false)
     ]
 
 pub returns : goal.returns
-returns c = let l = c.loop-q in passed-all _ _ l.q l.count l.invariant.1 (omega arith)
+returns c = let l = c.loop-q in passed-all _ _ l.q l.count l.invariant (omega arith)

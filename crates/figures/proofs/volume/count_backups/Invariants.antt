@@ -1,14 +1,9 @@
 -- `figures::volume::count_backups` meets its contract: the backups counted, and those in the slots left, are all of the
 -- volume's.
-use Prim.Native.Nat.{◌-◌, ◌≤◌}
 use Rattle.book.specs.Layout.{book_of}
 use Rattle.figures.proofs.Passed.{Passed}
 use Rattle.figures.proofs.volume.count_backups.Given as goal
 
 abbrev pub invariant-loop-q : goal.invariant-loop-q
 invariant-loop-q l =
-    (l.q ≤ l.used) × Passed (book_of l.book) l.v l.q l.count
-
-abbrev pub decreases-loop-q : goal.decreases-loop-q
-decreases-loop-q l =
-    l.used - l.q
+    Passed (book_of l.book) l.v l.q l.count

@@ -14,7 +14,7 @@ pub used_slots-used-requires : goal.used_slots-used-requires
 used_slots-used-requires c = c.requires
 
 pub loop-q-init : goal.loop-q-init
-loop-q-init c = (omega arith, ap (λ (bs : List Backup). retired_on bs) (sym (from_start _ _)))
+loop-q-init c = ap (λ (bs : List Backup). retired_on bs) (sym (from_start _ _))
 
 pub slot_at-slot-requires : goal.slot_at-slot-requires
 slot_at-slot-requires c =
@@ -24,15 +24,15 @@ pub returns-then-slot-v : goal.returns-then-slot-v
 returns-then-slot-v c =
     let l = c.loop-q in
     let h : l.q < length (told c.args.book).slots = omega arith in
-    retired-here _ _ l.q c.slot_at-slot.result c.slot_at-slot.ensures h c.if-slot-v.true ∙ sym l.invariant.1
+    retired-here _ _ l.q c.slot_at-slot.result c.slot_at-slot.ensures h c.if-slot-v.true ∙ sym l.invariant
 
 pub loop-q-preserved : goal.loop-q-preserved
 loop-q-preserved c =
     let l = c.loop-q in
     let h : l.q < length (told c.args.book).slots = omega arith in
-    (omega arith, l.invariant.1 ∙ retired-later _ _ l.q c.slot_at-slot.result c.slot_at-slot.ensures h c.if-slot-v.false)
+    l.invariant ∙ retired-later _ _ l.q c.slot_at-slot.result c.slot_at-slot.ensures h c.if-slot-v.false
 
 pub returns : goal.returns
 returns c =
     let l = c.loop-q in
-    retired-never _ _ l.q (omega arith) ∙ sym l.invariant.1
+    retired-never _ _ l.q (omega arith) ∙ sym l.invariant

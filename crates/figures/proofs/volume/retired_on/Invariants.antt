@@ -1,5 +1,4 @@
 -- `figures::volume::retired_on` meets its contract: what is asked of all slots is asked of those from q on.
-use Prim.Native.Nat.{◌-◌, ◌≤◌}
 use mathlib.Core.Path.{◌≡◌}
 use Rattle.book.specs.Layout.{book_of}
 use Rattle.model.specs.Journal.{slots_of}
@@ -9,8 +8,4 @@ use Rattle.figures.proofs.volume.retired_on.Given as goal
 
 abbrev pub invariant-loop-q : goal.invariant-loop-q
 invariant-loop-q l =
-    (l.q ≤ l.used) × (retired_on (slots_of (book_of l.book) l.v) ≡ retired_on (own_from (book_of l.book) l.v l.q))
-
-abbrev pub decreases-loop-q : goal.decreases-loop-q
-decreases-loop-q l =
-    l.used - l.q
+    retired_on (slots_of (book_of l.book) l.v) ≡ retired_on (own_from (book_of l.book) l.v l.q)

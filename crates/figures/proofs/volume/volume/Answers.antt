@@ -1,34 +1,29 @@
 -- `figures::volume::volume` meets its contract: each way out is one of the definition.
-use mathlib.Core.Path.{◌≡◌, refl, sym, ◌∙◌}
+use mathlib.Core.Path.{sym}
+use Rattle.std.proofs.lemmas.Result.{err_from_is_err_and}
 use Rattle.book.proofs.FormBytes.{holds-form}
-use Rattle.book.specs.Layout.{Holds}
 use Rattle.claims.proofs.views.EnrolledNumber.{passed-enrolled}
-use Rattle.model.specs.Views.{enrolled_number}
-use Rattle.figures.proofs.VolumeExits.{volume-refused, volume-told}
+use Rattle.figures.proofs.Exits.{volume-refused, volume-given}
 use Rattle.figures.proofs.volume.volume.Goals as goal
 
-pub returns-then-refusal-ne0 : goal.returns-then-refusal-ne0
-returns-then-refusal-ne0 c = volume-refused _ _ _ _ _ refl refl refl c.enrolled_number-refusal.ensures c.if-refusal-ne0.true
+pub returns-in_err-check : goal.returns-in_err-check
+returns-in_err-check c =
+    let p = err_from_is_err_and c.from_residual.result c.from_residual.ensures.1 in
+    rw (p.1, p.2) (volume-refused _ _ _ c.in_err-check.ensures)
 
 pub retention-requires : goal.retention-requires
 retention-requires c =
-    let passed : (let s = c.args in enrolled_number s.book.now s.volume ≡ 0) = sym c.enrolled_number-refusal.ensures ∙ c.if-refusal-ne0.false in
-    let holds : Holds c.args.book.now = holds-form _ (λ i. (c.type_inv.book i).fits) (passed-enrolled _ _ passed).form in
-    record { holds = holds; v_lt_volumes = (passed-enrolled _ _ passed).inside }
+    let e = passed-enrolled _ _ (sym c.in_ok-check.ensures) in
+    record { holds = holds-form _ (λ i. (c.type_inv.book i).fits) e.form; v_lt_volumes = e.inside }
 
 pub count_backups-requires : goal.count_backups-requires
 count_backups-requires c =
-    let passed : (let s = c.args in enrolled_number s.book.now s.volume ≡ 0) = sym c.enrolled_number-refusal.ensures ∙ c.if-refusal-ne0.false in
-    let holds : Holds c.args.book.now = holds-form _ (λ i. (c.type_inv.book i).fits) (passed-enrolled _ _ passed).form in
-    holds
+    holds-form _ (λ i. (c.type_inv.book i).fits) (passed-enrolled _ _ (sym c.in_ok-check.ensures)).form
 
 pub retired_on-requires : goal.retired_on-requires
 retired_on-requires c =
-    let passed : (let s = c.args in enrolled_number s.book.now s.volume ≡ 0) = sym c.enrolled_number-refusal.ensures ∙ c.if-refusal-ne0.false in
-    let holds : Holds c.args.book.now = holds-form _ (λ i. (c.type_inv.book i).fits) (passed-enrolled _ _ passed).form in
-    holds
+    holds-form _ (λ i. (c.type_inv.book i).fits) (passed-enrolled _ _ (sym c.in_ok-check.ensures)).form
 
 pub returns : goal.returns
 returns c =
-    let passed : (let s = c.args in enrolled_number s.book.now s.volume ≡ 0) = sym c.enrolled_number-refusal.ensures ∙ c.if-refusal-ne0.false in
-    volume-told _ _ _ _ _ passed c.retention.ensures c.count_backups.ensures c.retired_on.ensures
+    volume-given _ _ _ (sym c.in_ok-check.ensures) c.retention.ensures c.count_backups.ensures c.retired_on.ensures

@@ -1,8 +1,8 @@
 use mathlib.Core.Bool.{not}
 use Prim.Native.Nat.{ℕ, ◌+◌, ◌≤◌}
-use mathlib.Core.Path.{◌≡◌, sym, ap, ◌∙◌}
+use mathlib.Core.Path.{◌≡◌, sym, ap, ap₂, ◌∙◌}
 use native.Mathlib.Omega.{arith}
-use lib.ListN.{length, get_or}
+use lib.ListN.{length}
 use Rattle.words.proofs.ChoiceLaws.{failed, passed}
 use Rattle.calls.specs.Coding.{call_at}
 use Rattle.calls.specs.Answers.{longest_reply, longest_of}
@@ -50,7 +50,7 @@ loop-at-preserved c =
     let is = passed c.is_call.ensures (ap not c.if-not-is_call.false) in
     let most : c.longest.result ≡ longest_reply (call_at a.calls.now l.at) =
     c.longest.ensures.0
-    ∙ ap (λ (d : ℕ). longest_of (get_or a.calls.now l.at 0) d) c.u16_at-d.ensures
+    ∙ ap₂ longest_of c.kind_of.ensures c.u16_at-d.ensures
     ∙ sym (longest_at a.calls.now l.at)
     in
     let sum : c.added-most.result ≡ added_to a.room l.most (longest_reply (call_at a.calls.now l.at)) =

@@ -1,27 +1,22 @@
 -- `heads::checking::longest`: a case for each length.
+use mathlib.Core.Logic.{⊎_elim}
 use native.Mathlib.Omega.{arith}
-use borrow.Author.Tests.{eq-eqb, ne_eqb}
 use Rattle.calls.specs.Answers.{longest_of}
 use Rattle.heads.proofs.checking.longest.Goals as goal
 
-pub returns-then-kind-eq-BACKUP : goal.returns-then-kind-eq-BACKUP
+pub returns-in-Backup : goal.returns-in-Backup
 unfolding longest_of
-returns-then-kind-eq-BACKUP c = (rw (eq-eqb c.args.kind 1 c.if-kind-eq-BACKUP.true), omega arith)
+returns-in-Backup c = (rw c.in-Backup.is, omega arith)
 
-pub returns-then-kind-eq-READ : goal.returns-then-kind-eq-READ
+pub returns-in-Read : goal.returns-in-Read
 unfolding longest_of
-returns-then-kind-eq-READ c =
-    let k = c.args.kind in
-    (rw (ne_eqb k 1 c.if-kind-eq-BACKUP.false, eq-eqb k 3 c.if-kind-eq-READ.true), omega arith)
+returns-in-Read c = (rw c.in-Read.is, omega arith)
 
-pub returns-then-kind-eq-RESTORE : goal.returns-then-kind-eq-RESTORE
+pub returns-in-Restore : goal.returns-in-Restore
 unfolding longest_of
-returns-then-kind-eq-RESTORE c =
-    let k = c.args.kind in
-    (rw (ne_eqb k 1 c.if-kind-eq-BACKUP.false, ne_eqb k 3 c.if-kind-eq-READ.false, eq-eqb k 5 c.if-kind-eq-RESTORE.true) (omega arith), omega arith)
+returns-in-Restore c = (rw c.in-Restore.is (omega arith), omega arith)
 
-pub returns : goal.returns
+pub returns-in-Enrol : goal.returns-in-Enrol
 unfolding longest_of
-returns c =
-    let k = c.args.kind in
-    (rw (ne_eqb k 1 c.if-kind-eq-BACKUP.false, ne_eqb k 3 c.if-kind-eq-READ.false, ne_eqb k 5 c.if-kind-eq-RESTORE.false), omega arith)
+returns-in-Enrol c =
+    (⊎_elim (λ e. rw e) (⊎_elim (λ e. rw e) (⊎_elim (λ e. rw e) (λ e. rw e))) c.in-Enrol.is, omega arith)

@@ -10,21 +10,6 @@ use Rattle.index.proofs.Holding.{held-joins, held-home, held-without}
 use Rattle.index.proofs.InsertLaws.{walk_start, walk_up, walk_more, insert_first, insert_after}
 use Rattle.index.proofs.inserting.hold.Goals as goal
 
-pub bounds-nexts-at : goal.bounds-nexts-at
-bounds-nexts-at c = omega (arith, c.requires.holds.n)
-
-pub bounds-nexts-q : goal.bounds-nexts-q
-bounds-nexts-q c = omega (arith, c.if-p-first.false, c.requires.holds.n)
-
-pub bounds-nexts-q-in-loop-next : goal.bounds-nexts-q-in-loop-next
-bounds-nexts-q-in-loop-next c = omega (arith, c.loop-next-test.true, c.requires.holds.n)
-
-pub bounds-nexts-at-2 : goal.bounds-nexts-at-2
-bounds-nexts-at-2 c = omega (arith, c.requires.holds.n)
-
-pub bounds-nexts-q-2 : goal.bounds-nexts-q-2
-bounds-nexts-q-2 c = omega (arith, c.loop-next.invariant.0.below, c.requires.holds.n)
-
 pub returns-then-p-first : goal.returns-then-p-first
 returns-then-p-first c =
     let a = c.args in
@@ -32,7 +17,7 @@ returns-then-p-first c =
     let es = (book_of c.hold.new.book).entries in
     let inside : a.p.0 < length (book_of a.book.now).entries = omega (arith, c.requires.holds.sized.entries) in
     let joins : Joins es a.p.0 = held-joins a.print.now a.p.0 a.book.now c.hold.ensures inside in
-    let index : Indexed (without a.p.0 es) a.heads.now a.nexts.now =
+    let index : Indexed (without a.p.0 es) a.index.now.heads a.index.now.nexts =
     held-without a.print.now a.p.0 a.book.now c.hold.ensures c.requires.p_bound.1 c.requires.indexed
     in
     let home : h.result ≡ home_of es a.p.0 = h.ensures.0 ∙ held-home a.print.now a.p.0 a.book.now c.hold.ensures inside in
@@ -45,7 +30,7 @@ loop-next-init c =
     let es = (book_of c.hold.new.book).entries in
     let inside : a.p.0 < length (book_of a.book.now).entries = omega (arith, c.requires.holds.sized.entries) in
     let joins : Joins es a.p.0 = held-joins a.print.now a.p.0 a.book.now c.hold.ensures inside in
-    let index : Indexed (without a.p.0 es) a.heads.now a.nexts.now =
+    let index : Indexed (without a.p.0 es) a.index.now.heads a.index.now.nexts =
     held-without a.print.now a.p.0 a.book.now c.hold.ensures c.requires.p_bound.1 c.requires.indexed
     in
     let home : h.result ≡ home_of es a.p.0 = h.ensures.0 ∙ held-home a.print.now a.p.0 a.book.now c.hold.ensures inside in
@@ -58,7 +43,7 @@ loop-next-smaller c =
     let es = (book_of c.hold.new.book).entries in
     let inside : a.p.0 < length (book_of a.book.now).entries = omega (arith, c.requires.holds.sized.entries) in
     let joins : Joins es a.p.0 = held-joins a.print.now a.p.0 a.book.now c.hold.ensures inside in
-    let index : Indexed (without a.p.0 es) a.heads.now a.nexts.now =
+    let index : Indexed (without a.p.0 es) a.index.now.heads a.index.now.nexts =
     held-without a.print.now a.p.0 a.book.now c.hold.ensures c.requires.p_bound.1 c.requires.indexed
     in
     omega (arith, c.loop-next-test.true, c.loop-next.invariant.1, walk_up joins index c.loop-next.q c.loop-next.invariant.0)
@@ -70,7 +55,7 @@ loop-next-preserved c =
     let es = (book_of c.hold.new.book).entries in
     let inside : a.p.0 < length (book_of a.book.now).entries = omega (arith, c.requires.holds.sized.entries) in
     let joins : Joins es a.p.0 = held-joins a.print.now a.p.0 a.book.now c.hold.ensures inside in
-    let index : Indexed (without a.p.0 es) a.heads.now a.nexts.now =
+    let index : Indexed (without a.p.0 es) a.index.now.heads a.index.now.nexts =
     held-without a.print.now a.p.0 a.book.now c.hold.ensures c.requires.p_bound.1 c.requires.indexed
     in
     let l = c.loop-next in
@@ -84,7 +69,7 @@ returns c =
     let es = (book_of c.hold.new.book).entries in
     let inside : a.p.0 < length (book_of a.book.now).entries = omega (arith, c.requires.holds.sized.entries) in
     let joins : Joins es a.p.0 = held-joins a.print.now a.p.0 a.book.now c.hold.ensures inside in
-    let index : Indexed (without a.p.0 es) a.heads.now a.nexts.now =
+    let index : Indexed (without a.p.0 es) a.index.now.heads a.index.now.nexts =
     held-without a.print.now a.p.0 a.book.now c.hold.ensures c.requires.p_bound.1 c.requires.indexed
     in
     let l = c.loop-next in

@@ -9,7 +9,7 @@ use Rattle.index.proofs.inserting.hold.Given as goal
 
 abbrev pub invariant-loop-next : goal.invariant-loop-next
 invariant-loop-next l =
-    Before (book_of l.book).entries l.p.0 l.q × (l.next ≡ get_or l.nexts l.q 0)
+    Before (book_of l.book).entries l.p.0 l.q × (l.next ≡ get_or l.index.nexts l.q 0)
 
 abbrev pub decreases-loop-next : goal.decreases-loop-next
 decreases-loop-next l =

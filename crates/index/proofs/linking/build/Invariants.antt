@@ -1,13 +1,8 @@
 -- The loop's invariant: the tables index the blocks from p on.
-use Prim.Native.Nat.{◌≤◌}
 use Rattle.book.specs.Layout.{book_of}
 use Rattle.finder.specs.Indexed.{IndexedFrom}
 use Rattle.index.proofs.linking.build.Given as goal
 
 abbrev pub invariant-loop-p : goal.invariant-loop-p
 invariant-loop-p l =
-    (l.p ≤ l.initial.p) × IndexedFrom l.p (book_of l.book).entries l.heads l.nexts
-
-abbrev pub decreases-loop-p : goal.decreases-loop-p
-decreases-loop-p l =
-    l.p
+    IndexedFrom l.p (book_of l.book).entries l.index.heads l.index.nexts

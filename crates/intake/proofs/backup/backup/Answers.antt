@@ -3,73 +3,52 @@ use mathlib.Core.Path.{refl, sym, ap, ◌∙◌}
 use native.Mathlib.Omega.{arith}
 use lib.ListN.{length}
 use lib.Seq.{length-take-le}
-use Rattle.mover.specs.Stepping.{step_number}
-use Rattle.permit.specs.Allowing.{Ready, AllowedBy, allowed_number}
+use Rattle.std.proofs.lemmas.Result.{err_from_is_err_and}
+use Rattle.permit.specs.Allowing.{AllowedBy}
 use Rattle.intake.specs.Closing.{WorkedBy}
 use Rattle.intake.proofs.BackupLaws.{refused-up, changes-stopped, backed-up}
 use Rattle.intake.proofs.backup.backup.Goals as goal
 
-pub returns-in_default : goal.returns-in_default
+pub returns-in_err-plan : goal.returns-in_err-plan
 unfolding AllowedBy
-returns-in_default c =
-    let e = c.in_default.is in
-    refused-up _ _ _ _ _ _ _ _ _ refl refl refl refl _ _ (c.allowed_number.ensures ∙ ap allowed_number e)
-    (rw e at c.allow-allowed.ensures) refl
+returns-in_err-plan c =
+    let p = err_from_is_err_and c.from_residual.result c.from_residual.ensures.1 in
+    rw (p.1, p.2) (refused-up _ _ _ _ _ _ _ refl refl c.in_err-plan.ensures)
 
 pub slice_bounds-work-end : goal.slice_bounds-work-end
 unfolding AllowedBy
-slice_bounds-work-end c =
-    let ready : (let a = c.args in
-    Ready a.book.now a.pool.now (length a.spare.now) a.volume a.day a.list.now
-    c.in-Go.plan) = rw c.in-Go.is at c.allow-allowed.ensures in
-    omega (arith, ready.spared)
+slice_bounds-work-end c = omega (arith, c.in_ok-plan.ensures.spared)
 
 pub slice_bounds-work-end-2 : goal.slice_bounds-work-end-2
 unfolding AllowedBy
-slice_bounds-work-end-2 c =
-    let ready : (let a = c.args in
-    Ready a.book.now a.pool.now (length a.spare.now) a.volume a.day a.list.now
-    c.in-Go.plan) = rw c.in-Go.is at c.allow-allowed.ensures in
-    sym (length-take-le _ _ ready.spared)
+slice_bounds-work-end-2 c = sym (length-take-le _ _ c.in_ok-plan.ensures.spared)
 
 pub copy-requires : goal.copy-requires
 unfolding AllowedBy
-copy-requires c =
-    let ready : (let a = c.args in
-    Ready a.book.now a.pool.now (length a.spare.now) a.volume a.day a.list.now
-    c.in-Go.plan) = rw c.in-Go.is at c.allow-allowed.ensures in
-    length-take-le _ _ ready.spared
+copy-requires c = length-take-le _ _ c.in_ok-plan.ensures.spared
 
-pub work_through-step-requires : goal.work_through-step-requires
+pub work_through-requires : goal.work_through-requires
 unfolding AllowedBy
-work_through-step-requires c =
-    let ready : (let a = c.args in
-    Ready a.book.now a.pool.now (length a.spare.now) a.volume a.day a.list.now
-    c.in-Go.plan) = rw c.in-Go.is at c.allow-allowed.ensures in
-    let r = ready in
+work_through-requires c =
+    let r = c.in_ok-plan.ensures in
     record { form_facts = (r.formed, c.copy.ensures); job = (r.job, r.volume); book_len_bound = r.room }
 
-pub returns-in_default-step : goal.returns-in_default-step
+pub returns-in_err-t : goal.returns-in_err-t
 unfolding AllowedBy WorkedBy
-returns-in_default-step c =
-    let ready : (let a = c.args in
-    Ready a.book.now a.pool.now (length a.spare.now) a.volume a.day a.list.now
-    c.in-Go.plan) = rw c.in-Go.is at c.allow-allowed.ensures in
-    let s = c.in_default-step.is in
-    let w = rw s at c.work_through-step.ensures in
-    changes-stopped _ _ _ _ _ _ _ _ _ _ ready refl refl refl refl _ _
-    (c.step_number.ensures ∙ ap step_number s) w.0 w.1
+returns-in_err-t c =
+    let w = c.in_err-t.ensures in
+    let run = rw c.in_ok-plan.ensures.same at w.0 in
+    let p = err_from_is_err_and c.from_residual-in_err-t.result c.from_residual-in_err-t.ensures.1 in
+    rw (p.1, p.2) (changes-stopped _ _ _ _ _ _ _ c.in_ok-plan.ensures _ refl w.1 run)
 
 pub copy-requires-2 : goal.copy-requires-2
 copy-requires-2 c =
-    sym (c.work_through-step.auto.work ∙ ap length c.copy.ensures)
+    sym (c.work_through.auto.work ∙ ap length c.copy.ensures)
 
 pub returns : goal.returns
 unfolding AllowedBy WorkedBy
 returns c =
-    let ready : (let a = c.args in
-    Ready a.book.now a.pool.now (length a.spare.now) a.volume a.day a.list.now
-    c.in-Go.plan) = rw c.in-Go.is at c.allow-allowed.ensures in
-    let w = rw c.in-Next.is at c.work_through-step.ensures in
-    backed-up _ _ _ _ _ _ _ _ _ _ ready _ _ _
-    w.run w.closed c.copy-2.ensures refl refl refl
+    let w = c.in_ok-t.ensures in
+    let run = rw c.in_ok-plan.ensures.same at w.run in
+    let closed = rw c.in_ok-plan.ensures.same at w.closed in
+    backed-up _ _ _ _ _ _ _ c.in_ok-plan.ensures _ _ _ run closed c.copy-2.ensures

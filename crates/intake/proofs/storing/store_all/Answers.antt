@@ -1,4 +1,4 @@
-use mathlib.Core.Path.{◌≡◌, refl, sym, ap, ◌∙◌}
+use mathlib.Core.Path.{◌≡◌, sym, ap, ◌∙◌}
 use native.Mathlib.Omega.{arith}
 use lib.ListN.{length}
 use Rattle.runs.specs.Changes.{change_count}
@@ -7,7 +7,6 @@ use Rattle.book.specs.Book.{Sizes}
 use Rattle.book.specs.Layout.{book_of}
 use Rattle.placer.proofs.PoolLaws.{Known}
 use Rattle.intake.proofs.StoringLaws.{stored-none, stored_more, stored-all}
-use borrow.Author.Rules.{rules}
 use Rattle.intake.proofs.storing.store_all.Goals as goal
 
 pub blocks-n-requires : goal.blocks-n-requires
@@ -17,51 +16,48 @@ pub loop-p-init : goal.loop-p-init
 loop-p-init c =
     let size : c.blocks-n.result ≡ length (book_of c.args.book.now).entries = c.blocks-n.ensures ∙ sym c.requires.holds.0.sized.entries in
     let known : (let a = c.args in
-    Known (book_of a.book.now).entries (book_of a.work.now).entries a.taker.now a.list.now
-    a.pool.now (change_count a.list.now)) =
+    Known (book_of a.book.now).entries (book_of a.work.now).entries a.taker.now a.list.bytes.now
+    a.pool.now (change_count a.list.bytes.now)) =
     let s = c.requires.storable in
     record {
       size = rw c.requires.holds.0.sized.entries s.size;
-      whole = length-block c.args.list.now c.args.shape s.whole;
-      marks = λ p f e. omega (arith, s.marks p f e, s.whole.changes);
+      whole = length-block c.args.list.bytes.now c.args.list.shape c.args.list.whole;
+      marks = λ p f e. omega (arith, s.marks p f e, c.args.list.whole.changes);
     }
     in
-    (search rules, refl, stored-none _ _ _ _ _ known.size)
+    stored-none _ _ _ _ _ known.size
 
 pub store_block-requires : goal.store_block-requires
 store_block-requires c =
     let n = c.blocks-n.ensures in
     let l = c.loop-p in
     let m = ap (λ (z : Sizes). z.n) c.requires.storable.sizes in
-    record { holds = (c.requires.holds.0, c.requires.holds.1, c.requires.storable.whole); p_bound = (omega (arith, c.loop-p-test.true), omega (arith, c.loop-p-test.true), l.invariant.1 ∙ c.requires.storable.size); p_bound_2 = c.requires.storable.marks l.p }
+    record { holds = c.requires.holds; p_bound = (omega (arith, c.loop-p-test.true), omega (arith, c.loop-p-test.true), l.auto.pool ∙ c.requires.storable.size); p_bound_2 = c.requires.storable.marks l.p }
 
 pub loop-p-preserved : goal.loop-p-preserved
 loop-p-preserved c =
     let size : c.blocks-n.result ≡ length (book_of c.args.book.now).entries = c.blocks-n.ensures ∙ sym c.requires.holds.0.sized.entries in
     let known : (let a = c.args in
-    Known (book_of a.book.now).entries (book_of a.work.now).entries a.taker.now a.list.now
-    a.pool.now (change_count a.list.now)) =
+    Known (book_of a.book.now).entries (book_of a.work.now).entries a.taker.now a.list.bytes.now
+    a.pool.now (change_count a.list.bytes.now)) =
     let s = c.requires.storable in
     record {
       size = rw c.requires.holds.0.sized.entries s.size;
-      whole = length-block c.args.list.now c.args.shape s.whole;
-      marks = λ p f e. omega (arith, s.marks p f e, s.whole.changes);
+      whole = length-block c.args.list.bytes.now c.args.list.shape c.args.list.whole;
+      marks = λ p f e. omega (arith, s.marks p f e, c.args.list.whole.changes);
     }
     in
     let a = c.args in
-    let l = c.loop-p in (
-      omega (arith, c.loop-p-test.true),
-      c.store_block.auto.pool ∙ l.invariant.1,
-      rw c.store_block.ensures
-          (stored_more (book_of a.book.now).entries (book_of a.work.now).entries a.taker.now a.list.now
-          a.pool.now (change_count a.list.now) known l.pool l.p
-          (omega (arith, size, c.loop-p-test.true)) l.invariant.2),
-    )
+    let l = c.loop-p in
+    rw c.store_block.ensures
+    (stored_more (book_of a.book.now).entries (book_of a.work.now).entries a.taker.now a.list.bytes.now
+    a.pool.now (change_count a.list.bytes.now) known l.pool l.p
+    (omega (arith, size, c.loop-p-test.true)) l.invariant)
 
 pub returns : goal.returns
 returns c =
     let size : c.blocks-n.result ≡ length (book_of c.args.book.now).entries = c.blocks-n.ensures ∙ sym c.requires.holds.0.sized.entries in
     let a = c.args in
     let l = c.loop-p in
-    stored-all (book_of a.book.now).entries (book_of a.work.now).entries a.taker.now a.list.now
-    a.pool.now l.pool l.p (omega (arith, size, c.loop-p-test.false)) l.invariant.2
+    stored-all (book_of a.book.now).entries (book_of a.work.now).entries a.taker.now a.list.bytes.now
+    a.pool.now l.pool l.p (omega (arith, size, c.loop-p-test.false)) l.invariant

@@ -19,7 +19,7 @@ use Rattle.intake.proofs.storing.store_block.Goals as goal
 pub returns-then-is_held : goal.returns-then-is_held
 returns-then-is_held c =
     let a = c.args in
-    stored-old (book_of a.book.now).entries (book_of a.work.now).entries a.taker.now a.list.now
+    stored-old (book_of a.book.now).entries (book_of a.work.now).entries a.taker.now a.list.bytes.now
     a.pool.now a.p.0 (sym c.is_held.ensures ∙ c.if-is_held.true)
 
 pub returns-then-not-is_held : goal.returns-then-not-is_held
@@ -27,7 +27,7 @@ returns-then-not-is_held c =
     let free : (let a = c.args in
     (entry_at (book_of a.book.now).entries a.p.0).held ≡ false) = sym c.is_held.ensures ∙ c.if-is_held.false in
     let a = c.args in
-    stored-free (book_of a.book.now).entries (book_of a.work.now).entries a.taker.now a.list.now
+    stored-free (book_of a.book.now).entries (book_of a.work.now).entries a.taker.now a.list.bytes.now
     a.pool.now a.p.0 free (failed c.is_held-2.ensures (ap not c.if-not-is_held.true))
 
 pub overflow_cast-i : goal.overflow_cast-i
@@ -37,8 +37,8 @@ overflow_cast-i c =
     let held : (let a = c.args in
     (entry_at (book_of a.work.now).entries a.p.0).held ≡ true) = passed c.is_held-2.ensures (ap not c.if-not-is_held.false) in
     let mark : (let a = c.args in
-    get_or a.taker.now a.p.0 0 < a.shape.changes) = c.requires.p_bound_2 free held in
-    omega (arith, mark, c.requires.holds.2.size)
+    get_or a.taker.now a.p.0 0 < a.list.shape.changes) = c.requires.p_bound_2 free held in
+    omega (arith, mark, c.args.list.whole.size)
 
 pub block_of-requires : goal.block_of-requires
 block_of-requires c =
@@ -47,8 +47,8 @@ block_of-requires c =
     let held : (let a = c.args in
     (entry_at (book_of a.work.now).entries a.p.0).held ≡ true) = passed c.is_held-2.ensures (ap not c.if-not-is_held.false) in
     let mark : (let a = c.args in
-    get_or a.taker.now a.p.0 0 < a.shape.changes) = c.requires.p_bound_2 free held in
-    (c.requires.holds.2, mark)
+    get_or a.taker.now a.p.0 0 < a.list.shape.changes) = c.requires.p_bound_2 free held in
+    mark
 
 pub copy-requires : goal.copy-requires
 copy-requires c =
@@ -57,13 +57,13 @@ copy-requires c =
     let held : (let a = c.args in
     (entry_at (book_of a.work.now).entries a.p.0).held ≡ true) = passed c.is_held-2.ensures (ap not c.if-not-is_held.false) in
     let mark : (let a = c.args in
-    get_or a.taker.now a.p.0 0 < a.shape.changes) = c.requires.p_bound_2 free held in
+    get_or a.taker.now a.p.0 0 < a.list.shape.changes) = c.requires.p_bound_2 free held in
     let a = c.args in
     let at = a.p.0 * block_size in
     ap length (lent a.pool.now at block_size)
     ∙ length_part a.pool.now at block_size (omega (arith, c.requires.p_bound.0, c.requires.p_bound.2))
     ∙ sym (ap length c.block_of.ensures
-    ∙ length-block a.list.now a.shape c.requires.holds.2 _ (omega (arith, mark, c.requires.holds.2.changes)))
+    ∙ length-block a.list.bytes.now a.list.shape c.args.list.whole _ (omega (arith, mark, c.args.list.whole.changes)))
 
 pub returns : goal.returns
 returns c =
@@ -74,5 +74,5 @@ returns c =
     let a = c.args in
     spliced a.pool.now c.copy.new.dst (a.p.0 * block_size) block_size
     ∙ ap (λ (m : List ℕ). with_block a.pool.now a.p.0 m) (c.copy.ensures ∙ c.block_of.ensures)
-    ∙ stored-new (book_of a.book.now).entries (book_of a.work.now).entries a.taker.now a.list.now
+    ∙ stored-new (book_of a.book.now).entries (book_of a.work.now).entries a.taker.now a.list.bytes.now
     a.pool.now a.p.0 free held

@@ -9,7 +9,7 @@ returns c =
     let at = c.slot_offset-at in
     let e = slot-at c.args.book.now c.args.q at.result c.requires.q_in_bounds at.ensures.value in
     record {
-      volume = c.wide.ensures.0 ∙ ap (λ (t : Slot). t.volume) e;
+      volume = c.from.ensures ∙ ap (λ (t : Slot). t.volume) e;
       retire = ap (λ (t : Slot). t.retire) e;
       day = c.u16_at.ensures ∙ ap (λ (t : Slot). t.day) e;
       first = c.u16_at-2.ensures ∙ ap (λ (t : Slot). t.first) e;

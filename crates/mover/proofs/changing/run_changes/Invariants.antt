@@ -1,7 +1,6 @@
 -- The loop's invariant: the whole run is the run of the changes that are left, from the work so far.
-use Prim.Native.Nat.{◌-◌, ◌≤◌}
 use mathlib.Core.Path.{◌≡◌}
-use lib.ListN.{length, drop}
+use lib.ListN.{drop}
 use Rattle.runs.specs.Changes.{changes}
 use Rattle.list.specs.Readers.{index_of, Valid}
 use Rattle.book.specs.Layout.{book_of, Holds}
@@ -13,16 +12,10 @@ use Rattle.mover.proofs.changing.run_changes.Given as goal
 
 abbrev pub invariant-loop-i : goal.invariant-loop-i
 invariant-loop-i l =
-    (l.i ≤ l.shape.changes)
-    × (length l.work ≡ length l.initial.work)
-    × Holds l.work
+    Holds l.work
     × Standing (book_of l.book) (book_of l.work) l.taker l.t l.i l.i
-    × Valid l.list l.at
-    × (index_of l.list l.at ≡ l.i)
-    × (run_changes l.v l.until (changes l.list) (work_of (book_of l.book) l.pool l.list (book_of l.initial.work) l.initial.taker no_tally)
-    ≡ run_changes l.v l.until (drop l.i (changes l.list)) (work_of (book_of l.book) l.pool l.list (book_of l.work) l.taker l.t))
-    × Indexed (book_of l.work).entries l.heads l.nexts
-
-abbrev pub decreases-loop-i : goal.decreases-loop-i
-decreases-loop-i l =
-    l.shape.changes - l.i
+    × Valid l.list.bytes.now l.at
+    × (index_of l.list.bytes.now l.at ≡ l.i)
+    × (run_changes l.v l.until (changes l.list.bytes.now) (work_of (book_of l.book) l.pool l.list.bytes.now (book_of l.initial.work) l.initial.taker no_tally)
+    ≡ run_changes l.v l.until (drop l.i (changes l.list.bytes.now)) (work_of (book_of l.book) l.pool l.list.bytes.now (book_of l.work) l.taker l.t))
+    × Indexed (book_of l.work).entries l.index.heads l.index.nexts

@@ -1,20 +1,19 @@
 -- The three ways out, each by a law of steps 3 and 4.
 use Prim.Native.Nat.{ℕ, ◌+◌}
 use mathlib.Core.Path.{◌≡◌, refl, sym, ap, ◌∙◌}
-use mathlib.Core.Bool.{not, ◌&&◌}
 use mathlib.Core.List.{List}
 use native.Mathlib.Omega.{arith}
 use lib.Dec.{eqb}
 use lib.ListN.{length}
-use borrow.Author.Tests.{not-false}
+use Rattle.std.proofs.lemmas.Result.{err_from_is_err_and}
 use Rattle.words.specs.Blocks.{unmapped}
 use Rattle.words.specs.Choice.{when◌then◌else◌}
-use Rattle.words.proofs.ChoiceLaws.{failed, passed}
+use Rattle.words.specs.Refusals.{number}
 use Rattle.book.specs.Book.{Entry, Book, entry_at, cell_at}
 use Rattle.book.specs.Layout.{book_of, Is}
 use Rattle.book.specs.Next.{with_entries}
 use Rattle.model.specs.Backup.{lower, name_block}
-use Rattle.mover.specs.Stepping.{MovedBy}
+use Rattle.mover.specs.Stepping.{zero_number, MovedBy}
 use Rattle.mover.proofs.MoveLaws.{cell-ok, move-zero, move-full, move-goes, name-lowered, at_most_two}
 use Rattle.mover.proofs.moving.move_to.Goals as goal
 
@@ -24,17 +23,17 @@ lower-requires c =
     let ok = cell-ok x.maps x.sizes.n c.args.v c.args.lbn.0 c.requires.work_value in
     record { holds = c.requires.holds; fact = rw c.cell-before.ensures ok }
 
-pub returns-then-not-lower : goal.returns-then-not-lower
+pub returns-in_err-lower : goal.returns-in_err-lower
 unfolding MovedBy
-returns-then-not-lower c =
+returns-in_err-lower c =
     let book : Book = book_of c.args.work.now in
     let old : ℕ = cell_at book.maps c.args.v c.args.lbn.0 in
-    let goes : c.lower.result ≡ not (not (eqb old unmapped) && eqb (entry_at book.entries old).count 0) =
-    c.lower.ensures.goes
-    ∙ ap (λ (k : ℕ). not (not (eqb k unmapped) && eqb (entry_at book.entries k).count 0)) c.cell-before.ensures
+    let zero : number c.in_err-lower.field-0.0 ≡ zero_number book.entries old =
+    rw c.cell-before.ensures at c.in_err-lower.ensures.number
     in
     let a = c.args in
-    λ pool. move-zero a.v a.until a.lbn.0 a.p.0 book pool a.t (failed goes (ap not c.if-not-lower.true))
+    let p = err_from_is_err_and c.from_residual.result c.from_residual.ensures.1 in
+    rw (p.1, p.2) (λ pool. move-zero a.v a.until a.lbn.0 a.p.0 book pool a.t _ zero)
 
 pub count-count-requires : goal.count-count-requires
 unfolding with_entries
@@ -44,7 +43,7 @@ count-count-requires c =
     let entries : List Entry = lower c.args.until old book.entries in
     let low : Is c.lower.new.work (with_entries entries book) =
     let u = c.args.until in
-    let i = c.lower.ensures.book (not-false c.lower.result (ap not c.if-not-lower.false)) in
+    let i = c.in_ok-lower.ensures.book refl in
     record {
       holds = i.holds;
       book = i.book ∙ ap (λ (k : ℕ). with_entries (lower u k book.entries) book) c.cell-before.ensures;
@@ -60,13 +59,12 @@ returns-then-count c =
     let book : Book = book_of c.args.work.now in
     let old : ℕ = cell_at book.maps c.args.v c.args.lbn.0 in
     let entries : List Entry = lower c.args.until old book.entries in
-    let goes : c.lower.result ≡ not (not (eqb old unmapped) && eqb (entry_at book.entries old).count 0) =
-    c.lower.ensures.goes
-    ∙ ap (λ (k : ℕ). not (not (eqb k unmapped) && eqb (entry_at book.entries k).count 0)) c.cell-before.ensures
+    let goes : zero_number book.entries old ≡ 0 =
+    sym (rw c.cell-before.ensures at c.in_ok-lower.ensures.number)
     in
     let low : Is c.lower.new.work (with_entries entries book) =
     let u = c.args.until in
-    let i = c.lower.ensures.book (not-false c.lower.result (ap not c.if-not-lower.false)) in
+    let i = c.in_ok-lower.ensures.book refl in
     record {
       holds = i.holds;
       book = i.book ∙ ap (λ (k : ℕ). with_entries (lower u k book.entries) book) c.cell-before.ensures;
@@ -77,7 +75,7 @@ returns-then-count c =
     c.count-count.ensures ∙ ap (λ (x : Book). (entry_at x.entries p).count) low.book
     in
     let a = c.args in
-    λ pool. move-full a.v a.until a.lbn.0 a.p.0 book pool a.t (passed goes (ap not c.if-not-lower.false))
+    λ pool. move-full a.v a.until a.lbn.0 a.p.0 book pool a.t goes
     (sym counted ∙ c.if-count.true)
 
 pub name_block-requires : goal.name_block-requires
@@ -88,7 +86,7 @@ name_block-requires c =
     let entries : List Entry = lower c.args.until old book.entries in
     let low : Is c.lower.new.work (with_entries entries book) =
     let u = c.args.until in
-    let i = c.lower.ensures.book (not-false c.lower.result (ap not c.if-not-lower.false)) in
+    let i = c.in_ok-lower.ensures.book refl in
     record {
       holds = i.holds;
       book = i.book ∙ ap (λ (k : ℕ). with_entries (lower u k book.entries) book) c.cell-before.ensures;
@@ -113,13 +111,12 @@ returns c =
     let book : Book = book_of c.args.work.now in
     let old : ℕ = cell_at book.maps c.args.v c.args.lbn.0 in
     let entries : List Entry = lower c.args.until old book.entries in
-    let goes : c.lower.result ≡ not (not (eqb old unmapped) && eqb (entry_at book.entries old).count 0) =
-    c.lower.ensures.goes
-    ∙ ap (λ (k : ℕ). not (not (eqb k unmapped) && eqb (entry_at book.entries k).count 0)) c.cell-before.ensures
+    let goes : zero_number book.entries old ≡ 0 =
+    sym (rw c.cell-before.ensures at c.in_ok-lower.ensures.number)
     in
     let low : Is c.lower.new.work (with_entries entries book) =
     let u = c.args.until in
-    let i = c.lower.ensures.book (not-false c.lower.result (ap not c.if-not-lower.false)) in
+    let i = c.in_ok-lower.ensures.book refl in
     record {
       holds = i.holds;
       book = i.book ∙ ap (λ (k : ℕ). with_entries (lower u k book.entries) book) c.cell-before.ensures;
@@ -131,7 +128,7 @@ returns c =
     in
     let a = c.args in
     let x = book in (
-      λ pool. move-goes a.v a.until a.lbn.0 a.p.0 x pool a.t (passed goes (ap not c.if-not-lower.false))
+      λ pool. move-goes a.v a.until a.lbn.0 a.p.0 x pool a.t goes
           (λ z. c.if-count.false (counted ∙ z))
           _ _
           (c.name_block.ensures.book

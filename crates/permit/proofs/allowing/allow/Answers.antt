@@ -1,254 +1,171 @@
 -- Each way out by the number that it says, and what is known when there is none.
 use Prim.Native.Nat.{ℕ, suc}
 use mathlib.Core.Path.{◌≡◌, sym, ap, ◌∙◌}
-use mathlib.Core.Bool.{false}
 use native.Mathlib.Numerals.{add-one}
 use native.Mathlib.Omega.{arith}
-use Rattle.pairs.specs.Answers.{checked_of}
-use Rattle.pairs.proofs.AnswerLaws.{good-number, refused-number}
-use Rattle.list.proofs.ReaderLaws.{good-whole}
+use Rattle.std.proofs.Common.{Some, None}
+use Rattle.std.proofs.lemmas.Result.{err_from_is_err_and}
+use Rattle.words.proofs.Refused.{number-not_zero}
+use Rattle.words.specs.declared.refusals.Refusal.TheVariants.{BadVolume, BadList}
+use Rattle.runs.specs.Changes.{change_count, list_number}
 use Rattle.book.proofs.Conditions.{retention_in}
 use Rattle.book.specs.Layout.{book_of}
-use Rattle.book.specs.FormFacts.{FormFacts}
 use Rattle.book.proofs.FormFactLaws.{form-facts}
-use Rattle.model.specs.Backup.{backup_number}
-use Rattle.model.specs.Journal.{days, is_retired}
-use Rattle.claims.proofs.form.BackupAllowed.{Allowed, number-zero}
+use Rattle.model.specs.Journal.{days}
+use Rattle.claims.proofs.form.BackupAllowed.{number-zero}
 use Rattle.claims.proofs.kept.DayLaws.{last-before}
 use Rattle.claims.proofs.kept.Retirements.{count-living}
-use Rattle.permit.specs.Allowing.{lent_number, day_refused, room_number, AllowedBy}
+use Rattle.permit.specs.Allowing.{room_number, AllowedBy}
 use Rattle.permit.proofs.AllowLaws.{lent-facts, lent-refused, number-refused, goes_on_lem, by-room, days-bound}
 use Rattle.permit.proofs.AllowLaws.{five-above, five-none, five-retired, seven, eight}
 use Rattle.permit.proofs.allowing.allow.Goals as goal
 
-pub returns-then-refusal-ne0 : goal.returns-then-refusal-ne0
+pub returns-in_err-check_lent : goal.returns-in_err-check_lent
 unfolding AllowedBy
-returns-then-refusal-ne0 c =
-    let a = c.args in
-    lent-refused a.book.now a.pool.now a.spare _ _ _ _ c.lent_number-refusal.ensures c.if-refusal-ne0.true
+returns-in_err-check_lent c =
+    let p = err_from_is_err_and c.from_residual.result c.from_residual.ensures.1 in
+    rw (p.1, p.2) (lent-refused _ _ _ _ _ _ _ c.in_err-check_lent.ensures)
 
 pub returns-then-v-gt-LAST_VOLUME : goal.returns-then-v-gt-LAST_VOLUME
 unfolding AllowedBy
 returns-then-v-gt-LAST_VOLUME c =
-    let lent : (let a = c.args in
-    lent_number a.book.now a.pool.now a.spare ≡ 0) = sym c.lent_number-refusal.ensures ∙ c.if-refusal-ne0.false in
     let a = c.args in
-    number-refused a.book.now a.pool.now a.spare _ _ _ lent 5
-    (five-above (book_of a.book.now) a.v a.day a.list.now c.if-v-gt-LAST_VOLUME.true) (λ e. omega arith)
+    number-refused _ _ _ _ _ _ (sym c.in_ok-check_lent.ensures) BadVolume
+    (five-above (book_of a.book.now) a.v a.day a.bytes.now c.if-v-gt-LAST_VOLUME.true)
 
 pub retention-days-requires : goal.retention-days-requires
 retention-days-requires c =
-    let lent : (let a = c.args in
-    lent_number a.book.now a.pool.now a.spare ≡ 0) = sym c.lent_number-refusal.ensures ∙ c.if-refusal-ne0.false in
-    let form : FormFacts c.args.book.now = form-facts c.args.book.now (λ i. (c.shared_slice_known-1.given i).fits) (lent-facts _ _ _ lent).0 in
+    let form = form-facts _ (λ i. (c.type_inv.book i).fits) (lent-facts _ _ _ (sym c.in_ok-check_lent.ensures)).0 in
     record { holds = form.holds; v_lt_volumes = omega (arith, c.if-v-gt-LAST_VOLUME.false) }
 
 pub returns-then-days-eq0 : goal.returns-then-days-eq0
 unfolding AllowedBy
 returns-then-days-eq0 c =
-    let lent : (let a = c.args in
-    lent_number a.book.now a.pool.now a.spare ≡ 0) = sym c.lent_number-refusal.ensures ∙ c.if-refusal-ne0.false in
     let a = c.args in
-    number-refused a.book.now a.pool.now a.spare _ _ _ lent 5
-    (five-none (book_of a.book.now) a.v a.day a.list.now c.if-v-gt-LAST_VOLUME.false
-    (sym c.retention-days.ensures ∙ c.if-days-eq0.true)) (λ e. omega arith)
+    number-refused _ _ _ _ _ _ (sym c.in_ok-check_lent.ensures) BadVolume
+    (five-none (book_of a.book.now) a.v a.day a.bytes.now c.if-v-gt-LAST_VOLUME.false
+    (sym c.retention-days.ensures ∙ c.if-days-eq0.true))
 
 pub backups_of-backups-requires : goal.backups_of-backups-requires
 backups_of-backups-requires c =
-    let lent : (let a = c.args in
-    lent_number a.book.now a.pool.now a.spare ≡ 0) = sym c.lent_number-refusal.ensures ∙ c.if-refusal-ne0.false in
-    let form : FormFacts c.args.book.now = form-facts c.args.book.now (λ i. (c.shared_slice_known-1.given i).fits) (lent-facts _ _ _ lent).0 in
+    let form = form-facts _ (λ i. (c.type_inv.book i).fits) (lent-facts _ _ _ (sym c.in_ok-check_lent.ensures)).0 in
     form.holds
 
 pub returns-then-backups : goal.returns-then-backups
 unfolding AllowedBy
 returns-then-backups c =
-    let lent : (let a = c.args in
-    lent_number a.book.now a.pool.now a.spare ≡ 0) = sym c.lent_number-refusal.ensures ∙ c.if-refusal-ne0.false in
     let a = c.args in
-    number-refused a.book.now a.pool.now a.spare _ _ _ lent 5
-    (five-retired (book_of a.book.now) a.v a.day a.list.now c.if-v-gt-LAST_VOLUME.false (λ e. c.if-days-eq0.false (c.retention-days.ensures ∙ e))
-    (sym c.backups_of-backups.ensures.retired ∙ c.if-backups.true)) (λ e. omega arith)
+    number-refused _ _ _ _ _ _ (sym c.in_ok-check_lent.ensures) BadVolume
+    (five-retired (book_of a.book.now) a.v a.day a.bytes.now c.if-v-gt-LAST_VOLUME.false (λ e. c.if-days-eq0.false (c.retention-days.ensures ∙ e))
+    (sym c.backups_of-backups.ensures.retired ∙ c.if-backups.true))
 
-pub bad_day-requires : goal.bad_day-requires
-bad_day-requires c =
-    let lent : (let a = c.args in
-    lent_number a.book.now a.pool.now a.spare ≡ 0) = sym c.lent_number-refusal.ensures ∙ c.if-refusal-ne0.false in
-    let form : FormFacts c.args.book.now = form-facts c.args.book.now (λ i. (c.shared_slice_known-1.given i).fits) (lent-facts _ _ _ lent).0 in
+pub check_day-requires : goal.check_day-requires
+check_day-requires c =
+    let form = form-facts _ (λ i. (c.type_inv.book i).fits) (lent-facts _ _ _ (sym c.in_ok-check_lent.ensures)).0 in
     record { holds = form.holds; backups_are = c.backups_of-backups.ensures }
 
-pub returns-then-bad_day : goal.returns-then-bad_day
+pub returns-in_err-check_day : goal.returns-in_err-check_day
 unfolding AllowedBy
-returns-then-bad_day c =
-    let lent : (let a = c.args in
-    lent_number a.book.now a.pool.now a.spare ≡ 0) = sym c.lent_number-refusal.ensures ∙ c.if-refusal-ne0.false in
-    let in_use : (let a = c.args in
-    is_retired (book_of a.book.now) a.v ≡ false) = sym c.backups_of-backups.ensures.retired ∙ c.if-backups.false in
+returns-in_err-check_day c =
     let a = c.args in
-    number-refused a.book.now a.pool.now a.spare _ _ _ lent 7
-    (seven (book_of a.book.now) a.v a.day a.list.now c.if-v-gt-LAST_VOLUME.false (λ e. c.if-days-eq0.false (c.retention-days.ensures ∙ e)) in_use
-    (sym c.bad_day.ensures ∙ c.if-bad_day.true)) (λ e. omega arith)
+    let p = err_from_is_err_and c.from_residual-in_err-check_day.result c.from_residual-in_err-check_day.ensures.1 in
+    rw (p.1, p.2)
+    (number-refused _ _ _ _ _ _ (sym c.in_ok-check_lent.ensures) _
+    (seven (book_of a.book.now) a.v a.day a.bytes.now c.if-v-gt-LAST_VOLUME.false (λ e. c.if-days-eq0.false (c.retention-days.ensures ∙ e))
+    (sym c.backups_of-backups.ensures.retired ∙ c.if-backups.false)
+    (λ z. number-not_zero _ (c.in_err-check_day.ensures ∙ z)) ∙ sym c.in_err-check_day.ensures))
 
 pub cells-requires : goal.cells-requires
 cells-requires c =
-    let lent : (let a = c.args in
-    lent_number a.book.now a.pool.now a.spare ≡ 0) = sym c.lent_number-refusal.ensures ∙ c.if-refusal-ne0.false in
-    let form : FormFacts c.args.book.now = form-facts c.args.book.now (λ i. (c.shared_slice_known-1.given i).fits) (lent-facts _ _ _ lent).0 in
+    let form = form-facts _ (λ i. (c.type_inv.book i).fits) (lent-facts _ _ _ (sym c.in_ok-check_lent.ensures)).0 in
     form.holds
 
-pub returns-in_default : goal.returns-in_default
+pub returns-in_err-list : goal.returns-in_err-list
 unfolding AllowedBy
-returns-in_default c =
-    let lent : (let a = c.args in
-    lent_number a.book.now a.pool.now a.spare ≡ 0) = sym c.lent_number-refusal.ensures ∙ c.if-refusal-ne0.false in
-    let in_use : (let a = c.args in
-    is_retired (book_of a.book.now) a.v ≡ false) = sym c.backups_of-backups.ensures.retired ∙ c.if-backups.false in
-    let day : (let a = c.args in
-    day_refused (book_of a.book.now) a.v a.day ≡ false) = sym c.bad_day.ensures ∙ c.if-bad_day.false in
-    let checks : (let a = c.args in
-    checked_of (book_of a.book.now).sizes.l a.list.now ≡ c.check-checked.result) =
-    let list = c.args.list.now in
-    sym (c.check-checked.ensures ∙ ap (λ (l : ℕ). checked_of l list) c.cells.ensures)
-    in
+returns-in_err-list c =
     let a = c.args in
-    let x = book_of a.book.now in
-    number-refused a.book.now a.pool.now a.spare _ _ _ lent 8
-    (eight x a.v a.day a.list.now c.if-v-gt-LAST_VOLUME.false (λ e. c.if-days-eq0.false (c.retention-days.ensures ∙ e)) in_use day
-    (refused-number x.sizes.l a.list.now (checks ∙ c.in_default.is))) (λ e. omega arith)
+    let none : c.open.result ≡ None = grind arith in
+    let refusal : c.in_err-list.field-0.0 ≡ BadList = grind arith in
+    let p = err_from_is_err_and c.from_residual-in_err-list.result c.from_residual-in_err-list.ensures.1 in
+    rw (p.1, p.2, refusal)
+    (number-refused _ _ _ _ _ _ (sym c.in_ok-check_lent.ensures) BadList
+    (eight (book_of a.book.now) a.v a.day a.bytes.now c.if-v-gt-LAST_VOLUME.false (λ e. c.if-days-eq0.false (c.retention-days.ensures ∙ e))
+    (sym c.backups_of-backups.ensures.retired ∙ c.if-backups.false) (sym c.in_ok-check_day.ensures)
+    (ap (λ (l : ℕ). list_number l a.bytes.now) (sym c.cells.ensures) ∙ rw none at c.open.ensures)))
 
-pub room-full-requires : goal.room-full-requires
-room-full-requires c =
-    let lent : (let a = c.args in
-    lent_number a.book.now a.pool.now a.spare ≡ 0) = sym c.lent_number-refusal.ensures ∙ c.if-refusal-ne0.false in
-    let form : FormFacts c.args.book.now = form-facts c.args.book.now (λ i. (c.shared_slice_known-1.given i).fits) (lent-facts _ _ _ lent).0 in
+pub check_room-requires : goal.check_room-requires
+check_room-requires c =
+    let form = form-facts _ (λ i. (c.type_inv.book i).fits) (lent-facts _ _ _ (sym c.in_ok-check_lent.ensures)).0 in
     form.holds
 
-pub returns-then-full-ne0 : goal.returns-then-full-ne0
+pub returns-in_err-check_room : goal.returns-in_err-check_room
 unfolding AllowedBy
-returns-then-full-ne0 c =
-    let lent : (let a = c.args in
-    lent_number a.book.now a.pool.now a.spare ≡ 0) = sym c.lent_number-refusal.ensures ∙ c.if-refusal-ne0.false in
-    let form : FormFacts c.args.book.now = form-facts c.args.book.now (λ i. (c.shared_slice_known-1.given i).fits) (lent-facts _ _ _ lent).0 in
-    let in_use : (let a = c.args in
-    is_retired (book_of a.book.now) a.v ≡ false) = sym c.backups_of-backups.ensures.retired ∙ c.if-backups.false in
-    let day : (let a = c.args in
-    day_refused (book_of a.book.now) a.v a.day ≡ false) = sym c.bad_day.ensures ∙ c.if-bad_day.false in
-    let checks : (let a = c.args in
-    checked_of (book_of a.book.now).sizes.l a.list.now ≡ c.check-checked.result) =
-    let list = c.args.list.now in
-    sym (c.check-checked.ensures ∙ ap (λ (l : ℕ). checked_of l list) c.cells.ensures)
-    in
-    let number : (let a = c.args in
-    backup_number (book_of a.book.now) a.v a.day a.list.now ≡ c.room-full.result) =
+returns-in_err-check_room c =
     let a = c.args in
     let x = book_of a.book.now in
-    let g = checks ∙ c.in-Good.is in
-    let small = form.holds.l in
-    by-room x a.v a.day a.list.now c.if-v-gt-LAST_VOLUME.false (λ e. c.if-days-eq0.false (c.retention-days.ensures ∙ e)) in_use day
-    (good-number x.sizes.l a.list.now _ g)
-    ∙ ap (λ (n : ℕ). room_number x n) (sym (good-whole x.sizes.l a.list.now _ (omega arith) g).changes)
-    ∙ sym c.room-full.ensures
+    let form = form-facts _ (λ i. (c.type_inv.book i).fits) (lent-facts _ _ _ (sym c.in_ok-check_lent.ensures)).0 in
+    let some : c.open.result ≡ Some c.in_ok-list.list = grind arith in
+    let g = rw some at c.open.ensures in
+    let many = ap (λ (n : ℕ). room_number x n) (ap change_count (sym g.1) ∙ sym c.in_ok-list.list.whole.changes) in
+    let number =
+    by-room x a.v a.day a.bytes.now c.if-v-gt-LAST_VOLUME.false (λ e. c.if-days-eq0.false (c.retention-days.ensures ∙ e))
+    (sym c.backups_of-backups.ensures.retired ∙ c.if-backups.false) (sym c.in_ok-check_day.ensures)
+    (ap (λ (l : ℕ). list_number l a.bytes.now) (sym c.cells.ensures) ∙ g.0) ∙ many
     in
-    let a = c.args in
-    number-refused a.book.now a.pool.now a.spare _ _ _ lent _ number c.if-full-ne0.true
+    let p = err_from_is_err_and c.from_residual-in_err-check_room.result c.from_residual-in_err-check_room.ensures.1 in
+    rw (p.1, p.2) (number-refused _ _ _ _ _ _ (sym c.in_ok-check_lent.ensures) _ (number ∙ sym c.in_err-check_room.ensures))
 
 pub overflow_add-until : goal.overflow_add-until
 overflow_add-until c =
-    let lent : (let a = c.args in
-    lent_number a.book.now a.pool.now a.spare ≡ 0) = sym c.lent_number-refusal.ensures ∙ c.if-refusal-ne0.false in
-    let form : FormFacts c.args.book.now = form-facts c.args.book.now (λ i. (c.shared_slice_known-1.given i).fits) (lent-facts _ _ _ lent).0 in
-    let in_use : (let a = c.args in
-    is_retired (book_of a.book.now) a.v ≡ false) = sym c.backups_of-backups.ensures.retired ∙ c.if-backups.false in
-    let day : (let a = c.args in
-    day_refused (book_of a.book.now) a.v a.day ≡ false) = sym c.bad_day.ensures ∙ c.if-bad_day.false in
-    let checks : (let a = c.args in
-    checked_of (book_of a.book.now).sizes.l a.list.now ≡ c.check-checked.result) =
-    let list = c.args.list.now in
-    sym (c.check-checked.ensures ∙ ap (λ (l : ℕ). checked_of l list) c.cells.ensures)
-    in
-    let number : (let a = c.args in
-    backup_number (book_of a.book.now) a.v a.day a.list.now ≡ c.room-full.result) =
     let a = c.args in
     let x = book_of a.book.now in
-    let g = checks ∙ c.in-Good.is in
-    let small = form.holds.l in
-    by-room x a.v a.day a.list.now c.if-v-gt-LAST_VOLUME.false (λ e. c.if-days-eq0.false (c.retention-days.ensures ∙ e)) in_use day
-    (good-number x.sizes.l a.list.now _ g)
-    ∙ ap (λ (n : ℕ). room_number x n) (sym (good-whole x.sizes.l a.list.now _ (omega arith) g).changes)
-    ∙ sym c.room-full.ensures
+    let form = form-facts _ (λ i. (c.type_inv.book i).fits) (lent-facts _ _ _ (sym c.in_ok-check_lent.ensures)).0 in
+    let some : c.open.result ≡ Some c.in_ok-list.list = grind arith in
+    let g = rw some at c.open.ensures in
+    let many = ap (λ (n : ℕ). room_number x n) (ap change_count (sym g.1) ∙ sym c.in_ok-list.list.whole.changes) in
+    let number =
+    by-room x a.v a.day a.bytes.now c.if-v-gt-LAST_VOLUME.false (λ e. c.if-days-eq0.false (c.retention-days.ensures ∙ e))
+    (sym c.backups_of-backups.ensures.retired ∙ c.if-backups.false) (sym c.in_ok-check_day.ensures)
+    (ap (λ (l : ℕ). list_number l a.bytes.now) (sym c.cells.ensures) ∙ g.0) ∙ many
     in
-    let allowed : (let a = c.args in
-    Allowed (book_of a.book.now) a.v a.day a.list.now) =
-    let a = c.args in
-    number-zero (book_of a.book.now) a.v a.day a.list.now (number ∙ c.if-full-ne0.false)
-    in
-    let a = c.args in
-    let x = book_of a.book.now in
+    let allowed = number-zero x a.v a.day a.bytes.now (number ∙ sym c.in_ok-check_room.ensures) in
     let kept = retention_in x form.parts a.v in
     let before = last-before (days x a.v) a.day allowed.after in
     omega (arith, allowed.last, before, c.backups_of-backups.ensures.last, c.retention-days.ensures, kept)
 
 pub overflow_add-number : goal.overflow_add-number
 overflow_add-number c =
-    let lent : (let a = c.args in
-    lent_number a.book.now a.pool.now a.spare ≡ 0) = sym c.lent_number-refusal.ensures ∙ c.if-refusal-ne0.false in
-    let form : FormFacts c.args.book.now = form-facts c.args.book.now (λ i. (c.shared_slice_known-1.given i).fits) (lent-facts _ _ _ lent).0 in
-    let a = c.args in
+    let form = form-facts _ (λ i. (c.type_inv.book i).fits) (lent-facts _ _ _ (sym c.in_ok-check_lent.ensures)).0 in
     let h = form.holds in
-    let few = days-bound (book_of a.book.now) a.v in
+    let few = days-bound (book_of c.args.book.now) c.args.v in
     omega (arith, c.backups_of-backups.ensures.count, few, h.slots, h.s)
 
 pub returns : goal.returns
 unfolding AllowedBy
 returns c =
-    let lent : (let a = c.args in
-    lent_number a.book.now a.pool.now a.spare ≡ 0) = sym c.lent_number-refusal.ensures ∙ c.if-refusal-ne0.false in
-    let form : FormFacts c.args.book.now = form-facts c.args.book.now (λ i. (c.shared_slice_known-1.given i).fits) (lent-facts _ _ _ lent).0 in
-    let in_use : (let a = c.args in
-    is_retired (book_of a.book.now) a.v ≡ false) = sym c.backups_of-backups.ensures.retired ∙ c.if-backups.false in
-    let day : (let a = c.args in
-    day_refused (book_of a.book.now) a.v a.day ≡ false) = sym c.bad_day.ensures ∙ c.if-bad_day.false in
-    let checks : (let a = c.args in
-    checked_of (book_of a.book.now).sizes.l a.list.now ≡ c.check-checked.result) =
-    let list = c.args.list.now in
-    sym (c.check-checked.ensures ∙ ap (λ (l : ℕ). checked_of l list) c.cells.ensures)
-    in
-    let number : (let a = c.args in
-    backup_number (book_of a.book.now) a.v a.day a.list.now ≡ c.room-full.result) =
     let a = c.args in
     let x = book_of a.book.now in
-    let g = checks ∙ c.in-Good.is in
-    let small = form.holds.l in
-    by-room x a.v a.day a.list.now c.if-v-gt-LAST_VOLUME.false (λ e. c.if-days-eq0.false (c.retention-days.ensures ∙ e)) in_use day
-    (good-number x.sizes.l a.list.now _ g)
-    ∙ ap (λ (n : ℕ). room_number x n) (sym (good-whole x.sizes.l a.list.now _ (omega arith) g).changes)
-    ∙ sym c.room-full.ensures
+    let form = form-facts _ (λ i. (c.type_inv.book i).fits) (lent-facts _ _ _ (sym c.in_ok-check_lent.ensures)).0 in
+    let some : c.open.result ≡ Some c.in_ok-list.list = grind arith in
+    let g = rw some at c.open.ensures in
+    let many = ap (λ (n : ℕ). room_number x n) (ap change_count (sym g.1) ∙ sym c.in_ok-list.list.whole.changes) in
+    let number =
+    by-room x a.v a.day a.bytes.now c.if-v-gt-LAST_VOLUME.false (λ e. c.if-days-eq0.false (c.retention-days.ensures ∙ e))
+    (sym c.backups_of-backups.ensures.retired ∙ c.if-backups.false) (sym c.in_ok-check_day.ensures)
+    (ap (λ (l : ℕ). list_number l a.bytes.now) (sym c.cells.ensures) ∙ g.0) ∙ many
     in
-    let allowed : (let a = c.args in
-    Allowed (book_of a.book.now) a.v a.day a.list.now) =
-    let a = c.args in
-    number-zero (book_of a.book.now) a.v a.day a.list.now (number ∙ c.if-full-ne0.false)
-    in
-    let a = c.args in
-    let x = book_of a.book.now in
-    let l = allowed in
-    let g = checks ∙ c.in-Good.is in
-    let f = lent-facts a.book.now a.pool.now a.spare lent in
-    let small = form.holds.l in
+    let zero = number ∙ sym c.in_ok-check_room.ensures in
+    let l = number-zero x a.v a.day a.bytes.now zero in
+    let f = lent-facts a.book.now a.pool.now a.spare (sym c.in_ok-check_lent.ensures) in
     record {
       formed = form;
       spared = f.2;
       volume = omega (arith, c.if-v-gt-LAST_VOLUME.false);
       last = l.last;
-      job = record {
-        size = f.1;
-        whole = good-whole x.sizes.l a.list.now _ (omega arith) g;
-        good = l.good;
-        room = l.records;
-      };
+      same = g.1;
+      job = record { size = f.1; good = rw g.1 l.good; room = rw g.1 l.records };
       room = l.slots;
       until = omega (arith, c.backups_of-backups.ensures.last, c.retention-days.ensures);
-      number = rw add-one (ap suc (c.backups_of-backups.ensures.count ∙ sym (count-living x a.v in_use)));
-      goes = goes_on_lem a.book.now a.pool.now a.spare a.v a.day a.list.now lent
-          (number ∙ c.if-full-ne0.false);
+      number = rw add-one (ap suc (c.backups_of-backups.ensures.count ∙ sym (count-living x a.v (sym c.backups_of-backups.ensures.retired ∙ c.if-backups.false))));
+      goes = goes_on_lem _ _ _ _ _ _ (sym c.in_ok-check_lent.ensures) zero;
     }

@@ -6,15 +6,8 @@ use Rattle.permit.proofs.BackupsPassed.{passed_none, passed-own, passed-other, p
 use Rattle.permit.proofs.backups.backups_of.Goals as goal
 use Rattle.permit.proofs.backups.backups_of.Goals.{then-slot-v, else-slot-v}
 
-pub used_slots-used-requires : goal.used_slots-used-requires
-used_slots-used-requires c = c.requires
-
 pub loop-q-init : goal.loop-q-init
-loop-q-init c = (omega arith, omega arith, passed_none _ _)
-
-pub slot_at-slot-requires : goal.slot_at-slot-requires
-slot_at-slot-requires c =
-    record { holds = c.requires; q_in_bounds = omega arith }
+loop-q-init c = (omega arith, passed_none _ _)
 
 pub loop-q-preserved : goal.loop-q-preserved
 loop-q-preserved c =
@@ -25,17 +18,15 @@ loop-q-preserved c =
     elim c.if-slot-v.branch [
       | then-slot-v w ↦ (
         omega arith,
-        omega arith,
-        rw (w.count-is, w.last-is, w.retired-is) (passed-own _ _ l.q l.count l.last l.retired l.invariant.2 t s h (omega arith)),
+        rw (w.count-is, w.last-is, w.retired-is) (passed-own _ _ l.q l.count l.last l.retired l.invariant.1 t s h (omega arith)),
       )
       | else-slot-v w ↦ (
         omega arith,
-        omega arith,
-        rw (w.count-is, w.last-is, w.retired-is) (passed-other _ _ l.q l.count l.last l.retired l.invariant.2 t s h (λ e. omega arith)),
+        rw (w.count-is, w.last-is, w.retired-is) (passed-other _ _ l.q l.count l.last l.retired l.invariant.1 t s h (λ e. omega arith)),
       )
     ]
 
 pub returns : goal.returns
 returns c =
     let l = c.loop-q in
-    passed-all _ _ l.q l.count l.last l.retired l.invariant.2 (omega arith)
+    passed-all _ _ l.q l.count l.last l.retired l.invariant.1 (omega arith)

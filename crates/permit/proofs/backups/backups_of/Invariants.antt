@@ -1,13 +1,9 @@
 -- `permit::backups::backups_of` meets its contract: each turn passes one slot, the volume's or another's.
-use Prim.Native.Nat.{◌-◌, ◌≤◌}
+use Prim.Native.Nat.{◌≤◌}
 use Rattle.book.specs.Layout.{book_of}
 use Rattle.permit.proofs.BackupsPassed.{Passed}
 use Rattle.permit.proofs.backups.backups_of.Given as goal
 
 abbrev pub invariant-loop-q : goal.invariant-loop-q
 invariant-loop-q l =
-    (l.q ≤ l.used) × (l.count ≤ l.q) × Passed (book_of l.book) l.v l.q l.count l.last l.retired
-
-abbrev pub decreases-loop-q : goal.decreases-loop-q
-decreases-loop-q l =
-    l.used - l.q
+    (l.count ≤ l.q) × Passed (book_of l.book) l.v l.q l.count l.last l.retired

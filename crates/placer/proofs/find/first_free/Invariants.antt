@@ -1,5 +1,4 @@
 -- The loop's invariant: the search from `from` is the search from the block reached.
-use Prim.Native.Nat.{◌-◌, ◌≤◌}
 use mathlib.Core.Path.{◌≡◌}
 use Rattle.book.specs.Book.{is_free}
 use Rattle.book.specs.Layout.{book_of}
@@ -8,8 +7,4 @@ use Rattle.placer.proofs.find.first_free.Given as goal
 
 abbrev pub invariant-loop-p : goal.invariant-loop-p
 invariant-loop-p l =
-    (l.from ≤ l.p) × (l.p ≤ l.to) × (place_in is_free (book_of l.book).entries l.from l.to ≡ place_in is_free (book_of l.book).entries l.p l.to)
-
-abbrev pub decreases-loop-p : goal.decreases-loop-p
-decreases-loop-p l =
-    l.to - l.p
+    place_in is_free (book_of l.book).entries l.from l.to ≡ place_in is_free (book_of l.book).entries l.p l.to

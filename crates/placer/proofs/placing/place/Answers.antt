@@ -1,85 +1,60 @@
 -- The four ways out, each by a law of steps 1 and 2.
 use mathlib.Core.Bool.{not}
-use Prim.Native.Nat.{ℕ, ◌*◌, ◌<◌}
-use mathlib.Core.Path.{◌≡◌, sym, ap, ◌∙◌}
-use mathlib.Core.List.{List}
+use Prim.Native.Nat.{◌<◌}
+use mathlib.Core.Path.{sym, ap, ◌∙◌}
 use native.Mathlib.Omega.{arith}
 use lib.ListN.{length}
-use Rattle.words.specs.Blocks.{print_size}
 use Rattle.words.proofs.ChoiceLaws.{failed, passed}
-use Rattle.words.specs.Sections.{part}
 use Rattle.runs.specs.Changes.{change_count, change_at}
-use Rattle.runs.proofs.Laws.{print-part, changes-within}
+use Rattle.runs.proofs.Laws.{changes-within}
 use Rattle.book.specs.Book.{Sizes}
 use Rattle.book.specs.Layout.{book_of}
-use Rattle.model.specs.Backup.{find_held}
-use Rattle.finder.specs.Answers.{found_of}
 use Rattle.finder.proofs.AnswerLaws.{found_some, found_none}
 use Rattle.placer.proofs.Finding.{found-held, found-free}
-use Rattle.placer.proofs.PlaceLaws.{prints-size, twelve_by, eleven_by, found-by, taken-by}
+use Rattle.placer.proofs.PlaceLaws.{sought, prints-size, twelve_by, eleven_by, found-by, taken-by}
 use Rattle.placer.specs.Placing.{PlacedBy}
 use Rattle.placer.proofs.placing.place.Goals as goal
 
-pub find_held-held-requires : goal.find_held-held-requires
-find_held-held-requires c =
-    let size = prints-size c.args.list.now c.args.shape c.requires.job.0.whole in
+pub find_held-requires : goal.find_held-requires
+find_held-requires c =
+    let size = prints-size c.args.list in
     record { holds = c.requires.holds.1; indexed = c.requires.indexed; print_size_in_bounds = omega (arith, ap length c.prints.ensures, size, c.requires.job.1) }
 
-pub find_free-free-requires : goal.find_free-free-requires
-find_free-free-requires c =
-    record { holds = c.requires.holds.1; book_bound = c.requires.standing.cursor }
-
-pub returns-in_default-free : goal.returns-in_default-free
+pub returns-in_default-find_free : goal.returns-in_default-find_free
 unfolding PlacedBy
-returns-in_default-free c =
-    let below : c.args.i < change_count c.args.list.now = omega (arith, c.requires.job.1, c.requires.job.0.whole.changes) in
-    let looked : (let a = c.args in
-    found_of (find_held (book_of a.work.now).entries (change_at a.list.now a.i).print) ≡ c.find_held-held.result) =
-    let a = c.args in
-    sym (c.find_held-held.ensures
-    ∙ ap (λ (f : List ℕ). found_of (find_held (book_of a.work.now).entries f))
-    (ap (λ (f : List ℕ). part f (a.i * print_size) print_size) c.prints.ensures
-    ∙ print-part a.list.now a.shape.changes a.i c.requires.job.1))
-    in
-    let a = c.args in
+returns-in_default-find_free c =
+    let below : c.args.i < change_count c.args.list.bytes.now = omega (arith, c.requires.job.1, c.args.list.whole.changes) in
+    let looked = sought c.args.work.now c.args.list.bytes.now _ _ c.args.i c.find_held.ensures c.prints.ensures c.requires.job.1 in
     record {
-      placed_by = twelve_by _ _ _ _ _ _ _ _ c.requires.holds.0.sized c.requires.holds.1 c.requires.job.0 below c.requires.standing
+      placed_by = twelve_by _ _ _ _ _ _ _ c.requires.holds.0.sized c.requires.holds.1 c.requires.job.0 below c.requires.standing
           (found_none _ (looked ∙ c.in_default.is))
-          (found_none _ (sym c.find_free-free.ensures ∙ c.in_default-free.is));
+          (found_none _ (sym c.find_free.ensures ∙ c.in_default-find_free.is));
       indexed_2 = c.requires.indexed;
     }
 
 pub take_block-requires : goal.take_block-requires
 take_block-requires c =
     let x = book_of c.args.work.now in
-    let q = found_some _ _ (sym c.find_free-free.ensures ∙ c.in-At-free.is) in
+    let q = found_some _ _ (sym c.find_free.ensures ∙ c.in-Some-find_free.is) in
     let f = found-free x.entries x.cursor _ q in
-    record { holds = c.requires.holds.1; whole = (c.requires.job.0.whole, c.requires.job.1); p_bound = (omega (arith, f.0, c.requires.holds.1.sized.entries), f.1); indexed = c.requires.indexed }
+    record { holds = c.requires.holds.1; change = c.requires.job.1; p_bound = (omega (arith, f.0, c.requires.holds.1.sized.entries), f.1); indexed = c.requires.indexed }
 
 pub overflow_add-taken : goal.overflow_add-taken
 overflow_add-taken c =
-    let below : c.args.i < change_count c.args.list.now = omega (arith, c.requires.job.1, c.requires.job.0.whole.changes) in
-    let small = changes-within (book_of c.args.book.now).sizes.l c.args.list.now c.requires.job.0.good in
+    let below : c.args.i < change_count c.args.list.bytes.now = omega (arith, c.requires.job.1, c.args.list.whole.changes) in
+    let small = changes-within (book_of c.args.book.now).sizes.l c.args.list.bytes.now c.requires.job.0.good in
     omega (arith, c.requires.standing.taken, below, c.requires.holds.0.l)
 
 pub returns-in_default : goal.returns-in_default
 unfolding PlacedBy
 returns-in_default c =
-    let below : c.args.i < change_count c.args.list.now = omega (arith, c.requires.job.1, c.requires.job.0.whole.changes) in
-    let looked : (let a = c.args in
-    found_of (find_held (book_of a.work.now).entries (change_at a.list.now a.i).print) ≡ c.find_held-held.result) =
-    let a = c.args in
-    sym (c.find_held-held.ensures
-    ∙ ap (λ (f : List ℕ). found_of (find_held (book_of a.work.now).entries f))
-    (ap (λ (f : List ℕ). part f (a.i * print_size) print_size) c.prints.ensures
-    ∙ print-part a.list.now a.shape.changes a.i c.requires.job.1))
-    in
+    let below : c.args.i < change_count c.args.list.bytes.now = omega (arith, c.requires.job.1, c.args.list.whole.changes) in
+    let looked = sought c.args.work.now c.args.list.bytes.now _ _ c.args.i c.find_held.ensures c.prints.ensures c.requires.job.1 in
     let k = c.take_block in
-    let a = c.args in
     record {
-      placed_by = taken-by _ _ _ _ _ _ _ _ c.requires.holds.0.sized c.requires.holds.1 c.requires.job.0 below c.requires.standing _ _ _
+      placed_by = taken-by _ _ _ _ _ _ _ c.requires.holds.0.sized c.requires.holds.1 c.requires.job.0 below c.requires.standing _ _ _
           (found_none _ (looked ∙ c.in_default.is))
-          (found_some _ _ (sym c.find_free-free.ensures ∙ c.in-At-free.is))
+          (found_some _ _ (sym c.find_free.ensures ∙ c.in-Some-find_free.is))
           k.ensures.is
           k.ensures.taker_after;
       indexed_2 = k.ensures.indexed_2;
@@ -87,36 +62,21 @@ returns-in_default c =
 
 pub same_block-requires : goal.same_block-requires
 same_block-requires c =
-    let looked : (let a = c.args in
-    found_of (find_held (book_of a.work.now).entries (change_at a.list.now a.i).print) ≡ c.find_held-held.result) =
+    let looked = sought c.args.work.now c.args.list.bytes.now _ _ c.args.i c.find_held.ensures c.prints.ensures c.requires.job.1 in
     let a = c.args in
-    sym (c.find_held-held.ensures
-    ∙ ap (λ (f : List ℕ). found_of (find_held (book_of a.work.now).entries f))
-    (ap (λ (f : List ℕ). part f (a.i * print_size) print_size) c.prints.ensures
-    ∙ print-part a.list.now a.shape.changes a.i c.requires.job.1))
-    in
-    let a = c.args in
-    let q = found_some _ _ (looked ∙ c.in-At.is) in
-    let f = found-held (book_of a.work.now).entries (change_at a.list.now a.i).print _ q in
+    let q = found_some _ _ (looked ∙ c.in-Some.is) in
+    let f = found-held (book_of a.work.now).entries (change_at a.list.bytes.now a.i).print _ q in
     let n = ap (λ (z : Sizes). z.n) c.requires.standing.sizes in
-    record { holds = c.requires.holds.0; whole = (c.requires.job.0.whole, c.requires.job.1); p_bound = (omega (arith, f.0, c.requires.holds.1.sized.entries), c.requires.job.0.size); p_bound_2 = λ e. omega (arith, c.requires.standing.marks _ e f.1, c.requires.job.1) }
+    record { holds = c.requires.holds.0; change = c.requires.job.1; p_bound = (omega (arith, f.0, c.requires.holds.1.sized.entries), c.requires.job.0.size); p_bound_2 = λ e. omega (arith, c.requires.standing.marks _ e f.1, c.requires.job.1) }
 
 pub returns-then-not-same_block : goal.returns-then-not-same_block
 unfolding PlacedBy
 returns-then-not-same_block c =
-    let below : c.args.i < change_count c.args.list.now = omega (arith, c.requires.job.1, c.requires.job.0.whole.changes) in
-    let looked : (let a = c.args in
-    found_of (find_held (book_of a.work.now).entries (change_at a.list.now a.i).print) ≡ c.find_held-held.result) =
-    let a = c.args in
-    sym (c.find_held-held.ensures
-    ∙ ap (λ (f : List ℕ). found_of (find_held (book_of a.work.now).entries f))
-    (ap (λ (f : List ℕ). part f (a.i * print_size) print_size) c.prints.ensures
-    ∙ print-part a.list.now a.shape.changes a.i c.requires.job.1))
-    in
-    let a = c.args in
+    let below : c.args.i < change_count c.args.list.bytes.now = omega (arith, c.requires.job.1, c.args.list.whole.changes) in
+    let looked = sought c.args.work.now c.args.list.bytes.now _ _ c.args.i c.find_held.ensures c.prints.ensures c.requires.job.1 in
     record {
-      placed_by = eleven_by _ _ _ _ _ _ _ _ c.requires.holds.0.sized c.requires.holds.1 c.requires.job.0 below c.requires.standing _
-          (found_some _ _ (looked ∙ c.in-At.is))
+      placed_by = eleven_by _ _ _ _ _ _ _ c.requires.holds.0.sized c.requires.holds.1 c.requires.job.0 below c.requires.standing _
+          (found_some _ _ (looked ∙ c.in-Some.is))
           (failed c.same_block.ensures (ap not c.if-not-same_block.true));
       indexed_2 = c.requires.indexed;
     }
@@ -124,19 +84,11 @@ returns-then-not-same_block c =
 pub returns : goal.returns
 unfolding PlacedBy
 returns c =
-    let below : c.args.i < change_count c.args.list.now = omega (arith, c.requires.job.1, c.requires.job.0.whole.changes) in
-    let looked : (let a = c.args in
-    found_of (find_held (book_of a.work.now).entries (change_at a.list.now a.i).print) ≡ c.find_held-held.result) =
-    let a = c.args in
-    sym (c.find_held-held.ensures
-    ∙ ap (λ (f : List ℕ). found_of (find_held (book_of a.work.now).entries f))
-    (ap (λ (f : List ℕ). part f (a.i * print_size) print_size) c.prints.ensures
-    ∙ print-part a.list.now a.shape.changes a.i c.requires.job.1))
-    in
-    let a = c.args in
+    let below : c.args.i < change_count c.args.list.bytes.now = omega (arith, c.requires.job.1, c.args.list.whole.changes) in
+    let looked = sought c.args.work.now c.args.list.bytes.now _ _ c.args.i c.find_held.ensures c.prints.ensures c.requires.job.1 in
     record {
-      placed_by = found-by _ _ _ _ _ _ _ _ c.requires.holds.0.sized c.requires.holds.1 c.requires.job.0 below c.requires.standing _
-          (found_some _ _ (looked ∙ c.in-At.is))
+      placed_by = found-by _ _ _ _ _ _ _ c.requires.holds.0.sized c.requires.holds.1 c.requires.job.0 below c.requires.standing _
+          (found_some _ _ (looked ∙ c.in-Some.is))
           (passed c.same_block.ensures (ap not c.if-not-same_block.false));
       indexed_2 = c.requires.indexed;
     }

@@ -18,20 +18,20 @@ returns-then-is_held c =
     c.same_bytes.ensures
     ∙ ap₂ (λ (u v : List ℕ). same u v)
     (lent a.pool.now (a.p.0 * block_size) block_size
-    ∙ sym (in_pool (book_of a.book.now).entries a.taker.now a.list.now a.pool.now a.p.0 held))
+    ∙ sym (in_pool (book_of a.book.now).entries a.taker.now a.list.bytes.now a.pool.now a.p.0 held))
     c.block_of-block.ensures
 
 pub overflow_cast-taker : goal.overflow_cast-taker
 overflow_cast-taker c =
     let mark : (let a = c.args in
-    get_or a.taker.now a.p.0 0 < a.shape.changes) = c.requires.p_bound_2 (sym c.is_held.ensures ∙ c.if-is_held.false) in
-    omega (arith, mark, c.requires.whole.0.size)
+    get_or a.taker.now a.p.0 0 < a.list.shape.changes) = c.requires.p_bound_2 (sym c.is_held.ensures ∙ c.if-is_held.false) in
+    omega (arith, mark, c.args.list.whole.size)
 
 pub block_of-requires : goal.block_of-requires
 block_of-requires c =
     let mark : (let a = c.args in
-    get_or a.taker.now a.p.0 0 < a.shape.changes) = c.requires.p_bound_2 (sym c.is_held.ensures ∙ c.if-is_held.false) in
-    (c.requires.whole.0, mark)
+    get_or a.taker.now a.p.0 0 < a.list.shape.changes) = c.requires.p_bound_2 (sym c.is_held.ensures ∙ c.if-is_held.false) in
+    mark
 
 pub returns : goal.returns
 returns c =
@@ -40,5 +40,5 @@ returns c =
     c.same_bytes-2.ensures
     ∙ ap₂ (λ (u v : List ℕ). same u v)
     (c.block_of.ensures
-    ∙ sym (in_list (book_of a.book.now).entries a.taker.now a.list.now a.pool.now a.p.0 free))
+    ∙ sym (in_list (book_of a.book.now).entries a.taker.now a.list.bytes.now a.pool.now a.p.0 free))
     c.block_of-block.ensures

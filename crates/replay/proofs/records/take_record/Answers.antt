@@ -6,17 +6,17 @@ use Rattle.replay.proofs.records.take_record.Goals as goal
 
 pub replace-same-requires : goal.replace-same-requires
 replace-same-requires c =
-    let known : ReadIn (told c.args.book) c.record_at-change.result = read_in c.requires.form_facts c.args.q c.requires.volume_lt_volumes.2 c.record_at-change.ensures in
+    let known : ReadIn (told c.args.book) c.record_at-change.result = read_in c.requires.form_facts c.args.q c.requires.volume_lt_volumes.1 c.record_at-change.ensures in
     (c.requires.volume_lt_volumes.0, known.in_row)
 
 pub meet-met-requires : goal.meet-met-requires
 meet-met-requires c =
-    let known : ReadIn (told c.args.book) c.record_at-change.result = read_in c.requires.form_facts c.args.q c.requires.volume_lt_volumes.2 c.record_at-change.ensures in
+    let known : ReadIn (told c.args.book) c.record_at-change.result = read_in c.requires.form_facts c.args.q c.requires.volume_lt_volumes.1 c.record_at-change.ensures in
     known.in_row
 
 pub unmapped_or_held-held-requires : goal.unmapped_or_held-held-requires
 unmapped_or_held-held-requires c =
-    let known : ReadIn (told c.args.book) c.record_at-change.result = read_in c.requires.form_facts c.args.q c.requires.volume_lt_volumes.2 c.record_at-change.ensures in
+    let known : ReadIn (told c.args.book) c.record_at-change.result = read_in c.requires.form_facts c.args.q c.requires.volume_lt_volumes.1 c.record_at-change.ensures in
     record { form_facts = c.requires.form_facts; fact = known.before }
 
 pub returns : goal.returns

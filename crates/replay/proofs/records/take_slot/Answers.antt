@@ -13,7 +13,7 @@ slot_at-slot-requires c =
 
 pub due_day-until-requires : goal.due_day-until-requires
 due_day-until-requires c =
-    record { holds = (c.requires.form_facts.holds, c.requires.form_facts.parts); q_in_bounds = (c.requires.q_in_bounds.0, c.requires.q_in_bounds.2) }
+    record { holds = (c.requires.form_facts.holds, c.requires.form_facts.parts); q_in_bounds = (c.requires.q_in_bounds.0, c.requires.q_in_bounds.1) }
 
 pub overflow_add-end : goal.overflow_add-end
 overflow_add-end c =
@@ -23,12 +23,12 @@ overflow_add-end c =
 pub take_records-requires : goal.take_records-requires
 take_records-requires c =
     let known : SlotRead (told c.args.book) c.slot_at-slot.result = slot_read c.requires.form_facts.holds c.requires.form_facts.parts c.args.q c.requires.q_in_bounds.0 c.slot_at-slot.ensures in
-    record { form_facts = c.requires.form_facts; volume_lt_volumes = (known.volume, c.requires.q_in_bounds.1, omega arith, known.records) }
+    record { form_facts = c.requires.form_facts; volume_lt_volumes = (known.volume, omega arith, known.records) }
 
 pub returns : goal.returns
 returns c =
     record {
-      takes_slot = slot-taken c.requires.form_facts c.args.q c.requires.q_in_bounds.0 c.slot_at-slot.ensures c.requires.stamps_len.0 c.requires.stamps_len.1
+      takes_slot = slot-taken c.requires.form_facts c.args.q c.requires.q_in_bounds.0 c.slot_at-slot.ensures (omega arith) c.requires.stamps_low
           c.take_records.ensures (omega arith) (omega (arith, c.due_day-until.ensures.value))
           (ap₂ ltb c.due_day-until.ensures.value c.day.ensures) (omega arith);
       lasts_are = c.due_day-until.ensures.lasts_are;

@@ -1,13 +1,13 @@
 use Prim.Native.Nat.{ℕ, ◌+◌}
 use mathlib.Core.Path.{refl, sym, ap, ◌∙◌}
 use native.Mathlib.Omega.{arith}
+use Rattle.std.specs.Prelude.{Some}
 use Rattle.book.specs.Layout.{told}
-use Rattle.restorer.specs.declared.image.Before.TheVariants.{At}
 use Rattle.restorer.proofs.BeforeLaws.{span-whole, span-here, span-next, span_none}
 use Rattle.restorer.proofs.image.first_before.Goals as goal
 
 pub loop-q-init : goal.loop-q-init
-loop-q-init c = (omega arith, omega arith, refl)
+loop-q-init c = refl
 
 pub record_at-record-requires : goal.record_at-record-requires
 record_at-record-requires c =
@@ -21,7 +21,7 @@ returns-then-record-lbn c =
     let its = sym c.record_at-record.ensures.lbn ∙ c.if-record-lbn.true in
     let here = span-here a.lbn.0 rs l.q (a.first + a.number) (omega arith) (omega arith) its in
     let whole = span-whole a.lbn.0 a.first a.number rs in
-    ap (λ (n : ℕ). At (record { 0 = n })) c.record_at-record.ensures.before ∙ sym (sym whole ∙ l.invariant.2 ∙ here)
+    ap (λ (n : ℕ). Some (record { 0 = n })) c.record_at-record.ensures.before ∙ sym (sym whole ∙ l.invariant ∙ here)
 
 pub loop-q-preserved : goal.loop-q-preserved
 loop-q-preserved c =
@@ -32,7 +32,7 @@ loop-q-preserved c =
     span-next a.lbn.0 rs l.q (a.first + a.number) (omega arith) (omega arith)
     (λ e. c.if-record-lbn.false (c.record_at-record.ensures.lbn ∙ e))
     in
-    (omega arith, omega arith, l.invariant.2 ∙ next)
+    l.invariant ∙ next
 
 pub returns : goal.returns
 returns c =
@@ -40,4 +40,4 @@ returns c =
     let a = c.args in
     let rs = (told a.book).records in
     let whole = span-whole a.lbn.0 a.first a.number rs in
-    sym (sym whole ∙ l.invariant.2 ∙ span_none a.lbn.0 rs l.q (a.first + a.number) (omega arith))
+    sym (sym whole ∙ l.invariant ∙ span_none a.lbn.0 rs l.q (a.first + a.number) (omega arith))

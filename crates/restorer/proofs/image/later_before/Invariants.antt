@@ -1,5 +1,4 @@
 -- `restorer::image::later_before` meets its contract: the slots left say what all of them say.
-use Prim.Native.Nat.{◌-◌, ◌≤◌}
 use mathlib.Core.Path.{◌≡◌}
 use Rattle.book.specs.Layout.{book_of}
 use Rattle.restorer.specs.Befores.{before_from}
@@ -7,8 +6,4 @@ use Rattle.restorer.proofs.image.later_before.Given as goal
 
 abbrev pub invariant-loop-q : goal.invariant-loop-q
 invariant-loop-q l =
-    (l.at ≤ l.q) × (before_from (book_of l.book) l.v l.at l.lbn.0 ≡ before_from (book_of l.book) l.v l.q l.lbn.0)
-
-abbrev pub decreases-loop-q : goal.decreases-loop-q
-decreases-loop-q l =
-    l.used - l.q
+    before_from (book_of l.book) l.v l.at l.lbn.0 ≡ before_from (book_of l.book) l.v l.q l.lbn.0

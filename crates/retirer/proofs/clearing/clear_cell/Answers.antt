@@ -1,10 +1,9 @@
 -- The three ways out, each by a law of one cell.
-use mathlib.Core.Bool.{not}
 use Prim.Native.Nat.{◌<◌}
-use mathlib.Core.Path.{refl, ap, ◌∙◌}
+use mathlib.Core.Path.{refl, sym, ap, ◌∙◌}
 use native.Mathlib.Omega.{arith}
 use lib.ListN.{length}
-use Rattle.words.proofs.ChoiceLaws.{failed, passed}
+use Rattle.std.proofs.lemmas.Result.{err_from_is_err_and}
 use Rattle.book.specs.Book.{Book}
 use Rattle.book.specs.Layout.{book_of, Is}
 use Rattle.book.specs.Next.{with_entries, with_maps}
@@ -22,15 +21,16 @@ lower-requires c =
     let x = book_of c.args.work.now in
     record { holds = c.requires.holds; fact = rw c.cell-before.ensures (cell-ok x.maps x.sizes.n c.args.v c.args.lbn.0 c.requires.work_value) }
 
-pub returns-then-not-lower : goal.returns-then-not-lower
-returns-then-not-lower c =
-    by_zero _ _ _ _ _ c.cell-before.ensures c.if-before.false (failed c.lower.ensures.goes (ap not c.if-not-lower.true))
+pub returns-in_err-lower : goal.returns-in_err-lower
+returns-in_err-lower c =
+    let p = err_from_is_err_and c.from_residual.result c.from_residual.ensures.1 in
+    rw (p.1, p.2) (by_zero _ _ _ _ _ c.cell-before.ensures c.if-before.false _ c.in_err-lower.ensures.number)
 
 pub set_cell-requires : goal.set_cell-requires
 unfolding with_entries
 set_cell-requires c =
     let low : (let x = book_of c.args.work.now in
-    Is c.lower.new.work (with_entries (lower c.args.until c.cell-before.result.0 x.entries) x)) = c.lower.ensures.book c.if-not-lower.false in
+    Is c.lower.new.work (with_entries (lower c.args.until c.cell-before.result.0 x.entries) x)) = c.in_ok-lower.ensures.book refl in
     let l = ap (λ (x : Book). x.sizes.l) low.book in
     record { holds = low.holds; v_lt_volumes = (c.requires.v_lt_volumes.0, omega (arith, c.requires.v_lt_volumes.1, l)) }
 
@@ -38,7 +38,7 @@ pub append_record-requires : goal.append_record-requires
 unfolding with_entries with_maps
 append_record-requires c =
     let low : (let x = book_of c.args.work.now in
-    Is c.lower.new.work (with_entries (lower c.args.until c.cell-before.result.0 x.entries) x)) = c.lower.ensures.book c.if-not-lower.false in
+    Is c.lower.new.work (with_entries (lower c.args.until c.cell-before.result.0 x.entries) x)) = c.in_ok-lower.ensures.book refl in
     let room : (let x = book_of c.args.work.now in
     length x.records < x.sizes.j) = c.requires.work_len_bound (λ e. c.if-before.false (c.cell-before.ensures ∙ e)) in
     let i = low.book in
@@ -58,6 +58,6 @@ append_record-requires c =
 pub returns : goal.returns
 returns c =
     let low : (let x = book_of c.args.work.now in
-    Is c.lower.new.work (with_entries (lower c.args.until c.cell-before.result.0 x.entries) x)) = c.lower.ensures.book c.if-not-lower.false in
-    by_clearing _ _ _ _ _ c.cell-before.ensures c.if-before.false (passed c.lower.ensures.goes (ap not c.if-not-lower.false))
+    Is c.lower.new.work (with_entries (lower c.args.until c.cell-before.result.0 x.entries) x)) = c.in_ok-lower.ensures.book refl in
+    by_clearing _ _ _ _ _ c.cell-before.ensures c.if-before.false (sym c.in_ok-lower.ensures.number)
     low c.set_cell.ensures c.append_record.ensures

@@ -1,12 +1,7 @@
 -- The loop's invariant: clearing all cells is clearing those that are left, from the book so far.
-use Prim.Native.Nat.{◌-◌}
 use Rattle.retirer.proofs.ClearLaws.{Clearing}
 use Rattle.retirer.proofs.clearing.clear_cells.Given as goal
 
 abbrev pub invariant-loop-lbn : goal.invariant-loop-lbn
 invariant-loop-lbn l =
     Clearing l.initial.work l.v l.until l.work l.lbn
-
-abbrev pub decreases-loop-lbn : goal.decreases-loop-lbn
-decreases-loop-lbn l =
-    l.l - l.lbn

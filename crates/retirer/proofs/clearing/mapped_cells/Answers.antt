@@ -5,16 +5,10 @@ use Rattle.retirer.proofs.ClearLaws.{mapped_start, mapped_end, mapped_none, mapp
 use Rattle.retirer.proofs.clearing.mapped_cells.Goals as goal
 use Rattle.retirer.proofs.clearing.mapped_cells.Goals.{then-p, else-p}
 
-pub cells-l-requires : goal.cells-l-requires
-cells-l-requires c = c.requires.holds
-
 pub loop-lbn-init : goal.loop-lbn-init
 loop-lbn-init c =
     let a = c.args in
-    (omega arith, omega arith, omega (arith, mapped_start (book_of a.book.now) a.v))
-
-pub cell-p-requires : goal.cell-p-requires
-cell-p-requires c = let p = c.requires in record { holds = p.holds; v_lt_volumes = (p.v_lt_volumes, omega arith) }
+    (omega arith, omega (arith, mapped_start (book_of a.book.now) a.v))
 
 pub loop-lbn-preserved : goal.loop-lbn-preserved
 loop-lbn-preserved c =
@@ -24,22 +18,20 @@ loop-lbn-preserved c =
     let row = c.requires.holds.sized.cells v c.requires.v_lt_volumes in
     elim c.if-p.branch [
       | then-p w ↦ (
-        omega arith,
-        omega (arith, w.count-is, l.invariant.1),
+        omega (arith, w.count-is, l.invariant.0),
         omega (
           arith,
           w.count-is,
-          l.invariant.2,
+          l.invariant.1,
           mapped_one x v l.lbn (omega arith) (λ e. w.if-p.true (c.cell-p.ensures ∙ e)),
         ),
       )
       | else-p w ↦ (
-        omega arith,
-        omega (arith, w.count-is, l.invariant.1),
+        omega (arith, w.count-is, l.invariant.0),
         omega (
           arith,
           w.count-is,
-          l.invariant.2,
+          l.invariant.1,
           mapped_none x v l.lbn (omega arith) (sym c.cell-p.ensures ∙ w.if-p.false),
         ),
       )
@@ -49,4 +41,4 @@ pub returns : goal.returns
 returns c =
     let l = c.loop-lbn in
     let row = c.requires.holds.sized.cells c.args.v c.requires.v_lt_volumes in
-    omega (arith, l.invariant.2, mapped_end (book_of c.args.book.now) c.args.v l.lbn (omega arith))
+    omega (arith, l.invariant.1, mapped_end (book_of c.args.book.now) c.args.v l.lbn (omega arith))

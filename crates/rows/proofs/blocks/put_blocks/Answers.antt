@@ -10,14 +10,11 @@ loop-p-init c = rows_all _ c.requires.holds.sized _ c.requires.book_in_bounds
 
 pub put_block-at-requires : goal.put_block-at-requires
 put_block-at-requires c =
-    record { holds = c.requires.holds; p_bound = (omega arith, rows-room _ c.requires.holds.sized c.loop-p.invariant (omega arith)) }
+    record { holds = c.requires.holds; p_bound = (omega arith, rows-room _ c.requires.holds.sized c.loop-p.p c.loop-p.invariant (omega arith)) }
 
 pub loop-p-preserved : goal.loop-p-preserved
 loop-p-preserved c =
-    rows_more _ c.requires.holds.sized c.loop-p.invariant (omega arith) c.put_block-at.ensures
-
-pub shape_of-out : goal.shape_of-out
-shape_of-out c = c.loop-p.invariant.kept
+    rows_more _ c.requires.holds.sized c.loop-p.p c.loop-p.invariant (omega arith) c.put_block-at.ensures
 
 pub returns : goal.returns
-returns c = rows-done _ c.requires.holds.sized c.loop-p.invariant (omega arith)
+returns c = rows-done _ c.requires.holds.sized c.loop-p.p c.loop-p.invariant (omega arith)

@@ -1,42 +1,6 @@
-use Prim.Native.Nat.{ℕ}
-use mathlib.Core.Path.{ap, ◌≡◌, refl, sym, ◌∙◌}
-use mathlib.Core.Bool.{not, ◌&&◌}
-use mathlib.Core.List.{List}
 use native.Mathlib.Omega.{arith}
-use Rattle.words.proofs.ChoiceLaws.{failed, passed}
-use Rattle.words.proofs.Each.{each_none, each_more, each-stop}
-use Rattle.book.specs.Layout.{current, entry_offset, current_offset, entry_in}
-use Rattle.book.specs.Form.{state_ok, entry_ok}
 use Rattle.book.proofs.Widths.{offset-now}
-use Rattle.sections.specs.Checks.{entries_ok}
-use Rattle.sections.proofs.CheckLaws.{entry_tests}
 use Rattle.sections.proofs.blocks.entries_ok.Goals as goal
 
-pub loop-p-init : goal.loop-p-init
-unfolding entries_ok
-loop-p-init c = (omega arith, refl)
-
-pub returns-then-not-rest_ok : goal.returns-then-not-rest_ok
-returns-then-not-rest_ok c =
-    let book : List ℕ = c.args.b.now in
-    let tested : c.rest_ok.result ≡ (state_ok current book c.loop-p.p
-    && entry_ok (entry_in current book (entry_offset current c.loop-p.p))) =
-    let p = c.loop-p.p in
-    entry_tests current book p (current_offset p) (offset-now p) c.rest_ok.ensures c.u16_at.ensures (omega arith)
-    in
-    let l = c.loop-p in
-    sym (l.invariant.1 ∙ each-stop _ _ _ (omega arith) (failed tested (ap not c.if-not-rest_ok.true)))
-
-pub loop-p-preserved : goal.loop-p-preserved
-loop-p-preserved c =
-    let book : List ℕ = c.args.b.now in
-    let tested : c.rest_ok.result ≡ (state_ok current book c.loop-p.p
-    && entry_ok (entry_in current book (entry_offset current c.loop-p.p))) =
-    let p = c.loop-p.p in
-    entry_tests current book p (current_offset p) (offset-now p) c.rest_ok.ensures c.u16_at.ensures (omega arith)
-    in
-    let l = c.loop-p in
-    (omega arith, l.invariant.1 ∙ each_more _ _ _ (omega arith) (passed tested (ap not c.if-not-rest_ok.false)))
-
-pub returns : goal.returns
-returns c = sym (c.loop-p.invariant.1 ∙ each_none _ _ _ (omega arith))
+pub each_entry_ok-requires : goal.each_entry_ok-requires
+each_entry_ok-requires c = omega (arith, offset-now c.args.n)

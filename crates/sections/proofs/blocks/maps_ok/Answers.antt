@@ -1,4 +1,4 @@
-use mathlib.Core.Path.{◌≡◌, sym, ap, ◌∙◌}
+use mathlib.Core.Path.{sym, ap, ◌∙◌}
 use native.Mathlib.Omega.{arith}
 use Rattle.words.proofs.Each.{each_none, each-grow}
 use Rattle.book.specs.Form.{pbn_ok}
@@ -7,7 +7,7 @@ use Rattle.sections.proofs.blocks.maps_ok.Goals as goal
 
 pub loop-c-init : goal.loop-c-init
 unfolding maps_ok
-loop-c-init c = (omega arith, sym (each_none _ _ _ (omega arith)))
+loop-c-init c = sym (each_none _ _ _ (omega arith))
 
 pub loop-c-preserved : goal.loop-c-preserved
 unfolding maps_ok
@@ -15,13 +15,4 @@ loop-c-preserved c =
     let l = c.loop-c in
     let a = c.args in
     let test = c.pbn_ok-good.ensures ∙ ap (pbn_ok a.n) c.u16_at.ensures in
-    (omega arith, each-grow _ _ _ (omega arith) l.invariant.1 test)
-
-pub returns : goal.returns
-returns c =
-    let a = c.args in
-    let e : c.loop-c.c ≡ a.cells = omega arith in
-    rw e at c.loop-c.invariant.1
-
-pub pbn_ok-good-requires : goal.pbn_ok-good-requires
-pbn_ok-good-requires c = tt
+    each-grow _ _ _ (omega arith) l.invariant test

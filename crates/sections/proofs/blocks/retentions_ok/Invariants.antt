@@ -1,5 +1,4 @@
 -- `sections::blocks::retentions_ok` meets its contract: `good` is the test of the retentions passed.
-use Prim.Native.Nat.{◌≤◌, ◌-◌}
 use mathlib.Core.Path.{◌≡◌}
 use Rattle.words.specs.Lists.{each}
 use Rattle.words.specs.Numbers.{num}
@@ -9,8 +8,4 @@ use Rattle.sections.proofs.blocks.retentions_ok.Given as goal
 
 abbrev pub invariant-loop-v : goal.invariant-loop-v
 invariant-loop-v l =
-    (l.v ≤ 8) × (l.good ≡ each (λ v'. retention_ok (num l.b (retention_offset v'))) 0 l.v)
-
-abbrev pub decreases-loop-v : goal.decreases-loop-v
-decreases-loop-v l =
-    8 - l.v
+    l.good ≡ each (λ v'. retention_ok (num l.b (retention_offset v'))) 0 l.v

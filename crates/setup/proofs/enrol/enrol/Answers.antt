@@ -1,38 +1,33 @@
 -- `setup::enrol::enrol` meets its contract: each way out is one of the definition.
-use mathlib.Core.Path.{◌≡◌, refl, sym, ◌∙◌}
-use Rattle.book.specs.Layout.{book_of, Holds}
-use Rattle.book.specs.Form.{form_number}
+use mathlib.Core.Path.{refl, sym}
+use Rattle.std.proofs.Common.{rules}
+use Rattle.std.proofs.lemmas.Result.{err_from_is_err_and}
+use Rattle.words.proofs.Refused.{number-not_zero}
 use Rattle.book.proofs.FormBytes.{holds-form}
-use Rattle.model.specs.Enrol.{enrol_number}
 use Rattle.claims.proofs.agreement.EnrolAgree.{enrol-volume}
 use Rattle.setup.proofs.EnrolExits.{enrol_misformed, enrol-refused, enrol-done}
 use Rattle.setup.proofs.enrol.enrol.Goals as goal
 
-pub returns-then-in_form-ne0 : goal.returns-then-in_form-ne0
-returns-then-in_form-ne0 c = enrol_misformed _ _ _ refl _ c.form_number-in_form.ensures c.if-in_form-ne0.true
+pub returns-in_err-check : goal.returns-in_err-check
+returns-in_err-check c =
+    let p = err_from_is_err_and c.from_residual.result c.from_residual.ensures.1 in
+    rw (p.1, p.2) (enrol_misformed _ _ _ refl _ c.in_err-check.ensures (number-not_zero _))
 
-pub enrol_number-number-requires : goal.enrol_number-number-requires
-enrol_number-number-requires c =
-    let formed : form_number c.args.book.now ≡ 0 = sym c.form_number-in_form.ensures ∙ c.if-in_form-ne0.false in
-    let holds : Holds c.args.book.now = holds-form _ (λ i. (c.slice_known-1.given i).fits) formed in
-    holds
+pub check-requires-2 : goal.check-requires-2
+check-requires-2 c = holds-form _ (λ i. search rules) (sym c.in_ok-check.ensures)
 
-pub returns-then-number-ne0 : goal.returns-then-number-ne0
-returns-then-number-ne0 c =
-    let formed : form_number c.args.book.now ≡ 0 = sym c.form_number-in_form.ensures ∙ c.if-in_form-ne0.false in
-    enrol-refused _ _ _ refl formed _ c.enrol_number-number.ensures c.if-number-ne0.true
+pub returns-in_err-check-2 : goal.returns-in_err-check-2
+returns-in_err-check-2 c =
+    let r = c.from_residual-in_err-check-2 in
+    let p = err_from_is_err_and r.result r.ensures.1 in
+    rw (p.1, p.2) (enrol-refused _ _ _ refl (sym c.in_ok-check.ensures) _ c.in_err-check-2.ensures (number-not_zero _))
 
 pub set_retention-requires : goal.set_retention-requires
 set_retention-requires c =
-    let formed : form_number c.args.book.now ≡ 0 = sym c.form_number-in_form.ensures ∙ c.if-in_form-ne0.false in
-    let holds : Holds c.args.book.now = holds-form _ (λ i. (c.slice_known-1.given i).fits) formed in
-    let allowed : (let a = c.args in
-    enrol_number (book_of a.book.now) a.volume a.retention ≡ 0) = sym c.enrol_number-number.ensures ∙ c.if-number-ne0.false in
-    record { holds = holds; v_lt_volumes = (enrol-volume _ _ _ allowed).0 }
+    record {
+      holds = holds-form _ (λ i. search rules) (sym c.in_ok-check.ensures);
+      v_lt_volumes = (enrol-volume _ _ _ (sym c.in_ok-check-2.ensures)).0;
+    }
 
 pub returns : goal.returns
-returns c =
-    let formed : form_number c.args.book.now ≡ 0 = sym c.form_number-in_form.ensures ∙ c.if-in_form-ne0.false in
-    let allowed : (let a = c.args in
-    enrol_number (book_of a.book.now) a.volume a.retention ≡ 0) = sym c.enrol_number-number.ensures ∙ c.if-number-ne0.false in
-    enrol-done _ _ _ formed allowed c.set_retention.ensures
+returns c = enrol-done _ _ _ (sym c.in_ok-check.ensures) (sym c.in_ok-check-2.ensures) c.set_retention.ensures

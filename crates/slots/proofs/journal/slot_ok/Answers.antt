@@ -13,5 +13,5 @@ pub returns : goal.returns
 returns c =
     let a = c.args in
     slot_tests a.b.now a.at a.lasts.now a.gone.now a.prev a.next a.layout (omega arith)
-    c.wide-v.ensures.0 c.u16_at-day.ensures c.u16_at-enrolled.ensures c.u16_at-first.ensures
+    c.from-v.ensures c.u16_at-day.ensures c.u16_at-enrolled.ensures c.u16_at-first.ensures
     c.requires.layout_value.0 c.requires.layout_value.1 (omega arith) (omega arith)

@@ -11,14 +11,6 @@ use Rattle.slots.specs.Slots.{slot_here}
 use Rattle.slots.proofs.SlotLaws.{slots-more, slots-stop, slots_end, slot-bounds}
 use Rattle.slots.proofs.journal.used_slots_ok.Goals as goal
 
-pub loop-q-init : goal.loop-q-init
-loop-q-init c = (omega arith, omega arith, refl)
-
-pub slot_ok-requires : goal.slot_ok-requires
-slot_ok-requires c =
-    let p = c.requires in
-    record { entries_from_in_bounds = (omega arith, omega arith); layout_value = (p.kind, p.day) }
-
 pub returns-then-not-slot_ok : goal.returns-then-not-slot_ok
 returns-then-not-slot_ok c =
     let tested : Bool =
@@ -29,7 +21,7 @@ returns-then-not-slot_ok c =
     let l = c.loop-q in
     let at = ap (λ (f : ℕ). f + l.q * 8) c.requires.start in
     let no = slots-stop c.args.b.now l.q l.lasts l.gone l.prev l.next (omega arith) at there in
-    sym (l.invariant.2 ∙ no)
+    sym (l.invariant.1 ∙ no)
 
 pub overflow_add-lasts : goal.overflow_add-lasts
 overflow_add-lasts c =
@@ -77,15 +69,12 @@ loop-q-preserved c =
     let l = c.loop-q in
     let at = ap (λ (f : ℕ). f + l.q * 8) c.requires.start in
     let more = slots-more c.args.b.now l.q l.lasts l.gone l.prev l.next (omega arith) at here
-    c.wide-v.ensures.0 refl c.u16_at-prev.ensures c.u16_at.ensures
+    c.from-v.ensures refl c.u16_at-prev.ensures c.u16_at.ensures
     in
-    (omega arith, omega arith, l.invariant.2 ∙ more)
+    (omega arith, l.invariant.1 ∙ more)
 
 pub returns : goal.returns
 returns c =
     let l = c.loop-q in
     let e = slots_end c.args.b.now l.q l.lasts l.gone l.prev l.next (omega arith) in
-    ap (eqb l.next) c.requires.records ∙ sym (l.invariant.2 ∙ e)
-
-pub wide-v-requires : goal.wide-v-requires
-wide-v-requires c = tt
+    ap (eqb l.next) c.requires.records ∙ sym (l.invariant.1 ∙ e)

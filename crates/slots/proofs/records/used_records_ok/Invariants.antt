@@ -1,5 +1,4 @@
 -- `slots::records::used_records_ok` meets its contract: what is gathered and what is left decide as the whole does.
-use Prim.Native.Nat.{◌-◌, ◌≤◌}
 use mathlib.Core.Path.{◌≡◌}
 use mathlib.Core.Bool.{true, ◌&&◌}
 use lib.ListN.{drop}
@@ -11,10 +10,5 @@ use Rattle.slots.proofs.records.used_records_ok.Given as goal
 
 abbrev pub invariant-loop-q : goal.invariant-loop-q
 invariant-loop-q l =
-    (l.q ≤ l.used)
-    × (pairs_ok l.next (drop l.q (book_of l.b).slots) (num l.b u_offset) ≡ true)
+    (pairs_ok l.next (drop l.q (book_of l.b).slots) (num l.b u_offset) ≡ true)
     × (records_left l.b 0 0 ≡ (l.good && records_left l.b l.q l.next))
-
-abbrev pub decreases-loop-q : goal.decreases-loop-q
-decreases-loop-q l =
-    l.used - l.q

@@ -1,9 +1,0 @@
--- `list::start`: no change lies before place 0 of the first pair, which has a block.
-use Prim.Native.Nat.{zero-le}
-use mathlib.Core.Path.{refl}
-use Rattle.list.specs.Readers.{index_of}
-use Rattle.list.proofs.start.Goals as goal
-
-pub returns : goal.returns
-unfolding index_of
-returns c = (record { pair = zero-le; inside = λ h. c.requires.some 0 h; end = λ e. refl }, refl)
