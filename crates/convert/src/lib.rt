@@ -3,14 +3,13 @@
 
 #![tactic(auto)]
 
-ghost use Rattle.std.specs.Prelude.{◌≡◌, ◌≤◌, length};
+ghost use Rattle.std.specs.Prelude.{◌≡◌};
 ghost use Rattle.words.specs.Lists.{all};
-ghost use Rattle.book.specs.Layout.{header_size, book_size, sizes_of, told, Holds};
-ghost use Rattle.book.specs.Next.{sizes_in};
+ghost use Rattle.book.specs.Layout.{told, Holds};
 ghost use Rattle.model.specs.Convert.{is_narrow};
-ghost use Rattle.convert.specs.Promises.{WrittenInTwo, WrittenInOne, WrittenInThree};
+ghost use Rattle.convert.specs.Promises.{size_or_number, WrittenInTwo, WrittenInOne, WrittenInThree};
 ghost use Rattle.words.specs.Lent.{lent};
-ghost use Rattle.words.specs.Refusals.{refusal_number};
+ghost use Rattle.words.specs.Refusals.{refusal_number, outcome_by};
 
 use entries::entry;
 use fields::header::blocks;
@@ -22,14 +21,6 @@ use words::refusals::Refusal;
 
 // The largest count of layout 1.
 const NARROW_COUNT: u16 = 255;
-
-// How long the book is in this layout.
-fn size_in(book: &[u8], layout: u16) -> usize
-    requires { header_size ≤ length book.now }
-    ensures { result ≡ book_size (sizes_in layout (sizes_of book.now)) }
-{
-    Sizes::of(book).size_as(layout)
-}
 
 // Whether layout 1 has room for each count.
 fn all_narrow(book: &[u8]) -> bool
@@ -44,13 +35,22 @@ fn all_narrow(book: &[u8]) -> bool
     good
 }
 
+// How long a book of layout `from` is in layout `to`, where the output has that much room.
+fn room_for(book: &[u8], from: u16, to: u16, room: usize) -> Result<usize, Refusal>
+    ensures { outcome_by (λ len. len) result ≡ size_or_number from to book.now room }
+{
+    form::check_as(book, from)?;
+    let len = Sizes::of(book).size_as(to);
+    if room < len {
+        return Err(Refusal::ShortSpare);
+    }
+    Ok(len)
+}
+
 pub fn convert_1_2(book: &[u8], out: &mut [u8]) -> Result<(), Refusal>
     ensures { WrittenInTwo book (lent out) (refusal_number result) }
 {
-    form::check_as(book, 1)?;
-    if out.len() < size_in(book, 2) {
-        return Err(Refusal::ShortSpare);
-    }
+    room_for(book, 1, 2, out.len())?;
     rewrite(book, 1, 2, out);
     Ok(())
 }
@@ -58,10 +58,7 @@ pub fn convert_1_2(book: &[u8], out: &mut [u8]) -> Result<(), Refusal>
 pub fn convert_2_1(book: &[u8], out: &mut [u8]) -> Result<(), Refusal>
     ensures { WrittenInOne book (lent out) (refusal_number result) }
 {
-    form::check_as(book, 2)?;
-    if out.len() < size_in(book, 1) {
-        return Err(Refusal::ShortSpare);
-    }
+    room_for(book, 2, 1, out.len())?;
     if !all_narrow(book) {
         return Err(Refusal::CountWide);
     }
@@ -73,11 +70,7 @@ pub fn convert_2_1(book: &[u8], out: &mut [u8]) -> Result<(), Refusal>
 pub fn convert_2_3(book: &[u8], out: &mut [u8]) -> Result<(), Refusal>
     ensures { WrittenInThree book (lent out) (refusal_number result) }
 {
-    form::check_as(book, 2)?;
-    let len = size_in(book, 3);
-    if out.len() < len {
-        return Err(Refusal::ShortSpare);
-    }
+    let len = room_for(book, 2, 3, out.len())?;
     rewrite(book, 2, 3, out);
     refresh(&mut out[..len]);
     Ok(())

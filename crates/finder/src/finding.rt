@@ -1,11 +1,11 @@
 // The lookup: the lowest held block with a fingerprint.
-ghost use Rattle.std.specs.Prelude.{◌≡◌, length};
+ghost use Rattle.std.specs.Prelude.{◌≡◌, length, replicate};
 ghost use Rattle.words.specs.Blocks.{print_size};
 ghost use Rattle.book.specs.Layout.{told, Holds};
 ghost use Rattle.model.specs.Backup.{find_held};
 ghost use Rattle.finder.specs.Answers.{found_of};
 ghost use Rattle.finder.specs.First.{first_from};
-ghost use Rattle.finder.specs.Bucket.{bucket_of, has_print};
+ghost use Rattle.finder.specs.Bucket.{table_size, bucket_of, has_print};
 ghost use Rattle.finder.specs.Finding.{Chain};
 ghost use Rattle.finder.specs.Indexed.{Indexed};
 
@@ -26,7 +26,9 @@ pub struct Index {
 
 impl Index {
     // Blank tables, which `index::build` fills.
-    pub fn new() -> Self {
+    pub fn new() -> Self
+        ensures { (result.heads ≡ replicate table_size 0) × (result.nexts ≡ replicate table_size 0) }
+    {
         Index {
             heads: [0; MAX_BLOCKS],
             nexts: [0; MAX_BLOCKS],

@@ -3,7 +3,7 @@ use Prim.Native.Nat.{ℕ, zero, suc, ◌+◌, ◌-◌, ◌≤◌, ◌<◌, max}
 use mathlib.Core.Path.{◌≡◌, refl, sym, ap, ◌∙◌}
 use mathlib.Core.Bool.{Bool, true, false, not, ◌&&◌}
 use mathlib.Core.List.{List, [], ◌∷◌}
-use mathlib.Core.Logic.{◌⊎◌}
+use mathlib.Core.Logic.{◌⊎◌, ⊎_elim}
 use native.Mathlib.Numerals.{add-one}
 use native.Mathlib.Omega.{arith}
 use lib.Dec.{eqb}
@@ -173,6 +173,10 @@ pub cell-ok : (ms : List (List ℕ)) (n v l : ℕ) → all (all (pbn_ok n)) ms �
 cell-ok ms n v l e =
     pbn-cases n (cell_at ms v l)
     (all_get_d (pbn_ok n) (get_or ms v []) unmapped l (all_get_d (all (pbn_ok n)) ms [] v e refl) (unmapped-ok n))
+
+-- .. so one that isn't unmapped names a block
+pub names : {m n : ℕ} → (m < n) ⊎ (m ≡ unmapped) → (m ≡ unmapped → ⊥) → m < n
+names f e = ⊎_elim (λ h. h) (λ z. absurd (e z)) f
 
 pub at_most_two : (t : Bool) → (when t then 1 else 2) ≤ 2
 at_most_two true = omega arith

@@ -8,6 +8,7 @@ use lib.Dec.{eqb}
 use lib.ListN.{length, length-map}
 use borrow.Author.Tests.{lt-ltb, le-ltb, le-leb, lt-leb, eq-eqb, ne_eqb, ltb-false}
 use Rattle.words.proofs.Refused.{unless-number, unless-refusal}
+use Rattle.words.proofs.Tests.{or_neither}
 use Rattle.words.specs.Blocks.{block_size}
 use Rattle.words.specs.Choice.{when◌then◌else◌}
 use Rattle.words.specs.Lists.{those, last_of}
@@ -21,11 +22,12 @@ use Rattle.book.specs.Form.{form_number}
 use Rattle.model.specs.Days.{bad_day, not_after}
 use Rattle.model.specs.Journal.{Backup, journal, slots_of, days, is_retired, no_volume, no_living}
 use Rattle.model.specs.Backup.{until_next, Work, Backed, run_changes, begun, closed, backup_number, backup}
+use Rattle.claims.proofs.kept.DayLaws.{good-day, last-before}
 use Rattle.claims.proofs.kept.JournalAtLaws.{length-journal}
 use Rattle.model.specs.OnBytes.{spare_number, BackedBytes, backed_bytes, backup_bytes}
-use Rattle.buffers.specs.Buffers.{buffers_number}
+use Rattle.buffers.specs.Buffers.{or_number, buffers_number}
 use Rattle.buffers.proofs.BuffersLaws.{or-first, or-zero, if_zero, unless-or, buffers_facts, buffers_order}
-use Rattle.permit.specs.Allowing.{lent_number, day_refused, day_number, room_number, goes_on}
+use Rattle.permit.specs.Allowing.{lent_number, day_refused, day_number, volume_number, room_number, goes_on}
 
 -- ---- numbers 1 to 4
 
@@ -50,48 +52,65 @@ module _ (b pool : List ℕ) (spare : ℕ) where
       let g = buffers_facts b pool f.0 in
       (g.0, g.1, ltb-false _ _ (if_zero _ 3 f.1))
 
--- ---- numbers 5 to 10, in order
+-- ---- numbers 5 and 7, with the volume's next slot
 
--- a number that refuses is the ladder's, whatever comes after it
-pub first : (b : Bool) (j k : ℕ) → ((when b then j else 0) ≡ 0 → ⊥) → (when b then j else k) ≡ (when b then j else 0)
-first true j k n = refl
-first false j k n = absurd (n refl)
-
-pub day-taken : (x : Book) (v t : ℕ) → day_number x v t ≡ 0 → day_refused x v t ≡ false
-day-taken x v t e = if_zero (day_refused x v t) 6 e
-
-module _ (x : Book) (v t : ℕ) (list : List ℕ) where
-  pub five-above : 7 < v → backup_number x v t list ≡ 5
-  unfolding backup_number no_living no_volume
+module _ (x : Book) (v t : ℕ) where
+  pub five-above : 7 < v → 5 ≡ volume_number x v t
+  unfolding volume_number no_living no_volume
   five-above h = rw (lt-ltb 7 v h)
 
   module _ (high : v ≤ 7) where
-    pub five-none : retention_of x v ≡ 0 → backup_number x v t list ≡ 5
-    unfolding backup_number no_living no_volume
+    pub five-none : retention_of x v ≡ 0 → 5 ≡ volume_number x v t
+    unfolding volume_number no_living no_volume
     five-none e = rw (le-ltb 7 v high, eq-eqb (retention_of x v) 0 e)
 
     module _ (own : retention_of x v ≡ 0 → ⊥) where
-      pub five-retired : is_retired x v ≡ true → backup_number x v t list ≡ 5
-      unfolding backup_number no_living no_volume
+      pub five-retired : is_retired x v ≡ true → 5 ≡ volume_number x v t
+      unfolding volume_number no_living no_volume
       five-retired e = rw (le-ltb 7 v high, ne_eqb (retention_of x v) 0 own, e)
 
-      module _ (living : is_retired x v ≡ false) where
-        there : no_living x v ≡ false
-        unfolding no_living no_volume
-        there = rw (le-ltb 7 v high, ne_eqb (retention_of x v) 0 own, living)
+      pub by-day : is_retired x v ≡ false → day_number x v t ≡ volume_number x v t
+      unfolding volume_number no_living no_volume
+      by-day e = rw (le-ltb 7 v high, ne_eqb (retention_of x v) 0 own, e)
 
-        pub seven : (day_number x v t ≡ 0 → ⊥) → backup_number x v t list ≡ day_number x v t
-        unfolding backup_number day_refused
-        seven n = rw there (first (day_refused x v t) 7 _ n)
+  -- it is a day, and the volume's last slot isn't after it
+  pub day-facts : day_number x v t ≡ 0 → (t ≤ 60000) × (last_of 0 (days x v) ≤ t)
+  unfolding day_refused
+  day-facts e =
+      let d = or_neither (bad_day x.day t) (not_after (days x v) t) (if_zero (day_refused x v t) 6 e) in
+      (((good-day x.day t).0 d.0).1, last-before (days x v) t d.1)
 
-        module _ (day : day_number x v t ≡ 0) where
-          pub eight : list_number x.sizes.l list ≡ 8 → backup_number x v t list ≡ 8
-          unfolding backup_number day_refused
-          eight e = rw (there, day-taken x v t day, e)
+-- ---- numbers 5 to 10, in order
 
-          pub by-room : list_number x.sizes.l list ≡ 0 → backup_number x v t list ≡ room_number x (change_count list)
-          unfolding backup_number day_refused room_number
-          by-room e = rw (there, day-taken x v t day, e)
+in_order : (a b : Bool) (k : ℕ) → (when a then 5 else when b then 7 else k) ≡ or_number (when a then 5 else when b then 7 else 0) k
+in_order true b k = refl
+in_order false true k = refl
+in_order false false k = refl
+
+-- 5 and 7, and k is whatever comes after them
+module _ (x : Book) (v t k : ℕ) where
+  pub two-first : (volume_number x v t ≡ 0 → ⊥)
+      → (when no_living x v then 5 else when day_refused x v t then 7 else k) ≡ volume_number x v t
+  unfolding volume_number
+  two-first n = in_order (no_living x v) (day_refused x v t) k ∙ or-first (volume_number x v t) k n
+
+  pub two_past : volume_number x v t ≡ 0 → (when no_living x v then 5 else when day_refused x v t then 7 else k) ≡ k
+  unfolding volume_number
+  two_past e = in_order (no_living x v) (day_refused x v t) k ∙ rw e
+
+module _ (x : Book) (v t : ℕ) (list : List ℕ) where
+  pub by-volume : (volume_number x v t ≡ 0 → ⊥) → backup_number x v t list ≡ volume_number x v t
+  unfolding backup_number day_refused
+  by-volume n = two-first x v t _ n
+
+  module _ (allowed : volume_number x v t ≡ 0) where
+    pub eight : list_number x.sizes.l list ≡ 8 → backup_number x v t list ≡ 8
+    unfolding backup_number day_refused
+    eight e = two_past x v t _ allowed ∙ rw e
+
+    pub by-room : list_number x.sizes.l list ≡ 0 → backup_number x v t list ≡ room_number x (change_count list)
+    unfolding backup_number day_refused room_number
+    by-room e = two_past x v t _ allowed ∙ rw e
 
 -- ---- number 7, with the volume's backups
 

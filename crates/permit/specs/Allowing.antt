@@ -8,11 +8,12 @@ use Rattle.book.specs.Book.{volumes, Book}
 use Rattle.book.specs.Layout.{book_of}
 use Rattle.book.specs.FormFacts.{FormFacts}
 use Rattle.model.specs.Days.{bad_day, not_after}
-use Rattle.model.specs.Journal.{days, backup_count}
+use Rattle.model.specs.Journal.{days, backup_count, no_living}
 use Rattle.model.specs.Backup.{Work, until_next, run_changes, begun, closed}
 use Rattle.model.specs.OnBytes.{spare_number, BackedBytes, backed_bytes, backup_bytes}
 use Rattle.buffers.specs.Buffers.{or_number, buffers_number}
 use Rattle.placer.specs.Working.{Job}
+use Rattle.permit.specs.declared.allowing.NextSlot.{NextSlot}
 use Rattle.permit.specs.declared.allowing.Plan.{Plan}
 use Rattle.words.specs.Refusals.{number}
 use Rattle.words.specs.declared.refusals.Refusal.{Refusal}
@@ -27,6 +28,21 @@ day_refused x v t = bad_day x.day t || not_after (days x v) t
 
 abbrev pub day_number : Book → ℕ → ℕ → ℕ
 day_number x v t = when day_refused x v t then 7 else 0
+
+-- numbers 5 and 7
+unfoldable pub volume_number : Book → ℕ → ℕ → ℕ
+volume_number x v t = when no_living x v then 5 else day_number x v t
+
+-- the slot that a volume gets next, when neither refuses it
+pub record NextIs (x : Book) (v t : ℕ) (slot : NextSlot) : Type 0 where
+  pub allowed : volume_number x v t ≡ 0
+  pub volume : v < volumes
+  pub until : slot.until ≡ until_next x v
+  pub number : slot.number ≡ suc (backup_count x v)
+
+unfoldable pub NextBy : Book → (v t : ℕ) → Result NextSlot Refusal → Type 0
+NextBy x v t (Ok slot) = NextIs x v t slot
+NextBy x v t (Err e) = number e ≡ volume_number x v t
 
 -- numbers 9 and 10, for n changes
 unfoldable pub room_number : Book → ℕ → ℕ

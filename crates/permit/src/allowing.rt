@@ -1,8 +1,9 @@
 // Numbers 1 to 10 of a backup.
 ghost use Rattle.std.specs.Prelude.{◌≡◌};
+ghost use Rattle.book.specs.FormFacts.{FormFacts};
 ghost use Rattle.book.specs.Layout.{told, Holds};
 ghost use Rattle.words.specs.Refusals.{refusal_number};
-ghost use Rattle.permit.specs.Allowing.{lent_number, day_number, room_number, AllowedBy};
+ghost use Rattle.permit.specs.Allowing.{lent_number, day_number, room_number, NextBy, AllowedBy};
 ghost use Rattle.permit.specs.Backups.{BackupsAre};
 
 use super::backups::{Backups, backups_of};
@@ -19,6 +20,13 @@ pub struct Plan<'a> {
     pub number: u16,
 }
 
+// A volume's next slot: the day until which it keeps what it replaces, and its own number.
+#[derive(Clone, Copy)]
+pub struct NextSlot {
+    pub until: u16,
+    pub number: u16,
+}
+
 // Numbers 1 to 4.
 fn check_lent(book: &[u8], pool: &[u8], spare: usize) -> Result<(), Refusal>
     ensures { refusal_number result ≡ lent_number book.now pool.now spare }
@@ -31,7 +39,7 @@ fn check_lent(book: &[u8], pool: &[u8], spare: usize) -> Result<(), Refusal>
 }
 
 // Number 7, where the day can't be that of the volume's next slot.
-pub fn check_day(book: &[u8], v: u16, day: u16, backups: Backups) -> Result<(), Refusal>
+fn check_day(book: &[u8], v: u16, day: u16, backups: Backups) -> Result<(), Refusal>
     requires holds { Holds book.now }
     requires backups_are { BackupsAre (told book) v backups }
     ensures { refusal_number result ≡ day_number (told book.entry) v day }
@@ -49,6 +57,29 @@ pub fn check_day(book: &[u8], v: u16, day: u16, backups: Backups) -> Result<(), 
         return Err(Refusal::BadDay);
     }
     Ok(())
+}
+
+// Numbers 5 and 7, and the volume's next slot when neither refuses it.
+pub fn next_slot(book: &[u8], v: u16, day: u16) -> Result<NextSlot, Refusal>
+    requires { FormFacts book.now }
+    ensures { NextBy (told book.entry) v day result }
+{
+    if LAST_VOLUME < v {
+        return Err(Refusal::BadVolume);
+    }
+    let days = header::retention(book, v);
+    if days == 0 {
+        return Err(Refusal::BadVolume);
+    }
+    let backups = backups_of(book, v);
+    if backups.retired {
+        return Err(Refusal::BadVolume);
+    }
+    check_day(book, v, day, backups)?;
+    let last = backups.last;
+    let until = last + days;
+    let number = backups.count + 1;
+    Ok(NextSlot { until, number })
 }
 
 // Numbers 9 and 10 for so many changes.
@@ -76,26 +107,12 @@ pub fn allow<'a>(
     ensures { AllowedBy book pool spare v day bytes result }
 {
     check_lent(book, pool, spare)?;
-    if LAST_VOLUME < v {
-        return Err(Refusal::BadVolume);
-    }
-    let days = header::retention(book, v);
-    if days == 0 {
-        return Err(Refusal::BadVolume);
-    }
-    let backups = backups_of(book, v);
-    if backups.retired {
-        return Err(Refusal::BadVolume);
-    }
-    check_day(book, v, day, backups)?;
+    let slot = next_slot(book, v, day)?;
     let list = ChangeList::open(bytes, header::cells(book)).ok_or(Refusal::BadList)?;
     check_room(book, list.shape.changes)?;
-    let last = backups.last;
-    let until = last + days;
-    let number = backups.count + 1;
     Ok(Plan {
         list,
-        until,
-        number,
+        until: slot.until,
+        number: slot.number,
     })
 }

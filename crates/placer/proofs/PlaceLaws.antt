@@ -71,6 +71,10 @@ PlacedAt x pool list i b taker t p t' b' taker' =
     × Holds b'
     × Standing x (book_of b') taker' t' (i + 1) i
 
+-- a change of the list, as the laws count them
+pub below : (list : ChangeList) {i : ℕ} → i < list.shape.changes → i < change_count list.bytes.now
+below list h = omega (arith, h, list.whole.changes)
+
 pub known : (x y : Book) (pool : List ℕ) (list : ChangeList) (taker : List ℕ) (t : Tally) (m i : ℕ) → Sized x
     → Job x pool list → Standing x y taker t m i → m ≤ change_count list.bytes.now
     → Known x.entries y.entries taker list.bytes.now pool (change_count list.bytes.now)

@@ -1,10 +1,11 @@
 // A list of calls on a fresh book.
 ghost use Rattle.book.specs.Next.{new_sizes};
-ghost use Rattle.calls.specs.Lending.{PlayedFreshLent};
+ghost use Rattle.play.specs.Promises.{PlaysFresh};
 ghost use Rattle.words.specs.Lent.{lent};
 
-use super::playing::aspen_play;
+use super::playing::play;
 use engine::Sizes;
+use words::refusals::Refusal;
 
 // A book of these sizes, and a list of calls on it: its answers are the plain store's, whatever the calls.
 pub fn play_fresh(
@@ -14,12 +15,9 @@ pub fn play_fresh(
     sizes: Sizes,
     calls: &[u8],
     answers: &mut [u8],
-    written: &mut u32,
-) -> u16
-    ensures { PlayedFreshLent (lent book) (lent pool) (lent spare) (new_sizes sizes.n sizes.l sizes.s sizes.j) calls (lent answers) (lent written) result }
+) -> Result<usize, Refusal>
+    ensures { PlaysFresh (lent book) (lent pool) (lent spare) (new_sizes sizes.n sizes.l sizes.s sizes.j) calls (lent answers) result }
 {
-    if let Err(refusal) = engine::format(book, sizes) {
-        return u16::from(refusal);
-    }
-    aspen_play(book, pool, spare, calls, answers, written)
+    engine::format(book, sizes)?;
+    play(book, pool, spare, calls, answers)
 }

@@ -2,9 +2,9 @@
 ghost use Rattle.std.specs.Prelude.{◌≡◌, true, ◌+◌, ◌≤◌, length};
 ghost use Rattle.calls.specs.Coding.{is_call, call_at};
 ghost use Rattle.calls.specs.Answers.{longest_reply, most_of};
-ghost use Rattle.calls.specs.Lending.{PlayedLent};
 ghost use Rattle.calls.specs.Doing.{DidLent, DidAllLent};
 ghost use Rattle.calls.specs.Reading.{rest_of, Good, backup_call};
+ghost use Rattle.play.specs.Promises.{Plays};
 ghost use Rattle.words.specs.Lent.{lent};
 
 use answers::{
@@ -14,6 +14,7 @@ use answers::{
 use heads::checking::{check, room_of};
 use heads::head::{HEAD_SIZE, call_end, data_size, kind_of};
 use heads::kind::Kind;
+use words::refusals::Refusal;
 use words::u16_at;
 
 // The backup at `at`, whose change list is its data.
@@ -95,20 +96,17 @@ fn play_list(
     to
 }
 
-// A list of calls on book, pool and spare; its answers go to the front of `answers`, and `written` is their length.
-pub fn aspen_play(
+// A list of calls on book, pool and spare; its answers go to the front of `answers`. It answers how many bytes they
+// have.
+pub fn play(
     book: &mut [u8],
     pool: &mut [u8],
     spare: &mut [u8],
     calls: &[u8],
     answers: &mut [u8],
-    written: &mut u32,
-) -> u16
-    ensures { PlayedLent (lent book) (lent pool) (lent spare) calls (lent answers) (lent written) result }
+) -> Result<usize, Refusal>
+    ensures { Plays (lent book) (lent pool) (lent spare) calls (lent answers) result }
 {
-    if let Err(refusal) = check(calls, room_of(answers.len())) {
-        return u16::from(refusal);
-    }
-    *written = play_list(book, pool, spare, calls, answers) as u32;
-    0
+    check(calls, room_of(answers.len()))?;
+    Ok(play_list(book, pool, spare, calls, answers))
 }

@@ -1,4 +1,4 @@
-// Lists of calls in bytes for C: the function of that name in `play`, under its clauses.
+// Lists of calls in bytes for C: that of `play`, with numbers for refusals.
 
 #![tactic(auto)]
 

@@ -14,5 +14,11 @@ pub extern "C" fn aspen_play(
 ) -> u16
     ensures { PlayedLent (lent book) (lent pool) (lent spare) calls (lent answers) (lent written) result }
 {
-    play::playing::aspen_play(book, pool, spare, calls, answers, written)
+    match play::playing::play(book, pool, spare, calls, answers) {
+        Ok(len) => {
+            *written = len as u32;
+            0
+        }
+        Err(refusal) => u16::from(refusal),
+    }
 }

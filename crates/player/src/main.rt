@@ -24,7 +24,8 @@ const MOST_POOL: usize = 65536;
 
 const MOST_ANSWERS: usize = 65536;
 
-fn refused(rt: &impl Print, number: u16) -> io::Result<()> {
+fn refused(rt: &impl Print, refusal: Refusal) -> io::Result<()> {
+    let number = u16::from(refusal);
     println!(rt; "refused {number}")
 }
 
@@ -38,20 +39,10 @@ fn play(
 ) -> io::Result<()> {
     let mut spare = [0u8; MOST_BOOK];
     let mut answers = [0u8; MOST_ANSWERS];
-    let mut written = 0;
-    let refusal = play_fresh(
-        book,
-        pool,
-        &mut spare,
-        sizes,
-        calls,
-        &mut answers,
-        &mut written,
-    );
-    if refusal != 0 {
-        return refused(rt, refusal);
-    }
-    let len = (written as usize).min(MOST_ANSWERS);
+    let len = match play_fresh(book, pool, &mut spare, sizes, calls, &mut answers) {
+        Ok(len) => len.min(MOST_ANSWERS),
+        Err(refusal) => return refused(rt, refusal),
+    };
     for answer in Answers(&answers[..len]) {
         println!(rt; "{answer}")?;
     }
@@ -84,7 +75,7 @@ fn main(rt: HostRuntime) -> io::Result<()> {
         j: u16_at(sizes, 6),
     };
     if !sizes.in_range() {
-        return refused(&rt, u16::from(Refusal::BadLayout));
+        return refused(&rt, Refusal::BadLayout);
     }
     sized(&rt, sizes, calls)
 }

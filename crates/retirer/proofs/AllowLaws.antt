@@ -6,63 +6,33 @@ use mathlib.Core.List.{List}
 use native.Mathlib.Omega.{arith}
 use lib.Dec.{leb, ltb}
 use lib.ListN.{length}
-use borrow.Author.Tests.{lt-ltb, le-ltb, eq-eqb, ne_eqb, leb-false, ltb-false}
+use borrow.Author.Tests.{lt-ltb, le-ltb, leb-false, ltb-false}
 use Rattle.words.proofs.Refused.{unless-number, unless-refusal}
-use Rattle.words.proofs.Tests.{or_neither}
 use Rattle.words.specs.Choice.{when◌then◌else◌}
 use Rattle.words.specs.Outcome.{Outcome, refused, accepted, and_then, unless}
 use Rattle.words.specs.Refusals.{number}
 use Rattle.words.specs.declared.refusals.Refusal.{Refusal}
-use Rattle.book.specs.Book.{Book, retention_of}
+use Rattle.book.specs.Book.{Book}
 use Rattle.book.specs.Layout.{book_of}
 use Rattle.book.specs.Form.{form_number}
-use Rattle.model.specs.Days.{bad_day, not_after}
-use Rattle.model.specs.Journal.{days, is_retired, no_volume, no_living}
 use Rattle.model.specs.Backup.{until_next}
 use Rattle.model.specs.Retire.{Retired, mapped_cells, retire_number, retired, retire}
 use Rattle.model.specs.OnBytes.{spare_number, RetiredBytes, retired_bytes, retire_bytes}
-use Rattle.claims.proofs.kept.DayLaws.{good-day, last-before}
-use Rattle.permit.specs.Allowing.{day_refused, day_number, room_number}
-use Rattle.permit.proofs.AllowLaws.{first, day-taken, then-then}
+use Rattle.permit.specs.Allowing.{day_refused, volume_number, room_number}
+use Rattle.permit.proofs.AllowLaws.{two-first, two_past, then-then}
 use Rattle.retirer.specs.Clearing.{clear_all}
 use Rattle.retirer.specs.Allowing.{goes_on}
 
 -- ---- numbers 5 to 10, in order
 
 module _ (x : Book) (v t : ℕ) where
-  pub five-above : 7 < v → retire_number x v t ≡ 5
-  unfolding retire_number no_living no_volume
-  five-above h = rw (lt-ltb 7 v h)
+  pub by-volume : (volume_number x v t ≡ 0 → ⊥) → retire_number x v t ≡ volume_number x v t
+  unfolding retire_number day_refused
+  by-volume n = two-first x v t _ n
 
-  module _ (high : v ≤ 7) where
-    pub five-none : retention_of x v ≡ 0 → retire_number x v t ≡ 5
-    unfolding retire_number no_living no_volume
-    five-none e = rw (le-ltb 7 v high, eq-eqb (retention_of x v) 0 e)
-
-    module _ (own : retention_of x v ≡ 0 → ⊥) where
-      pub five-retired : is_retired x v ≡ true → retire_number x v t ≡ 5
-      unfolding retire_number no_living no_volume
-      five-retired e = rw (le-ltb 7 v high, ne_eqb (retention_of x v) 0 own, e)
-
-      module _ (living : is_retired x v ≡ false) where
-        there : no_living x v ≡ false
-        unfolding no_living no_volume
-        there = rw (le-ltb 7 v high, ne_eqb (retention_of x v) 0 own, living)
-
-        pub seven : (day_number x v t ≡ 0 → ⊥) → retire_number x v t ≡ day_number x v t
-        unfolding retire_number day_refused
-        seven n = rw there (first (day_refused x v t) 7 _ n)
-
-        pub by-room : day_number x v t ≡ 0 → retire_number x v t ≡ room_number x (mapped_cells x v)
-        unfolding retire_number day_refused room_number
-        by-room e = rw (there, day-taken x v t e)
-
-  -- the day of the volume's last slot is a day
-  pub last_in : day_number x v t ≡ 0 → until_next x v ≤ 60000 + retention_of x v
-  unfolding day_refused
-  last_in e =
-      let d = or_neither (bad_day x.day t) (not_after (days x v) t) (day-taken x v t e) in
-      omega (arith, ((good-day x.day t).0 d.0).1, last-before (days x v) t d.1)
+  pub by-room : volume_number x v t ≡ 0 → retire_number x v t ≡ room_number x (mapped_cells x v)
+  unfolding retire_number day_refused room_number
+  by-room e = two_past x v t _ e
 
 -- 9 and 10 for n cells, where n is how many there are
 pub room_says : {n full : ℕ} (x : Book) (m : ℕ) → full ≡ room_number x n → n ≡ m → room_number x m ≡ full

@@ -2,10 +2,7 @@
 ghost use Rattle.retirer.specs.Allowing.{AllowedBy};
 
 use super::clearing::mapped_cells;
-use fields::header;
-use permit::allowing::{check_day, check_room};
-use permit::backups::backups_of;
-use words::limits::LAST_VOLUME;
+use permit::allowing::{check_room, next_slot};
 use words::refusals::Refusal;
 
 // What a retirement goes by once it is allowed: the day until which the blocks of its cells are kept, and how many cells
@@ -23,21 +20,11 @@ pub fn allow(book: &[u8], spare: usize, v: u16, day: u16) -> Result<Plan, Refusa
     if spare < book.len() {
         return Err(Refusal::ShortSpare);
     }
-    if LAST_VOLUME < v {
-        return Err(Refusal::BadVolume);
-    }
-    let days = header::retention(book, v);
-    if days == 0 {
-        return Err(Refusal::BadVolume);
-    }
-    let backups = backups_of(book, v);
-    if backups.retired {
-        return Err(Refusal::BadVolume);
-    }
-    check_day(book, v, day, backups)?;
+    let slot = next_slot(book, v, day)?;
     let cells = mapped_cells(book, v);
     check_room(book, cells)?;
-    let last = backups.last;
-    let until = last + days;
-    Ok(Plan { until, cells })
+    Ok(Plan {
+        until: slot.until,
+        cells,
+    })
 }

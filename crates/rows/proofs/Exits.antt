@@ -1,5 +1,5 @@
 -- What the two calls leave on each way out.
-use Prim.Native.Nat.{ℕ, ◌≤◌, ◌<◌}
+use Prim.Native.Nat.{ℕ, ◌*◌, ◌≤◌, ◌<◌}
 use mathlib.Core.Path.{◌≡◌, ap, ◌∙◌}
 use mathlib.Core.List.{List}
 use native.Mathlib.Omega.{arith}
@@ -7,12 +7,17 @@ use lib.ListN.{length}
 use lib.Seq.{sets}
 use Rattle.words.specs.Outcome.{Outcome}
 use Rattle.book.specs.Form.{form_number}
-use Rattle.book.specs.Layout.{book_of}
+use Rattle.book.specs.Layout.{book_of, Holds}
 use Rattle.model.specs.Views.{enrolled_number, blocks_of, cells_of, with_room, blocks_bytes, cells_bytes}
 use Rattle.model.specs.Written.{Written}
+use Rattle.claims.proofs.views.RowLaws.{blocks-length}
 use Rattle.claims.proofs.views.WrittenLaws.{written-refused, written-past, written-short, written-whole}
 
 -- ---- the blocks
+
+-- the rows' length, by the number of blocks
+pub rows-length : (b : List ℕ) {n : ℕ} → Holds b → n ≡ (book_of b).sizes.n → length (blocks_of (book_of b)) ≡ n * 22
+rows-length b h e = omega (arith, blocks-length (book_of b) h.sized, e)
 
 module _ (b out : List ℕ) where
   abbrev rows : List ℕ

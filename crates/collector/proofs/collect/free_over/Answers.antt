@@ -10,7 +10,5 @@ returns-then-not-is_over c =
     let e = failed c.is_over.ensures (ap not c.if-not-is_over.true) in
     record { value = sym e; is = free-kept _ _ _ c.requires.holds e }
 
-pub returns : goal.returns
-returns c =
-    let e = passed c.is_over.ensures (ap not c.if-not-is_over.false) in
-    record { value = sym e; is = free-freed _ _ _ e c.free.ensures }
+pub returns-clause-is : goal.returns-clause-is
+returns-clause-is c = free-freed _ _ _ (passed c.is_over.ensures (ap not c.if-not-is_over.false)) c.free.ensures

@@ -9,8 +9,8 @@ use Rattle.collector.proofs.collect.sweep.Goals.{then-free_over, else-free_over}
 pub loop-p-init : goal.loop-p-init
 loop-p-init c = sweeping_start _ c.requires
 
-pub free_over-requires : goal.free_over-requires
-free_over-requires c = let s = c.loop-p.invariant in record { holds = s.book.holds; p_bound = sweeping_inside s (omega arith) }
+pub free_over-requires-clause-p_bound : goal.free_over-requires-clause-p_bound
+free_over-requires-clause-p_bound c = sweeping_inside c.loop-p.invariant (omega arith)
 
 pub loop-p-preserved : goal.loop-p-preserved
 loop-p-preserved c =
@@ -21,7 +21,5 @@ loop-p-preserved c =
     sweeping_more _ c.requires c.loop-p.invariant (omega arith) c.free_over.ensures.value
     c.free_over.ensures.is counted
 
-pub returns : goal.returns
-returns c =
-    let h = sweeping_end _ c.requires c.loop-p.invariant (omega arith) in
-    record { value = h.0; is = h.1 }
+pub returns-clause-is : goal.returns-clause-is
+returns-clause-is c = sweeping_end _ c.requires c.loop-p.invariant (omega arith)

@@ -15,9 +15,8 @@ returns-in_err-check c =
 pub returns-then-volume-gt-LAST_VOLUME : goal.returns-then-volume-gt-LAST_VOLUME
 returns-then-volume-gt-LAST_VOLUME c = enrolled-above _ _ (sym c.in_ok-check.ensures) (omega arith)
 
-pub retention-requires : goal.retention-requires
-retention-requires c =
-    record { holds = holds-form _ (λ i. (c.type_inv.book i).fits) (sym c.in_ok-check.ensures); v_lt_volumes = omega arith }
+pub retention-requires-clause-holds : goal.retention-requires-clause-holds
+retention-requires-clause-holds c = holds-form _ (λ i. (c.type_inv.book i).fits) (sym c.in_ok-check.ensures)
 
 pub returns-then-retention-eq0 : goal.returns-then-retention-eq0
 returns-then-retention-eq0 c =

@@ -6,15 +6,8 @@ use Rattle.figures.proofs.Passed.{passed_none, passed-own, passed-other, passed-
 use Rattle.figures.proofs.volume.count_backups.Goals as goal
 use Rattle.figures.proofs.volume.count_backups.Goals.{then-slot-v, else-slot-v}
 
-pub used_slots-used-requires : goal.used_slots-used-requires
-used_slots-used-requires c = c.requires
-
 pub loop-q-init : goal.loop-q-init
 loop-q-init c = passed_none _ _
-
-pub slot_at-slot-requires : goal.slot_at-slot-requires
-slot_at-slot-requires c =
-    record { holds = c.requires; q_in_bounds = omega arith }
 
 pub loop-q-preserved : goal.loop-q-preserved
 loop-q-preserved c =

@@ -10,15 +10,8 @@ use Rattle.claims.proofs.kept.JournalAtLaws.{from_start}
 use Rattle.figures.proofs.Passed.{retired-here, retired-later, retired-never}
 use Rattle.figures.proofs.volume.retired_on.Goals as goal
 
-pub used_slots-used-requires : goal.used_slots-used-requires
-used_slots-used-requires c = c.requires
-
 pub loop-q-init : goal.loop-q-init
 loop-q-init c = ap (λ (bs : List Backup). retired_on bs) (sym (from_start _ _))
-
-pub slot_at-slot-requires : goal.slot_at-slot-requires
-slot_at-slot-requires c =
-    record { holds = c.requires; q_in_bounds = omega arith }
 
 pub returns-then-slot-v : goal.returns-then-slot-v
 returns-then-slot-v c =

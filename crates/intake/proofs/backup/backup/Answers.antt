@@ -1,7 +1,6 @@
 -- Each way out by a law of the whole call.
-use mathlib.Core.Path.{refl, sym, ap, ◌∙◌}
+use mathlib.Core.Path.{refl, sym}
 use native.Mathlib.Omega.{arith}
-use lib.ListN.{length}
 use lib.Seq.{length-take-le}
 use Rattle.std.proofs.lemmas.Result.{err_from_is_err_and}
 use Rattle.permit.specs.Allowing.{AllowedBy}
@@ -40,10 +39,6 @@ returns-in_err-t c =
     let run = rw c.in_ok-plan.ensures.same at w.0 in
     let p = err_from_is_err_and c.from_residual-in_err-t.result c.from_residual-in_err-t.ensures.1 in
     rw (p.1, p.2) (changes-stopped _ _ _ _ _ _ _ c.in_ok-plan.ensures _ refl w.1 run)
-
-pub copy-requires-2 : goal.copy-requires-2
-copy-requires-2 c =
-    sym (c.work_through.auto.work ∙ ap length c.copy.ensures)
 
 pub returns : goal.returns
 unfolding AllowedBy WorkedBy

@@ -1,6 +1,5 @@
-use mathlib.Core.Path.{◌≡◌, sym, ap, ◌∙◌}
+use mathlib.Core.Path.{ap, ◌∙◌}
 use native.Mathlib.Omega.{arith}
-use lib.ListN.{length}
 use Rattle.runs.specs.Changes.{change_count}
 use Rattle.list.proofs.ReaderLaws.{length-block}
 use Rattle.book.specs.Book.{Sizes}
@@ -13,19 +12,7 @@ pub blocks-n-requires : goal.blocks-n-requires
 blocks-n-requires c = c.requires.holds.0
 
 pub loop-p-init : goal.loop-p-init
-loop-p-init c =
-    let size : c.blocks-n.result ≡ length (book_of c.args.book.now).entries = c.blocks-n.ensures ∙ sym c.requires.holds.0.sized.entries in
-    let known : (let a = c.args in
-    Known (book_of a.book.now).entries (book_of a.work.now).entries a.taker.now a.list.bytes.now
-    a.pool.now (change_count a.list.bytes.now)) =
-    let s = c.requires.storable in
-    record {
-      size = rw c.requires.holds.0.sized.entries s.size;
-      whole = length-block c.args.list.bytes.now c.args.list.shape c.args.list.whole;
-      marks = λ p f e. omega (arith, s.marks p f e, c.args.list.whole.changes);
-    }
-    in
-    stored-none _ _ _ _ _ known.size
+loop-p-init c = stored-none _ _ _ _ _ (rw c.requires.holds.0.sized.entries c.requires.storable.size)
 
 pub store_block-requires : goal.store_block-requires
 store_block-requires c =
@@ -36,7 +23,6 @@ store_block-requires c =
 
 pub loop-p-preserved : goal.loop-p-preserved
 loop-p-preserved c =
-    let size : c.blocks-n.result ≡ length (book_of c.args.book.now).entries = c.blocks-n.ensures ∙ sym c.requires.holds.0.sized.entries in
     let known : (let a = c.args in
     Known (book_of a.book.now).entries (book_of a.work.now).entries a.taker.now a.list.bytes.now
     a.pool.now (change_count a.list.bytes.now)) =
@@ -52,12 +38,9 @@ loop-p-preserved c =
     rw c.store_block.ensures
     (stored_more (book_of a.book.now).entries (book_of a.work.now).entries a.taker.now a.list.bytes.now
     a.pool.now (change_count a.list.bytes.now) known l.pool l.p
-    (omega (arith, size, c.loop-p-test.true)) l.invariant)
+    (omega (arith, c.blocks-n.ensures, c.requires.holds.0.sized.entries, c.loop-p-test.true)) l.invariant)
 
 pub returns : goal.returns
 returns c =
-    let size : c.blocks-n.result ≡ length (book_of c.args.book.now).entries = c.blocks-n.ensures ∙ sym c.requires.holds.0.sized.entries in
-    let a = c.args in
     let l = c.loop-p in
-    stored-all (book_of a.book.now).entries (book_of a.work.now).entries a.taker.now a.list.bytes.now
-    a.pool.now l.pool l.p (omega (arith, size, c.loop-p-test.false)) l.invariant
+    stored-all _ _ _ _ _ l.pool l.p (omega (arith, c.blocks-n.ensures, c.requires.holds.0.sized.entries, c.loop-p-test.false)) l.invariant

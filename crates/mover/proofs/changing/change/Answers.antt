@@ -12,11 +12,6 @@ use Rattle.mover.specs.Stepping.{SteppedBy, StillIndexed}
 use Rattle.placer.specs.Placing.{PlacedBy}
 use Rattle.mover.proofs.changing.change.Goals as goal
 
-pub place-requires : goal.place-requires
-place-requires c =
-    let p = c.requires in
-    record { holds = p.holds; job = (p.job.0, p.job.1); standing = p.standing; indexed = p.indexed }
-
 pub returns-in_err-p : goal.returns-in_err-p
 unfolding PlacedBy SteppedBy StillIndexed
 returns-in_err-p c =

@@ -7,18 +7,10 @@ use Rattle.mover.specs.Stepping.{SteppedBy, StillIndexed}
 use Rattle.std.proofs.lemmas.Result.{err_from_is_err_and}
 use Rattle.mover.proofs.changing.run_changes.Goals as goal
 
-pub build-requires : goal.build-requires
-build-requires c = c.requires.holds.1
-
 pub loop-i-init : goal.loop-i-init
 loop-i-init c =
     let p = c.requires in
     (p.holds.1, p.standing, c.start-at.ensures.0, c.start-at.ensures.1, refl, c.build.ensures)
-
-pub lbn_at-lbn-requires : goal.lbn_at-lbn-requires
-lbn_at-lbn-requires c =
-    let l = c.loop-i.invariant in
-    (l.2, omega (arith, l.3, c.loop-i-test.true))
 
 pub change-requires : goal.change-requires
 change-requires c =
@@ -33,11 +25,6 @@ returns-in_err-t c =
     let l = c.loop-i in
     let p = err_from_is_err_and c.from_residual.result c.from_residual.ensures.1 in
     rw (p.1, p.2) (run-refused _ _ _ _ _ _ _ l.i _ l.invariant.4 _ below c.in_err-t.ensures.stepped_by)
-
-pub next-at-requires : goal.next-at-requires
-next-at-requires c =
-    let l = c.loop-i.invariant in
-    (l.2, omega (arith, l.3, c.loop-i-test.true))
 
 pub loop-i-preserved : goal.loop-i-preserved
 unfolding SteppedBy StillIndexed

@@ -1,17 +1,16 @@
 -- The four ways out, each by a law of steps 1 and 2.
 use mathlib.Core.Bool.{not}
-use Prim.Native.Nat.{◌<◌}
 use mathlib.Core.Path.{sym, ap, ◌∙◌}
 use native.Mathlib.Omega.{arith}
 use lib.ListN.{length}
 use Rattle.words.proofs.ChoiceLaws.{failed, passed}
-use Rattle.runs.specs.Changes.{change_count, change_at}
+use Rattle.runs.specs.Changes.{change_at}
 use Rattle.runs.proofs.Laws.{changes-within}
 use Rattle.book.specs.Book.{Sizes}
 use Rattle.book.specs.Layout.{book_of}
 use Rattle.finder.proofs.AnswerLaws.{found_some, found_none}
 use Rattle.placer.proofs.Finding.{found-held, found-free}
-use Rattle.placer.proofs.PlaceLaws.{sought, prints-size, twelve_by, eleven_by, found-by, taken-by}
+use Rattle.placer.proofs.PlaceLaws.{below, sought, prints-size, twelve_by, eleven_by, found-by, taken-by}
 use Rattle.placer.specs.Placing.{PlacedBy}
 use Rattle.placer.proofs.placing.place.Goals as goal
 
@@ -23,10 +22,9 @@ find_held-requires c =
 pub returns-in_default-find_free : goal.returns-in_default-find_free
 unfolding PlacedBy
 returns-in_default-find_free c =
-    let below : c.args.i < change_count c.args.list.bytes.now = omega (arith, c.requires.job.1, c.args.list.whole.changes) in
     let looked = sought c.args.work.now c.args.list.bytes.now _ _ c.args.i c.find_held.ensures c.prints.ensures c.requires.job.1 in
     record {
-      placed_by = twelve_by _ _ _ _ _ _ _ c.requires.holds.0.sized c.requires.holds.1 c.requires.job.0 below c.requires.standing
+      placed_by = twelve_by _ _ _ _ _ _ _ c.requires.holds.0.sized c.requires.holds.1 c.requires.job.0 (below c.args.list c.requires.job.1) c.requires.standing
           (found_none _ (looked ∙ c.in_default.is))
           (found_none _ (sym c.find_free.ensures ∙ c.in_default-find_free.is));
       indexed_2 = c.requires.indexed;
@@ -41,18 +39,16 @@ take_block-requires c =
 
 pub overflow_add-taken : goal.overflow_add-taken
 overflow_add-taken c =
-    let below : c.args.i < change_count c.args.list.bytes.now = omega (arith, c.requires.job.1, c.args.list.whole.changes) in
     let small = changes-within (book_of c.args.book.now).sizes.l c.args.list.bytes.now c.requires.job.0.good in
-    omega (arith, c.requires.standing.taken, below, c.requires.holds.0.l)
+    omega (arith, c.requires.standing.taken, c.requires.job.1, c.args.list.whole.changes, c.requires.holds.0.l)
 
 pub returns-in_default : goal.returns-in_default
 unfolding PlacedBy
 returns-in_default c =
-    let below : c.args.i < change_count c.args.list.bytes.now = omega (arith, c.requires.job.1, c.args.list.whole.changes) in
     let looked = sought c.args.work.now c.args.list.bytes.now _ _ c.args.i c.find_held.ensures c.prints.ensures c.requires.job.1 in
     let k = c.take_block in
     record {
-      placed_by = taken-by _ _ _ _ _ _ _ c.requires.holds.0.sized c.requires.holds.1 c.requires.job.0 below c.requires.standing _ _ _
+      placed_by = taken-by _ _ _ _ _ _ _ c.requires.holds.0.sized c.requires.holds.1 c.requires.job.0 (below c.args.list c.requires.job.1) c.requires.standing _ _ _
           (found_none _ (looked ∙ c.in_default.is))
           (found_some _ _ (sym c.find_free.ensures ∙ c.in-Some-find_free.is))
           k.ensures.is
@@ -72,10 +68,9 @@ same_block-requires c =
 pub returns-then-not-same_block : goal.returns-then-not-same_block
 unfolding PlacedBy
 returns-then-not-same_block c =
-    let below : c.args.i < change_count c.args.list.bytes.now = omega (arith, c.requires.job.1, c.args.list.whole.changes) in
     let looked = sought c.args.work.now c.args.list.bytes.now _ _ c.args.i c.find_held.ensures c.prints.ensures c.requires.job.1 in
     record {
-      placed_by = eleven_by _ _ _ _ _ _ _ c.requires.holds.0.sized c.requires.holds.1 c.requires.job.0 below c.requires.standing _
+      placed_by = eleven_by _ _ _ _ _ _ _ c.requires.holds.0.sized c.requires.holds.1 c.requires.job.0 (below c.args.list c.requires.job.1) c.requires.standing _
           (found_some _ _ (looked ∙ c.in-Some.is))
           (failed c.same_block.ensures (ap not c.if-not-same_block.true));
       indexed_2 = c.requires.indexed;
@@ -84,10 +79,9 @@ returns-then-not-same_block c =
 pub returns : goal.returns
 unfolding PlacedBy
 returns c =
-    let below : c.args.i < change_count c.args.list.bytes.now = omega (arith, c.requires.job.1, c.args.list.whole.changes) in
     let looked = sought c.args.work.now c.args.list.bytes.now _ _ c.args.i c.find_held.ensures c.prints.ensures c.requires.job.1 in
     record {
-      placed_by = found-by _ _ _ _ _ _ _ c.requires.holds.0.sized c.requires.holds.1 c.requires.job.0 below c.requires.standing _
+      placed_by = found-by _ _ _ _ _ _ _ c.requires.holds.0.sized c.requires.holds.1 c.requires.job.0 (below c.args.list c.requires.job.1) c.requires.standing _
           (found_some _ _ (looked ∙ c.in-Some.is))
           (passed c.same_block.ensures (ap not c.if-not-same_block.false));
       indexed_2 = c.requires.indexed;

@@ -1,9 +1,8 @@
 -- The block's bytes stand in the pool or in the list, by the old book.
-use Prim.Native.Nat.{ℕ, ◌*◌, ◌<◌}
+use Prim.Native.Nat.{ℕ, ◌*◌}
 use mathlib.Core.Path.{sym, ap₂, ◌∙◌}
 use mathlib.Core.List.{List}
 use native.Mathlib.Omega.{arith}
-use lib.ListN.{get_or}
 use Rattle.words.specs.Blocks.{block_size}
 use Rattle.words.specs.Lists.{same}
 use Rattle.words.proofs.Lending.{lent}
@@ -23,15 +22,10 @@ returns-then-is_held c =
 
 pub overflow_cast-taker : goal.overflow_cast-taker
 overflow_cast-taker c =
-    let mark : (let a = c.args in
-    get_or a.taker.now a.p.0 0 < a.list.shape.changes) = c.requires.p_bound_2 (sym c.is_held.ensures ∙ c.if-is_held.false) in
-    omega (arith, mark, c.args.list.whole.size)
+    omega (arith, c.requires.p_bound_2 (sym c.is_held.ensures ∙ c.if-is_held.false), c.args.list.whole.size)
 
 pub block_of-requires : goal.block_of-requires
-block_of-requires c =
-    let mark : (let a = c.args in
-    get_or a.taker.now a.p.0 0 < a.list.shape.changes) = c.requires.p_bound_2 (sym c.is_held.ensures ∙ c.if-is_held.false) in
-    mark
+block_of-requires c = c.requires.p_bound_2 (sym c.is_held.ensures ∙ c.if-is_held.false)
 
 pub returns : goal.returns
 returns c =

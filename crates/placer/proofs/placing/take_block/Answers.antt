@@ -22,9 +22,7 @@ hold-requires c =
 pub nonzero_rem-p : goal.nonzero_rem-p
 unfolding with_entries
 nonzero_rem-p c =
-    let held : (let a = c.args in
-    Is c.hold.new.book (with_entry (held_as (change_at a.list.bytes.now a.i).print) a.p.0 (book_of a.work.now))) = rw c.print_of.ensures at c.hold.ensures.is in
-    let size : c.blocks-n.result ≡ (book_of c.args.work.now).sizes.n = c.blocks-n.ensures ∙ ap (λ (x : Book). x.sizes.n) held.book in
+    let size = c.blocks-n.ensures ∙ ap (λ (x : Book). x.sizes.n) c.hold.ensures.is.book in
     omega (arith, size, c.requires.p_bound.0)
 
 pub returns : goal.returns

@@ -1,17 +1,10 @@
 use Prim.Native.Nat.{ℕ, ◌+◌}
-use mathlib.Core.Path.{refl, sym, ap, ◌∙◌}
+use mathlib.Core.Path.{sym, ap, ◌∙◌}
 use native.Mathlib.Omega.{arith}
 use Rattle.std.specs.Prelude.{Some}
 use Rattle.book.specs.Layout.{told}
 use Rattle.restorer.proofs.BeforeLaws.{span-whole, span-here, span-next, span_none}
 use Rattle.restorer.proofs.image.first_before.Goals as goal
-
-pub loop-q-init : goal.loop-q-init
-loop-q-init c = refl
-
-pub record_at-record-requires : goal.record_at-record-requires
-record_at-record-requires c =
-    record { holds = c.requires.holds; q_in_bounds = omega arith }
 
 pub returns-then-record-lbn : goal.returns-then-record-lbn
 returns-then-record-lbn c =

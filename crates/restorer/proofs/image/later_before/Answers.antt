@@ -1,18 +1,8 @@
-use mathlib.Core.Path.{refl, sym, ◌∙◌}
+use mathlib.Core.Path.{sym, ◌∙◌}
 use native.Mathlib.Omega.{arith}
 use Rattle.book.specs.Layout.{told}
 use Rattle.restorer.proofs.BeforeLaws.{later-here, later-next, later-none}
 use Rattle.restorer.proofs.image.later_before.Goals as goal
-
-pub used_slots-used-requires : goal.used_slots-used-requires
-used_slots-used-requires c = c.requires.holds
-
-pub loop-q-init : goal.loop-q-init
-loop-q-init c = refl
-
-pub slot_before-found-requires : goal.slot_before-found-requires
-slot_before-found-requires c =
-    record { form_facts = c.requires; q_in_bounds = omega arith }
 
 pub returns-then-is_some : goal.returns-then-is_some
 returns-then-is_some c =

@@ -11,12 +11,11 @@ pub returns-then-slot-v : goal.returns-then-slot-v
 returns-then-slot-v c =
     sym (slot-other _ _ _ _ c.slot_at-slot.result c.slot_at-slot.ensures (λ e. omega arith))
 
-pub first_before-requires : goal.first_before-requires
-first_before-requires c =
+pub first_before-requires-clause-number_in_bounds : goal.first_before-requires-clause-number_in_bounds
+first_before-requires-clause-number_in_bounds c =
     let p = c.requires in
     let x = told c.args.book in
-    let q = c.args.q in
-    record { holds = p.form_facts.holds; number_in_bounds = omega (arith, pairs_in x.slots 0 (length x.records) p.form_facts.parts.pairs q p.q_in_bounds) }
+    omega (arith, pairs_in x.slots 0 (length x.records) p.form_facts.parts.pairs c.args.q p.q_in_bounds)
 
 pub returns : goal.returns
 returns c =

@@ -1,8 +1,6 @@
 -- `setup::enrol::check` meets its contract: each way out decides the definition's tests.
-use mathlib.Core.Path.{◌≡◌, sym, ◌∙◌}
+use mathlib.Core.Path.{sym, ◌∙◌}
 use native.Mathlib.Omega.{arith}
-use Rattle.book.specs.Book.{retention_of}
-use Rattle.book.specs.Layout.{told}
 use Rattle.setup.proofs.EnrolExits.{number-above, number-enrolled, number-zero, number-long, number-none}
 use Rattle.setup.proofs.enrol.check.Goals as goal
 
@@ -14,15 +12,13 @@ returns-then-retention-ne0 c = sym (number-enrolled _ _ _ (λ e. c.if-retention-
 
 pub returns-then-retention-eq0 : goal.returns-then-retention-eq0
 returns-then-retention-eq0 c =
-    let none : (let a = c.args in retention_of (told a.book) a.volume ≡ 0) = sym c.retention.ensures ∙ c.if-retention-ne0.false in
-    sym (number-zero _ _ _ (omega arith) none (omega arith))
+    sym (number-zero _ _ _ (omega arith) (sym c.retention.ensures ∙ c.if-retention-ne0.false) (omega arith))
 
 pub returns-then-retention-gt-MAX_RETENTION : goal.returns-then-retention-gt-MAX_RETENTION
 returns-then-retention-gt-MAX_RETENTION c =
-    let none : (let a = c.args in retention_of (told a.book) a.volume ≡ 0) = sym c.retention.ensures ∙ c.if-retention-ne0.false in
-    sym (number-long _ _ _ (omega arith) none (omega arith))
+    sym (number-long _ _ _ (omega arith) (sym c.retention.ensures ∙ c.if-retention-ne0.false) (omega arith))
 
 pub returns : goal.returns
 returns c =
-    let none : (let a = c.args in retention_of (told a.book) a.volume ≡ 0) = sym c.retention.ensures ∙ c.if-retention-ne0.false in
+    let none = sym c.retention.ensures ∙ c.if-retention-ne0.false in
     sym (number-none _ _ _ (omega arith) none c.if-retention-eq0.false (omega arith))

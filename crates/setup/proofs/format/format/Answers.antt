@@ -1,14 +1,10 @@
 -- `setup::format::format` meets its contract: the two tests are those of number 1, and each way out leaves what
 -- the definition says.
-use mathlib.Core.Path.{ap, ◌≡◌, refl}
-use mathlib.Core.Bool.{not, true}
+use mathlib.Core.Path.{ap, refl}
+use mathlib.Core.Bool.{not}
 use native.Mathlib.Omega.{arith}
 use Rattle.words.proofs.ChoiceLaws.{failed, passed}
-use Rattle.book.specs.Book.{Sizes}
-use Rattle.book.specs.Layout.{current}
-use Rattle.book.specs.Form.{sizes_ok}
 use Rattle.book.proofs.Holding.{bounds_ok}
-use Rattle.fields.specs.InLayout.{in_layout}
 use Rattle.setup.proofs.FormatExits.{format_sizes, format_length, format_done}
 use Rattle.setup.proofs.format.format.Goals as goal
 
@@ -22,11 +18,8 @@ returns-then-book-size c =
     let z = c.args.sizes in
     format_length _ z.n z.l z.s z.j refl (λ e. omega arith)
 
-pub format-requires : goal.format-requires
-format-requires c =
-    let given : Sizes = in_layout current c.args.sizes in
-    let ok : sizes_ok given ≡ true = passed c.in_range.ensures (ap not c.if-not-in_range.false) in
-    record { bounds = bounds_ok given ok; book_len = omega arith }
+pub format-requires-clause-bounds : goal.format-requires-clause-bounds
+format-requires-clause-bounds c = bounds_ok _ (passed c.in_range.ensures (ap not c.if-not-in_range.false))
 
 pub returns : goal.returns
 returns c =
