@@ -75,7 +75,7 @@ pub fn block<'a>(
     Ok(&pool[at..at + BLOCK_SIZE])
 }
 
-// The same, empty on a refusal (document 01, "Words").
+// The same, empty on a refusal (document 01, "The calls").
 pub fn read<'a>(book: &[u8], pool: &'a [u8], volume: u16, number: u16, lbn: LBN) -> &'a [u8]
     ensures { result.now ≡ block_after (read_bytes book.now pool.now volume number lbn.0) }
 {
