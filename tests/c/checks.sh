@@ -60,6 +60,11 @@ same_version() (
     [ -n "$version" ] && grep -x "#define ASPEN_VERSION \"$version\"" ../include/aspen.h
 )
 
+# What the archives need from outside: what a compiler asks of every environment, and nothing else.
+needs_little() {
+    nm -u "${archives[@]}" | awk 'NF == 2 && $2 != "memcpy" && $2 != "memset" { print; many++ } END { exit many > 0 }'
+}
+
 # The guards see writes outside the buffers. Without them valgrind sees the reads too.
 c_programs() {
     local sanitize="-fsanitize=address,undefined -fno-sanitize-recover=all"
@@ -67,6 +72,7 @@ c_programs() {
     check "header as C99" is_included "$CC" -std=c99 -x c
     check "header as C++11" is_included "$CXX" -std=c++11 -x c++
     check "version of the header" same_version
+    check "names that the archives need from outside" needs_little
     variant c99 "" "$CC" "$CC -std=c99"
     variant c++11 "" "$CXX" "$CXX -std=c++11 -x c++"
     variant sanitized "" "$CC $sanitize" "$CC -std=c99 -g $sanitize"

@@ -58,8 +58,9 @@ pub fn put_bytes(b: &mut [u8], at: usize, src: &[u8])
     requires { at + length src.now ≤ length b.old }
     ensures { b.new ≡ sets b.old at src.now }
 {
-    let to = at + src.len();
-    b[at..to].copy_from_slice(src);
+    for i in 0..src.len() {
+        b[at + i] = src[i];
+    }
 }
 
 // n bytes v from `at` on.
