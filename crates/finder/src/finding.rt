@@ -35,24 +35,14 @@ impl Index {
         }
     }
 
-    // The lowest block with the fingerprint from a block of its bucket on, or N. Goes up through the bucket, whose
-    // blocks are all held.
+    // The lowest block with the fingerprint from a block of its bucket on, or N.
     pub fn search(&self, book: &[u8], from: u16, print: &[u8]) -> u16
         requires holds { Holds book.now }
         requires print_len { length print.now ≡ print_size }
         requires chain { Chain (told book).entries (bucket_of print.now) self.now.nexts from }
         ensures { result ≡ first_from (has_print print.now) (told book.entry).entries from }
     {
-        let n = header::blocks(book);
-        let mut q = from;
-        while q < n {
-            let own = entry::print_of(book, PBN(q));
-            if agreeing(own, print) == PRINT_SIZE {
-                return q;
-            }
-            q = self.nexts[q as usize];
-        }
-        q
+        search(book, &self.nexts, from, print)
     }
 
     pub fn find(&self, book: &[u8], print: &[u8]) -> Option<PBN>
@@ -67,4 +57,23 @@ impl Index {
         }
         None
     }
+}
+
+// `Index::search` for a caller that has only the table `nexts`. Goes up through the bucket, whose blocks are all held.
+pub fn search(book: &[u8], nexts: &Table, from: u16, print: &[u8]) -> u16
+    requires holds { Holds book.now }
+    requires print_len { length print.now ≡ print_size }
+    requires chain { Chain (told book).entries (bucket_of print.now) nexts.now from }
+    ensures { result ≡ first_from (has_print print.now) (told book.entry).entries from }
+{
+    let n = header::blocks(book);
+    let mut q = from;
+    while q < n {
+        let own = entry::print_of(book, PBN(q));
+        if agreeing(own, print) == PRINT_SIZE {
+            return q;
+        }
+        q = nexts[q as usize];
+    }
+    q
 }

@@ -6,4 +6,4 @@ pub mod bucket;
 mod comparing;
 mod finding;
 
-pub use finding::Index;
+pub use finding::{Index, search};

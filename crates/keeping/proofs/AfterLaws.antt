@@ -11,7 +11,7 @@ use lib.Dec.{leb}
 use lib.ListN.{length, get_or, drop, length-map, drop_of_length-le}
 use lib.Seq.{drop-drop}
 use borrow.Author.Tests.{le-leb, lt-leb}
-use Rattle.std.proofs.Common.{Some, None}
+use Rattle.std.proofs.Common.{Ok, Err}
 use Rattle.words.proofs.Ranges.{below_or_not}
 use Rattle.book.specs.Book.{Book, slot_at}
 use Rattle.journal.specs.Struct.{SlotIs}
@@ -113,7 +113,7 @@ module _ (x : Book) (v k : ℕ) where
 
     -- the volume's next slot, and none of the k left
     pub skipped_stop : (s : Slot) → SlotIs (slot_at x.slots q) s → s.volume ≡ v → left ≡ 0
-        → AfterIs x v k (Some (record { taken = t; retire = out; at = q }))
+        → AfterIs x v k (Ok (record { taken = t; retire = out; at = q }))
     skipped_stop s i e z =
         let n = p.number in
         record {
@@ -128,11 +128,21 @@ module _ (x : Book) (v k : ℕ) where
     all_passed : length x.slots ≤ q → length (days x v) + left ≡ k
     all_passed h = let n = rw (from_end x v q h) at p.number in omega arith
 
-    pub skipped_short : length x.slots ≤ q → 0 < left → AfterIs x v k None
-    skipped_short h l = let n = all_passed h in omega arith
+    pub skipped_short : (used : ℕ) → used ≡ length x.slots → used ≤ q → 0 < left
+        → AfterIs x v k (Err (record { missing = left; at = used }))
+    unfolding days
+    skipped_short used u h l =
+        let n = all_passed (omega arith) in
+        let m = length-map (slots_of x v) day_of in
+        record {
+          few = omega arith;
+          missing = omega arith;
+          later = drop_of_length-le (slots_of x v) {i = k} (omega arith) ∙ sym (from_end x v used (omega arith));
+          own = λ i. absurd (omega arith);
+        }
 
     pub skipped_end : (used : ℕ) → used ≡ length x.slots → used ≤ q → left ≡ 0
-        → AfterIs x v k (Some (record { taken = t; retire = out; at = used }))
+        → AfterIs x v k (Ok (record { taken = t; retire = out; at = used }))
     unfolding days
     skipped_end used u h z =
         let n = all_passed (omega arith) in

@@ -22,7 +22,14 @@ pub struct After {
     pub at: u16,
 }
 
-pub fn backups_after(book: &[u8], v: u16, k: u16) -> Option<After>
+// The volume has no k-th slot: it lacks `missing` slots to have one, and `at` is past the used slots.
+#[derive(Clone, Copy)]
+pub struct Short {
+    pub missing: u16,
+    pub at: u16,
+}
+
+pub fn backups_after(book: &[u8], v: u16, k: u16) -> Result<After, Short>
     requires { Holds book.now }
     ensures { AfterIs (told book.entry) v k result }
 {
@@ -34,7 +41,7 @@ pub fn backups_after(book: &[u8], v: u16, k: u16) -> Option<After>
         let slot = slot::slot_at(book, q);
         if slot.volume == v {
             if missing == 0 {
-                return Some(After {
+                return Ok(After {
                     taken,
                     retire,
                     at: q,
@@ -46,9 +53,9 @@ pub fn backups_after(book: &[u8], v: u16, k: u16) -> Option<After>
         }
     }
     if missing != 0 {
-        return None;
+        return Err(Short { missing, at: used });
     }
-    Some(After {
+    Ok(After {
         taken,
         retire,
         at: used,
@@ -82,7 +89,9 @@ pub fn kept_backup(book: &[u8], v: u16, k: u16) -> Result<u16, Refusal>
     if k == 0 {
         return Err(Refusal::NoBackup);
     }
-    let after = backups_after(book, v, k).ok_or(Refusal::NoBackup)?;
+    let Ok(after) = backups_after(book, v, k) else {
+        return Err(Refusal::NoBackup);
+    };
     // a retirement is its volume's last slot, and has no number
     if after.retire {
         return Err(Refusal::NoBackup);

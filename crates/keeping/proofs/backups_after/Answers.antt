@@ -32,7 +32,8 @@ loop-q-preserved c =
 pub returns-then-missing-ne0 : goal.returns-then-missing-ne0
 returns-then-missing-ne0 c =
     let l = c.loop-q in
-    skipped_short _ _ _ l.q l.missing l.taken l.retire l.invariant (omega (arith, c.used_slots-used.ensures)) (omega arith)
+    let used = c.used_slots-used in
+    skipped_short _ _ _ l.q l.missing l.taken l.retire l.invariant used.result used.ensures (omega arith) (omega arith)
 
 pub returns : goal.returns
 returns c =

@@ -1,11 +1,8 @@
 -- `keeping::kept_backup` meets its contract: each way out gives its number, the last one the slots after it.
 use mathlib.Core.Bool.{not}
-use mathlib.Core.Path.{◌≡◌, ap}
+use mathlib.Core.Path.{ap}
 use native.Mathlib.Omega.{arith}
-use Rattle.std.proofs.Common.{Some, None}
-use Rattle.std.proofs.lemmas.Result.{err_from_is_err_and}
 use Rattle.words.proofs.ChoiceLaws.{failed, passed}
-use Rattle.words.specs.declared.refusals.Refusal.TheVariants.{NoBackup}
 use Rattle.keeping.proofs.KeptLaws.{backup-above, backup_unenrolled, backup-zero, backup-missing}
 use Rattle.keeping.proofs.KeptLaws.{backup-retired, backup_lapsed, backup-kept}
 use Rattle.keeping.proofs.kept_backup.Goals as goal
@@ -20,35 +17,25 @@ pub returns-then-k-eq0 : goal.returns-then-k-eq0
 returns-then-k-eq0 c =
     backup-zero _ _ _ c.retention-days.result c.retention-days.ensures (omega arith) (λ e. omega arith) (omega arith)
 
-pub returns-in_err-after : goal.returns-in_err-after
-returns-in_err-after c =
-    let none : c.backups_after.result ≡ None = grind arith in
-    let refusal : c.in_err-after.field-0.0 ≡ NoBackup = grind arith in
-    let few = rw none at c.backups_after.ensures in
-    let p = err_from_is_err_and c.from_residual.result c.from_residual.ensures.1 in
-    rw (p.1, p.2, refusal)
-    (backup-missing _ _ _ c.retention-days.result c.retention-days.ensures (omega arith) (λ e. omega arith) (λ e. omega arith) few)
+pub returns-in_default : goal.returns-in_default
+returns-in_default c =
+    backup-missing _ _ _ c.retention-days.result c.retention-days.ensures (omega arith) (λ e. omega arith) (λ e. omega arith)
+    c.in_default.ensures.few
 
 pub returns-then-after : goal.returns-then-after
 returns-then-after c =
-    let some : c.backups_after.result ≡ Some c.in_ok-after.after = grind arith in
-    let is = rw some at c.backups_after.ensures in
     backup-retired _ _ _ c.retention-days.result c.retention-days.ensures (omega arith) (λ e. omega arith) (λ e. omega arith)
-    c.in_ok-after.after is c.requires.parts.days
+    c.in-Ok.after c.in-Ok.ensures c.requires.parts.days
     c.if-after.true
 
 pub returns-then-not-is_kept : goal.returns-then-not-is_kept
 returns-then-not-is_kept c =
-    let some : c.backups_after.result ≡ Some c.in_ok-after.after = grind arith in
-    let is = rw some at c.backups_after.ensures in
     backup_lapsed _ _ _ c.retention-days.result c.retention-days.ensures (omega arith) (λ e. omega arith) (λ e. omega arith)
-    c.in_ok-after.after is c.requires.parts.days
+    c.in-Ok.after c.in-Ok.ensures c.requires.parts.days
     c.if-after.false (failed c.is_kept.ensures (ap not c.if-not-is_kept.true))
 
 pub returns : goal.returns
 returns c =
-    let some : c.backups_after.result ≡ Some c.in_ok-after.after = grind arith in
-    let is = rw some at c.backups_after.ensures in
     backup-kept _ _ _ c.retention-days.result c.retention-days.ensures (omega arith) (λ e. omega arith) (λ e. omega arith)
-    c.in_ok-after.after is c.requires.parts.days
+    c.in-Ok.after c.in-Ok.ensures c.requires.parts.days
     c.if-after.false (passed c.is_kept.ensures (ap not c.if-not-is_kept.false))

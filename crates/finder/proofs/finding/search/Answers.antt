@@ -7,7 +7,7 @@ use Rattle.words.specs.Blocks.{print_size}
 use Rattle.book.specs.Layout.{book_of}
 use Rattle.finder.proofs.FarEndLaws.{all-agree, one_differs}
 use Rattle.finder.proofs.FindingLaws.{chain-up, chain_more, search_more, search_stop, search_end}
-use Rattle.finder.proofs.finding.Index.search.Goals as goal
+use Rattle.finder.proofs.finding.search.Goals as goal
 
 pub loop-q-init : goal.loop-q-init
 loop-q-init c = (c.requires.chain, refl)
