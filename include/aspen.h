@@ -26,7 +26,7 @@
  * may calls that only read the same ones. While a call writes a buffer nothing else may use it;
  * to have one writer at a time is the caller's duty.
  *
- * Stack. On x86-64 aspen_play takes 51,904 bytes of it, aspen_audit 51,504, aspen_backup 25,024,
+ * Stack. On x86-64 aspen_play takes 49,840 bytes of it, aspen_audit 49,456, aspen_backup 25,024,
  * aspen_convert_2_3 8,464 and aspen_restore 2,384, nearly all for tables that live for one call;
  * every other function takes 320 at most.
  */

@@ -9,10 +9,10 @@ ghost use Rattle.words.specs.Refusals.{outcome_by};
 use super::prints::prints_sound;
 use accounts::maps::maps_match;
 use accounts::matching::entries_match;
-use replay::notes::{CELLS, Notes};
+use replay::notes::{CELLS, Tables};
 use replay::records::take_journal;
 use words::UNMAPPED;
-use words::limits::{MAX_BLOCKS, MAX_LBNS};
+use words::limits::MAX_BLOCKS;
 use words::refusals::Refusal;
 
 // The records leave cells and expiries, the maps leave counts. That no current map names a free block follows from form
@@ -21,19 +21,18 @@ fn is_sound(book: &[u8]) -> bool
     requires { FormFacts book.now }
     ensures { result ≡ audit (told book.entry) }
 {
-    let mut notes = Notes {
+    let mut tables = Tables {
         cells: [UNMAPPED; CELLS],
         expiries: [0u16; MAX_BLOCKS],
-        stamps: [0u16; MAX_LBNS],
     };
-    if !take_journal(book, &mut notes) {
+    if !take_journal(book, &mut tables) {
         return false;
     }
     let mut counts = [0u16; MAX_BLOCKS];
-    if !maps_match(book, &notes.cells, &mut counts) {
+    if !maps_match(book, &tables.cells, &mut counts) {
         return false;
     }
-    if !entries_match(book, &counts, &notes.expiries) {
+    if !entries_match(book, &counts, &tables.expiries) {
         return false;
     }
     prints_sound(book)

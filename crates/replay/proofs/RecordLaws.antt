@@ -17,9 +17,8 @@ use Rattle.due.specs.Expiries.{Raised, until_one, until_each}
 use Rattle.due.proofs.ExpiryLaws.{Raising, raising_start, raising_record, raising_records}
 use Rattle.replay.specs.Stamps.{firsts_sound, stamped}
 use Rattle.replay.specs.Table.{row_size, cells_after, cells_before}
-use Rattle.replay.specs.declared.notes.Notes.{Notes}
 use Rattle.replay.specs.declared.records.Taking.{Taking}
-use Rattle.replay.specs.Records.{RecordTaken, records_test, RecordsTaken}
+use Rattle.replay.specs.Records.{Notes, RecordTaken, records_test, RecordsTaken}
 
 -- .. of a record as the code has it
 pub record-taken : {x : Book} {t : Taking} {r : Rec} {c : Record} {n n' : Notes} {same met held : Bool} → RecordIs r c

@@ -26,12 +26,11 @@ use Rattle.model.specs.JournalAt.{taken_sound}
 use Rattle.due.specs.Lasts.{due_in}
 use Rattle.due.proofs.ExpiryLaws.{Raising, raising_start, raising_slot, raising_journal}
 use Rattle.due.proofs.SlotReads.{records-read}
-use Rattle.replay.specs.Records.{RecordsTaken}
+use Rattle.replay.specs.Records.{Notes, notes, RecordsTaken}
 use Rattle.replay.specs.Stamps.{firsts_sound}
 use Rattle.replay.proofs.StampLaws.{firsts-past, firsts-fresh, stamped-low, length-stamped}
 use Rattle.replay.specs.Table.{row_size, cells_after, cells_before, table_after, table_befores}
 use Rattle.replay.specs.Slots.{SlotTaken, JournalTaken}
-use Rattle.replay.specs.declared.notes.Notes.{Notes}
 use Rattle.replay.specs.declared.records.Taking.{Taking}
 
 module _ (x : Book) (b : Backup) where
@@ -99,7 +98,7 @@ pub record SlotsLeft (x : Book) (c₀ e₀ : List ℕ) (good : Bool) (n : Notes)
   pub low : (l : ℕ) → get_or n.stamps l 0 ≤ q
 
 module _ (x : Book) (c₀ e₀ : List ℕ) where
-  pub slots-start : (s : List ℕ) → ((l : ℕ) → get_or s l 0 ≤ 0) → SlotsLeft x c₀ e₀ true (record { cells = c₀; expiries = e₀; stamps = s }) 0
+  pub slots-start : (s : List ℕ) → ((l : ℕ) → get_or s l 0 ≤ 0) → SlotsLeft x c₀ e₀ true (notes c₀ e₀ s) 0
   slots-start s low = record { test = refl; cells = refl; expiries = raising_start; low = low }
 
   pub slots-more : {good good' : Bool} {n n' : Notes} (q : ℕ) → q < length x.slots

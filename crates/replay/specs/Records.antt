@@ -1,13 +1,21 @@
 -- The records of a backup, taken once: each is replayed in the cells, raises the expiry of its before, and stamps its
 -- LBN.
-use Rattle.std.specs.Prelude.{◌+◌, ◌*◌, ◌≡◌, Bool, ◌&&◌, ◌||◌, List, eqb, get_or, set}
+use Rattle.std.specs.Prelude.{ℕ, ◌+◌, ◌*◌, ◌≡◌, Bool, ◌&&◌, ◌||◌, List, eqb, get_or, set}
 use Rattle.book.specs.Book.{Rec, Book}
 use Rattle.model.specs.Audit.{cell_sound}
 use Rattle.due.specs.Expiries.{Raised, until_one, until_each}
 use Rattle.replay.specs.Stamps.{firsts_sound, stamped}
 use Rattle.replay.specs.Table.{row_size, cells_after, cells_before}
-use Rattle.replay.specs.declared.notes.Notes.{Notes}
 use Rattle.replay.specs.declared.records.Taking.{Taking}
+
+-- what is noted on the way
+pub record Notes : Type 0 where
+  pub cells : List ℕ
+  pub expiries : List ℕ
+  pub stamps : List ℕ
+
+abbrev pub notes : List ℕ → List ℕ → List ℕ → Notes
+notes c e s = record { cells = c; expiries = e; stamps = s }
 
 -- what one record of a backup leaves, and its test: its before is the cell that it replaces, and a first one that still
 -- counts is unmapped or held

@@ -7,7 +7,7 @@ use Rattle.model.specs.Journal.{Backup, journal}
 use Rattle.model.specs.JournalAt.{taken_sound}
 use Rattle.due.specs.Expiries.{Raised, until_each}
 use Rattle.due.specs.Lasts.{due_in}
-use Rattle.replay.specs.declared.notes.Notes.{Notes}
+use Rattle.replay.specs.Records.{Notes}
 use Rattle.replay.specs.Table.{row_size, cells_after, cells_before, table_after, table_befores}
 
 -- what a slot's backup leaves, and its tests; no stamp is above k after it

@@ -16,12 +16,11 @@ pub type Cells = [u16; CELLS];
 // A stamp for each LBN.
 pub type Stamps = [u16; MAX_LBNS];
 
-// What is noted on the way.
+// What the journal leaves: the cells of all maps, and the expiries that it asks for.
 #[derive(Drop)]
-pub struct Notes {
+pub struct Tables {
     pub cells: Cells,
     pub expiries: Table,
-    pub stamps: Stamps,
 }
 
 // Whether the cell was the change's before. It is the change's after now.

@@ -11,7 +11,7 @@ ghost use Rattle.due.specs.Lasts.{LastsAre};
 ghost use Rattle.replay.specs.Taking.{TakesRecord, TakesRecords, TakesSlot, TakesJournal};
 ghost use Rattle.words.specs.Lent.{lent};
 
-use super::notes::{Notes, meet, replace};
+use super::notes::{Stamps, Tables, meet, replace};
 use due::expiries::raise;
 use due::lasts::{Lasts, due_day};
 use entries::entry::is_held;
@@ -44,39 +44,52 @@ fn unmapped_or_held(book: &[u8], p: PBN) -> bool
     is_held(book, p)
 }
 
-fn take_record(book: &[u8], notes: &mut Notes, t: Taking, q: u16) -> bool
+fn take_record(book: &[u8], tables: &mut Tables, stamps: &mut Stamps, t: Taking, q: u16) -> bool
     requires form_facts { FormFacts book.now }
     requires volume_lt_volumes { (t.volume < volumes) × (q < length (told book).records) }
-    ensures { TakesRecord book (lent notes) t q result }
+    ensures { TakesRecord book (lent tables) (lent stamps) t q result }
 {
     let change = record_at(book, q);
-    let same = replace(&mut notes.cells, t.volume, change);
-    raise(&mut notes.expiries, change.before, t.until);
-    let met = meet(&mut notes.stamps, change.lbn, t.stamp);
+    let same = replace(&mut tables.cells, t.volume, change);
+    raise(&mut tables.expiries, change.before, t.until);
+    let met = meet(stamps, change.lbn, t.stamp);
     let held = unmapped_or_held(book, change.before);
     same & (t.past | met | held)
 }
 
 // The records of one backup, from one up to another.
-fn take_records(book: &[u8], notes: &mut Notes, t: Taking, from: u16, end: u16) -> bool
+fn take_records(
+    book: &[u8],
+    tables: &mut Tables,
+    stamps: &mut Stamps,
+    t: Taking,
+    from: u16,
+    end: u16,
+) -> bool
     requires form_facts { FormFacts book.now }
     requires volume_lt_volumes { (t.volume < volumes) × (from ≤ end) × (end ≤ length (told book).records) }
-    ensures { TakesRecords book (lent notes) t from end result }
+    ensures { TakesRecords book (lent tables) (lent stamps) t from end result }
 {
     let mut good = true;
     for q in from..end {
-        let taken = take_record(book, notes, t, q);
+        let taken = take_record(book, tables, stamps, t, q);
         good = good & taken;
     }
     good
 }
 
 // The backup of slot q, whose stamp is q + 1.
-fn take_slot(book: &[u8], notes: &mut Notes, lasts: &mut Lasts, q: u16) -> bool
+fn take_slot(
+    book: &[u8],
+    tables: &mut Tables,
+    stamps: &mut Stamps,
+    lasts: &mut Lasts,
+    q: u16,
+) -> bool
     requires form_facts { FormFacts book.now }
     requires q_in_bounds { (q < length (told book).slots) × LastsAre (told book) q lasts.old }
-    requires stamps_low { (l : ℕ) → get_or notes.old.stamps l 0 ≤ q }
-    ensures takes_slot { TakesSlot book (lent notes) q result }
+    requires stamps_low { (l : ℕ) → get_or stamps.old l 0 ≤ q }
+    ensures takes_slot { TakesSlot book (lent tables) (lent stamps) q result }
     ensures lasts_are { LastsAre (told book.entry) (q + 1) lasts.new }
 {
     let slot = slot_at(book, q);
@@ -91,20 +104,20 @@ fn take_slot(book: &[u8], notes: &mut Notes, lasts: &mut Lasts, q: u16) -> bool
         past,
         stamp,
     };
-    take_records(book, notes, t, slot.first, end)
+    take_records(book, tables, stamps, t, slot.first, end)
 }
 
-// The whole journal, replayed in the cells and gathered in the expiries. The stamps start at 0, whatever was there.
-pub fn take_journal(book: &[u8], notes: &mut Notes) -> bool
+// The whole journal, replayed in the cells and gathered in the expiries.
+pub fn take_journal(book: &[u8], tables: &mut Tables) -> bool
     requires { FormFacts book.now }
-    ensures { TakesJournal book (lent notes) result }
+    ensures { TakesJournal book (lent tables) result }
 {
-    notes.stamps = [0u16; MAX_LBNS];
+    let mut stamps = [0u16; MAX_LBNS];
     let mut lasts = [0u16; VOLUMES];
     let used = used_slots(book);
     let mut good = true;
     for q in 0..used {
-        let taken = take_slot(book, notes, &mut lasts, q);
+        let taken = take_slot(book, tables, &mut stamps, &mut lasts, q);
         good = good & taken;
     }
     good
