@@ -38,10 +38,10 @@ use Rattle.answers.proofs.Blocks.{placed_readable, placed_offset, placed_inside,
 use Rattle.answers.proofs.AnswersLaid.{answered-block, lent_length}
 
 -- a buffer before and after a call
-abbrev was : Lent (List ℕ) → List ℕ
+abbrev pub was : Lent (List ℕ) → List ℕ
 was b = b.entry.now
 
-abbrev is : Lent (List ℕ) → List ℕ
+abbrev pub is : Lent (List ℕ) → List ℕ
 is b = b.exit.now
 
 -- the step that was made, and the answer that was stored

@@ -2,3 +2,4 @@ pub mod Blocks
 pub mod AnswersLaid
 pub mod Doing
 pub mod Restoring
+pub mod Exported

@@ -6,7 +6,7 @@ use mathlib.Core.List.{List, map}
 use native.Mathlib.Numerals.{add-one}
 use native.Mathlib.Omega.{arith}
 use lib.ListN.{length, take}
-use lib.Seq.{set-get_or}
+use lib.Seq.{take-length, set-get_or}
 use Rattle.words.specs.Lists.{bit}
 use Rattle.words.specs.Lists.{count_of}
 use Rattle.book.specs.Book.{Entry, Book, free_entry, entry_at}
@@ -88,5 +88,8 @@ module _ {b₀ : List ℕ} (t : ℕ) (h : Holds b₀) where
           count = f ∙ rw (same, s.count, add-one p) (sym (count-more (is_over t) (book_of b₀).entries p free_entry k));
         }
 
-    pub sweeping_end : p ≡ (book_of b₀).sizes.n → Is b (with_entries (map (swept_entry t) (book_of b₀).entries) (book_of b₀))
-    sweeping_end e = let q : p ≡ length (book_of b₀).entries = e ∙ sym h.sized.entries in rw (q, swept-end (book_of b₀) t) at s.book
+    pub sweeping_end : p ≡ (book_of b₀).sizes.n
+        → (freed ≡ count_of (is_over t) (book_of b₀).entries) × Is b (with_entries (map (swept_entry t) (book_of b₀).entries) (book_of b₀))
+    sweeping_end e =
+        let q : p ≡ length (book_of b₀).entries = e ∙ sym h.sized.entries in
+        (rw (q, take-length) at s.count, rw (q, swept-end (book_of b₀) t) at s.book)

@@ -1,3 +1,4 @@
 pub mod StoringLaws
 pub mod CloseLaws
 pub mod BackupLaws
+pub mod Exported

@@ -1,2 +1,3 @@
 pub mod Told
 pub mod FreshList
+pub mod FreshLent

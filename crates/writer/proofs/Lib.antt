@@ -1,3 +1,4 @@
 pub mod Writing
 pub mod Whole
 pub mod Lengths
+pub mod Recovering

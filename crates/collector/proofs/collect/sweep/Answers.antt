@@ -21,5 +21,7 @@ loop-p-preserved c =
     sweeping_more _ c.requires c.loop-p.invariant (omega arith) c.free_over.ensures.value
     c.free_over.ensures.is counted
 
-pub returns-clause-is : goal.returns-clause-is
-returns-clause-is c = sweeping_end _ c.requires c.loop-p.invariant (omega arith)
+pub returns : goal.returns
+returns c =
+    let h = sweeping_end _ c.requires c.loop-p.invariant (omega arith) in
+    record { value = h.0; is = h.1 }
