@@ -11,12 +11,13 @@ use lib.Seq.{drop-cons}
 use borrow.Author.Tests.{lt-ltb}
 use Rattle.std.specs.Prelude.{Result, Ok, Err}
 use Rattle.words.proofs.Accepted.{unless-accepted}
+use Rattle.words.proofs.Refused.{number-not_zero}
 use Rattle.words.specs.Blocks.{unmapped}
 use Rattle.words.proofs.ChoiceLaws.{or_l}
 use Rattle.words.specs.Lent.{Lent}
 use Rattle.words.specs.Lists.{all}
 use Rattle.words.specs.Outcome.{refused, accepted}
-use Rattle.words.specs.Refusals.{number}
+use Rattle.words.specs.Refusals.{number, refusal_number}
 use Rattle.words.specs.declared.refusals.Refusal.{Refusal}
 use Rattle.words.proofs.Places.{all_get_d, all_set}
 use Rattle.words.specs.declared.PBN.{PBN}
@@ -179,10 +180,11 @@ module _ (book pool work : Lent (List ℕ)) (list : List ℕ) (taker : Lent (Lis
   module _ (i : ℕ) (w : Work)
       (l : run_changes v until (changes list) (work_from book pool work list taker no_tally)
       ≡ run_changes v until (drop i (changes list)) w) where
-    pub run-refused : (e : Refusal) → i < change_count list
-        → change_step v until (change_at list i) w ≡ refused (number e) → RanBy book pool work list taker v until (Err e)
+    pub run-refused : (r : Result Tally Refusal) (e : Refusal) → i < change_count list → refusal_number r ≡ number e
+        → change_step v until (change_at list i) w ≡ refused (number e) → RanBy book pool work list taker v until r
     unfolding RanBy
-    run-refused e h s = l ∙ run-stop v until list i w (number e) h s
+    run-refused (Ok t) e h f s = absurd (number-not_zero e (sym f))
+    run-refused (Err d) e h f s = rw f (l ∙ run-stop v until list i w (number e) h s)
 
     pub run-done : (t : Tally) → w ≡ work_to book pool work list taker t → i ≡ change_count list → Holds work.exit.now
         → Standing (told book.entry) (told work.exit) taker.exit.now t i i → RanBy book pool work list taker v until (Ok t)

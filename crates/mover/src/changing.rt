@@ -67,9 +67,13 @@ pub fn run_changes(
     let mut at = list.start();
     for i in 0..list.shape.changes {
         let lbn = list.lbn_at(at);
-        t = change(
+        let step = change(
             book, pool, work, list, taker, &mut index, v, until, i as usize, lbn, t,
-        )?;
+        );
+        let Ok(next) = step else {
+            return step;
+        };
+        t = next;
         at = list.next(at);
     }
     Ok(t)

@@ -4,9 +4,10 @@ use mathlib.Core.Path.{◌≡◌, sym, ap, subst, ◌∙◌}
 use mathlib.Core.List.{List}
 use lib.ListN.{length}
 use Rattle.std.specs.Prelude.{true, ⊤, Result, Ok, Err, is_ok}
+use Rattle.words.proofs.Refused.{number-not_zero}
 use Rattle.words.specs.Lent.{Lent}
 use Rattle.words.specs.Outcome.{Outcome, refused, accepted, and_then}
-use Rattle.words.specs.Refusals.{number}
+use Rattle.words.specs.Refusals.{number, refusal_number}
 use Rattle.words.specs.declared.refusals.Refusal.{Refusal}
 use Rattle.book.specs.Book.{Book}
 use Rattle.book.specs.Layout.{told, book_of, Is}
@@ -53,9 +54,11 @@ module _ (book spare : Lent (List ℕ)) (v t : ℕ) where
         ∙ ap (λ (o : Outcome Book). and_then o (λ (y : Book). accepted (retired_bytes (retired x v t y))))
         (ap (λ (u : ℕ). clear_all v u x) (sym ready.until) ∙ e)
 
-    pub stopped_by : (e : Refusal) → book.exit.now ≡ book.entry.now → clear_all v plan.until (told book.entry) ≡ refused (number e)
-        → Retires book spare v t (Err e)
-    stopped_by e same f = refused-by e same (comes_to (refused (number e)) f)
+    pub stopped_by : (r : Result ℕ Refusal) (e : Refusal) → refusal_number r ≡ number e → book.exit.now ≡ book.entry.now
+        → clear_all v plan.until (told book.entry) ≡ refused (number e)
+        → Retires book spare v t r
+    stopped_by (Ok n) e h same f = absurd (number-not_zero e (sym h))
+    stopped_by (Err d) e h same f = refused-by d same (rw h (comes_to (refused (number e)) f))
 
     pub retired-by : (y : Book) (b' : List ℕ) → clear_all v plan.until (told book.entry) ≡ accepted y
         → Is b' (closed_book v t (length (told book.entry).records) plan.cells y)

@@ -40,7 +40,9 @@ pub fn retire(book: &mut [u8], spare: &mut [u8], volume: u16, day: u16) -> Resul
     let len = book.len();
     let work = &mut spare[..len];
     put_bytes(work, 0, book);
-    work_through(work, volume, day, plan.until, plan.cells)?;
+    if let Err(refusal) = work_through(work, volume, day, plan.until, plan.cells) {
+        return Err(refusal);
+    }
     put_bytes(book, 0, work);
     Ok(plan.cells)
 }

@@ -1,6 +1,6 @@
 -- What the writer promises, as C gets it: a number, and the length where the number is 0.
 use Prim.Native.Nat.{ℕ}
-use mathlib.Core.Path.{◌≡◌, sym, ◌∙◌}
+use mathlib.Core.Path.{◌≡◌, refl, sym, ◌∙◌}
 use mathlib.Core.List.{List}
 use native.Mathlib.Omega.{arith}
 use borrow.Author.Tests.{ne_eqb}
@@ -15,6 +15,11 @@ use Rattle.runs.proofs.Marked.{input_facts}
 use Rattle.runs.proofs.RoomLaws.{list-bounded}
 use Rattle.runs.proofs.RoundTripLaws.{input_written}
 use Rattle.writer.specs.Promises.{Writes}
+
+-- a refusal leaves the answer; the search for the way out by `Err` has it from the function's `tactic`
+pub unanswered : (e : Refusal) (list : List ℕ) (answer : ℕ) → answer_after (number e) list answer ≡ answer
+unfolding answer_after
+unanswered e list answer = rw (ne_eqb _ _ (number-not_zero e)) refl
 
 module _ (L : ℕ) (marks prints image out : Lent (List ℕ)) where
   pub length-fits : {n : ℕ} → Writes L marks prints image out (Ok n) → Fits w32 n
@@ -31,5 +36,4 @@ module _ (L : ℕ) (marks prints image out : Lent (List ℕ)) where
     pub unwritten : {e : Refusal} {r : ℕ} → Writes L marks prints image out (Err e) → r ≡ number e
         → answer.exit.now ≡ answer.entry.now
         → Wrote L marks prints image out answer r
-    unfolding answer_after
-    unwritten {e} w h a = rw h record { number = w.number; answered = rw (ne_eqb _ _ (number-not_zero e)) a; output = w.output }
+    unwritten {e} w h a = rw h record { number = w.number; answered = a ∙ sym (unanswered e _ _); output = w.output }

@@ -6,6 +6,7 @@ ghost use Rattle.runs.specs.Writer.{Wrote};
 ghost use Rattle.words.specs.Lent.{lent};
 
 // Writes the list of the marked blocks and answers its length in bytes.
+#[tactic(auto, using(crate::proofs::WriteExits::unanswered))]
 #[unsafe(no_mangle)]
 pub extern "C" fn aspen_write_list(
     l: u16,

@@ -3,7 +3,7 @@ use mathlib.Core.Path.{◌≡◌, refl, sym, ap, ◌∙◌}
 use native.Mathlib.Omega.{arith}
 use lib.ListN.{length}
 use lib.Seq.{length-take-le}
-use Rattle.std.proofs.Common.{Err, is_ok, true}
+use Rattle.std.proofs.Common.{is_ok, true}
 use Rattle.std.proofs.lemmas.Result.{err_from_is_err_and}
 use Rattle.words.proofs.SectionLaws.{sets-whole}
 use Rattle.retirer.specs.Allowing.{AllowedBy}
@@ -46,18 +46,15 @@ work_through-requires c =
     let r = ready in
     rw copied (record { holds = r.formed.holds; v_lt_volumes = (r.volume, r.slot); work_value = r.formed.parts.maps; v_len_bound = r.room })
 
-pub returns-in_err-work_through : goal.returns-in_err-work_through
+pub returns-in-Err : goal.returns-in-Err
 unfolding AllowedBy
-returns-in_err-work_through c =
+returns-in-Err c =
     let ready = c.in_ok-plan.ensures in
     let copied : c.put_bytes.new.b ≡ c.args.book.now =
     c.put_bytes.ensures
     ∙ sets-whole c.args.book.now _ (sym (length-take-le _ _ ready.spared))
     in
-    let stopped : c.work_through.result ≡ Err c.in_err-work_through.field-0.0 = grind arith in
-    let p = err_from_is_err_and c.from_residual-in_err-work_through.result c.from_residual-in_err-work_through.ensures.1 in
-    rw (p.1, p.2)
-    (stopped_by _ _ _ _ _ ready _ refl (work-stopped _ _ _ _ _ _ copied _ stopped c.work_through.ensures))
+    stopped_by _ _ _ _ _ ready _ _ (omega arith) refl (work-stopped _ _ _ _ _ _ copied _ c.in-Err.is c.work_through.ensures)
 
 pub returns : goal.returns
 unfolding AllowedBy
