@@ -45,7 +45,7 @@ struct Answers {
     refused: [u32; NUMBERS],
 }
 
-#[derive(Drop)]
+#[derive(Clone, Copy)]
 pub struct Counts {
     answers: [Answers; KINDS.len()],
     pub taken: u32,
