@@ -1,4 +1,4 @@
--- `form::in_form::form_as` meets its contract: each way out decides the sections' tests, which are those defined.
+-- `form::in_form::check_as` meets its contract: each way out decides the sections' tests, which are those defined.
 use mathlib.Core.Path.{ap, ◌≡◌, sym}
 use mathlib.Core.Bool.{not, true}
 use Rattle.words.proofs.ChoiceLaws.{failed, passed}
